@@ -65,6 +65,17 @@ is_answered() {
   finish $!
 }
 
+# is_told NAME REPLY WHY: why a single call ends where a server answers its HELLO so
+is_told() {
+  runs=$((runs + 1))
+  path=$dir/$runs.sock
+  apart "${sender[@]}" answer "$path" "$2" </dev/null &
+  until_true test -S "$path"
+  sleep "$step"
+  tells "$1" "keyretain: $path: $3" --socket "$path" id @u </dev/null
+  finish $!
+}
+
 # A server that answers with other bytes than a reply, in version 1, or with another tag, or ends before the reply does.
 try_bad_servers() {
   local bad
@@ -75,13 +86,8 @@ try_bad_servers() {
     '0c000000 16000000 0000000000000000' '0c000000 16000000 0100000001000000'; do
     is_answered 'a reply' 3 $'error: connection\n' "$bad"
   done
-  runs=$((runs + 1))
-  path=$dir/$runs.sock
-  apart "${sender[@]}" answer "$path" '' </dev/null &
-  until_true test -S "$path"
-  sleep "$step"
-  tells 'a server that ends before it replies' \
-    "keyretain: $path: the connection failed, or gave no reply; or standard output cannot be written" \
-    --socket "$path" id @u </dev/null
-  finish $!
+  is_told 'a server that ends before it replies' '' \
+    'the connection failed, or gave no reply; or standard output cannot be written'
+  is_told 'a guard that has no place' 0c0000007a0000000100000000000000 \
+    'keyretain-guard has no place left for this user: end other clients, or raise --per-uid'
 }

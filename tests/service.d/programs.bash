@@ -29,33 +29,110 @@ try_script() {
   is 'script: --help' 0 "$("$keyretain" --help >/dev/null 2>&1; echo $?)"
 }
 
-# Why a program ended, on standard error: what is quoted there is cut, and does no harm to a terminal.
-try_causes() {
+# two FIRST NEXT: two lines that keyretain tells
+two() { printf 'keyretain: %s\nkeyretain: %s' "$1" "$2"; }
+
+key='a serial in decimal, or @t, @p, @s, @u or @us'
+frame='it fits no frame, which has 65536 bytes at most; a payload has 32767 at most'
+
+# Why there is no connection, and what to do.
+try_no_connection() {
   local long
   long=$(printf '%0100d' 0)
-  tells 'no such path' "keyretain: /nonexistent/socket: No such file or directory (os error 2)" \
+  tells 'no such path' "$(two '/nonexistent/socket: No such file or directory (os error 2)' \
+    'start a daemon: systemctl --user start keyretaind, or keyretaind --socket PATH')" \
     --socket /nonexistent/socket print 5 </dev/null
-  tells 'no such path of a script' "keyretain: /nonexistent/socket: No such file or directory (os error 2)" \
+  tells 'no such path of a script' "$(two '/nonexistent/socket: No such file or directory (os error 2)' \
+    'start a daemon: systemctl --user start keyretaind, or keyretaind --socket PATH')" \
     --socket /nonexistent/socket script </dev/null
   start --accept 0
   is_served 'for a path that is left' 0
   python3 -c 'import socket, sys; socket.socket(socket.AF_UNIX).bind(sys.argv[1])' "$dir/left" 2>/dev/null &&
-    tells 'nobody listens' "keyretain: $dir/left: Connection refused (os error 111)" --socket "$dir/left" print 5 </dev/null
-  tells 'a path that is cut' "keyretain: /${long:0:63}...: path must be shorter than SUN_LEN" \
-    --socket "/$long$long" print 5 </dev/null
-  tells 'a call that is no command' 'keyretain: no such command: frobnicate' --socket "$path" frobnicate 5 </dev/null
-  tells 'a call of no word' 'keyretain: see keyretain --help' --socket "$path" </dev/null
-  tells 'a call without its words' 'keyretain: not as it is used, see keyretain --help: print' \
-    --socket "$path" print </dev/null
-  tells 'a line that is no command' 'keyretain: line 2: no such command: \x1b[31mh\xe9' script \
-    < <(printf 'hello 1 1\n\033[31mh\351 5\n')
-  tells 'a long line that is no command' "keyretain: line 1: no such command: ${long:0:64}..." script <<<"$long$long"
+    tells 'nobody listens' "$(two "$dir/left: Connection refused (os error 111)" \
+      'its daemon has ended: remove the path, and start one: keyretaind --socket PATH')" \
+      --socket "$dir/left" print 5 </dev/null
+  tells 'a path that is cut' "$(two "/${long:0:63}...: path must be shorter than SUN_LEN" \
+    'a path has 107 bytes at most')" --socket "/$long$long" print 5 </dev/null
+}
+
+# Words that are no command: which is wrong, and how the command is used. What is quoted is cut, and does no harm to a
+# terminal; of a command that has a payload no other word is.
+try_causes() {
+  local long
+  long=$(printf '%0100d' 0)
+  tells 'no word' 'keyretain: there is no command: see keyretain --help' </dev/null
+  tells 'a call of no word' 'keyretain: there is no command: see keyretain --help' --socket "$path" </dev/null
+  tells 'a call of no path' \
+    'keyretain: --socket PATH is missing: where a daemon listens, which a single command is for' print 5 </dev/null
+  tells 'a script of a uid' \
+    'keyretain: --uid and --gid are for a single command: a script names its caller by hello' --uid 0 script </dev/null
+  tells 'a word that is no text' \
+    "keyretain: an argument isn't UTF-8: hex: and digits spell any bytes of a payload" \
+    --socket "$path" add user a $'\xe9' @u </dev/null
+  tells 'a call that is no command' "$(two 'no such command: frobnicate' 'keyretain --help lists the commands')" \
+    --socket "$path" frobnicate 5 </dev/null
+  tells 'a call without its words' 'keyretain: not as it is used: add TYPE DESC DATA RING' \
+    --socket "$path" add user </dev/null
+  tells 'a call of a line' "$(two 'no command here: context' 'it is for scripts: keyretain --socket PATH script')" \
+    --socket "$path" context 1 </dev/null
+  for word in 0x5 -3 @x %user:token; do
+    tells "no key: $word" "$(two 'not as it is used: print KEY' "$word is none: KEY is $key")" \
+      --socket "$path" print "$word" </dev/null
+  done
+  tells 'no number' "$(two 'not as it is used: timeout KEY SECONDS' 'never is none: SECONDS is a decimal number')" \
+    --socket "$path" timeout @u never </dev/null
+  tells 'no mask' "$(two 'not as it is used: setperm KEY MASK' \
+    '0x3f3f3f3f is none: MASK is 1 to 8 hexadecimal digits, without 0x')" --socket "$path" setperm @u 0x3f3f3f3f </dev/null
+  tells 'no entry' "$(two 'not as it is used: filter QUEUE ENTRY ..' \
+    '1:0:0 is none: ENTRY is four hexadecimal numbers with colons between')" --socket "$path" filter 1 1:0:0:2 1:0:0 </dev/null
+  tells 'no payload' "$(two 'not as it is used: add TYPE DESC DATA RING' \
+    'DATA is pairs of hexadecimal digits behind hex:')" --socket "$path" add user t hex:6 @u </dev/null
+  tells 'a payload in place of a keyring' "$(two 'not as it is used: add TYPE DESC DATA RING' "RING is $key")" \
+    --socket "$path" add user t @u secret </dev/null
+  tells 'a line that is no command' "$(two 'line 2: no such command: \x1b[31mh\xe9' 'keyretain --help lists the commands')" \
+    script < <(printf 'hello 1 1\n\033[31mh\351 5\n')
+  tells 'a long line that is no command' "$(two "line 1: no such command: ${long:0:64}..." \
+    'keyretain --help lists the commands')" script <<<"$long$long"
+  tells 'a line that ends as on other systems' "$(two 'line 1: not as it is used: hello UID GID [GROUP ..]' \
+    '1000\r is none: GID is a decimal number')" script <<<$'hello 1000 1000\r'
   tells 'a script that ends well' '' script <<<'hello 1 1'
+}
+
+# What is told of a connection that was made.
+try_told_answers() {
   start
-  tells 'a remote line that is no command' 'keyretain: line 2: no such command: frobnicate' --socket "$path" script \
-    < <(printf '%s\n' 'hello 1 1' 'frobnicate 5')
+  tells 'a remote line that is no command' "$(two 'line 2: no such command: frobnicate' \
+    'keyretain --help lists the commands')" --socket "$path" script < <(printf '%s\n' 'hello 1 1' 'frobnicate 5')
+  tells 'a remote line that fits no frame' "$(two 'line 2: no command here: add' "$frame")" --socket "$path" script \
+    < <(printf '%s\n' 'hello 1 1' "add user a $(printf '%070000d' 0) @u")
+  tells 'a moment of the daemon' "$(two 'line 1: no command here: moment' "over a socket the daemon's own clock counts")" \
+    --socket "$path" script <<<'moment 5'
   tells 'a remote script that ends well' '' --socket "$path" script <<<'hello 1 1'
+  tells 'a call that fits no frame' "keyretain: $frame" --socket "$path" add user a "$(printf '%070000d' 0)" @u </dev/null
+  tells 'a long payload' 'keyretain: a payload has 1 to 32767 bytes' \
+    --socket "$path" --uid 1 add user a "$(printf '%040000d' 0)" @u </dev/null
+  tells 'a type that there is none of' 'keyretain: the types are user, logon and keyring' \
+    --socket "$path" --uid 1 add users a a @u </dev/null
+  tells 'a logon key without a prefix' 'keyretain: the description of a logon key is PREFIX:NAME' \
+    --socket "$path" --uid 1 add logon a a @u </dev/null
+  tells 'a queue of a call' 'keyretain: a queue ends with its connection: open it and use it in one script' \
+    --socket "$path" --uid 1 watch @u 1 0 </dev/null
+  tells 'a refusal as uid 0' \
+    "keyretain: it was asked as uid 0; --uid and --gid name another caller, and keyretain-guard takes one's own alone" \
+    --socket "$path" print 99 </dev/null
+  tells 'a refusal' '' --socket "$path" --uid 1 print 99 </dev/null
+  tells 'a key that a call adds' '' --socket "$path" add user a a @u </dev/null
+  tells 'an accepted call' '' --socket "$path" id @u </dev/null
   kill_daemon TERM
+}
+
+# Standard input, output and error that are closed: no socket gets their numbers.
+try_closed() {
+  start --accept 3
+  is 'no standard input' 0 "$(timeout "$patience" "$keyretain" --socket "$path" script <&- >/dev/null 2>&1; echo $?)"
+  is 'no standard output' 3 "$(timeout "$patience" "$keyretain" --socket "$path" id @u >&- 2>/dev/null; echo $?)"
+  is 'none of the three' 3 "$(timeout "$patience" "$keyretain" --socket "$path" id @u <&- >&- 2>&-; echo $?)"
+  is_served 'closed descriptors' 3
 }
 
 # lists_many: a script that makes a keyring whose listing is a reply of more than 64 KiB, and prints how many it lists.

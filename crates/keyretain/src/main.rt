@@ -1,18 +1,23 @@
 //! A client of a key store.
 #![tactic(auto)]
 
+mod standard;
+
 use krs_ctl::Voice;
+use standard::taken;
 use std::env;
 use std::process::ExitCode;
 
 fn main(rt: HostRuntime) -> ExitCode {
-    let words = env::args(&rt);
-    ExitCode::from(krs_ctl::run_program(
+    let held = (taken(&rt), taken(&rt), taken(&rt));
+    let status = krs_ctl::run_program(
         &rt,
         rt.alloc(),
-        words,
+        env::args(&rt),
         rt.reader(),
         &mut rt.stdout(),
         &mut Voice::new(rt.stderr()),
-    ))
+    );
+    drop(held);
+    ExitCode::from(status)
 }

@@ -10,8 +10,10 @@ mod keys;
 mod laws;
 mod queues;
 mod table;
+mod usage;
 mod words;
 
 pub use command::{Command, parse};
 pub use laws::each_command_has_its_word;
+pub use usage::{Misfit, first_misfit, usage_of};
 pub use words::is_command;

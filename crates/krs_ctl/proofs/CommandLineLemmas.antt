@@ -35,7 +35,7 @@ pub leads_by_fault : (faults : Kinds) (error : Error) (choice : Choice) → HasK
 leads_by_fault faults error Script has told words same = absurd told
 leads_by_fault faults error (Remote path) has told words same = absurd told
 leads_by_fault faults error (Call call) has told words same = absurd told
-leads_by_fault faults error Usage has told words same = absurd told
+leads_by_fault faults error (Usage why) has told words same = absurd told
 leads_by_fault faults error (NoCommand text) has told words same = absurd told
 leads_by_fault faults error Memory has told words same = tt
 leads_by_fault faults error (Shown text) has told words same = elim has [
@@ -59,7 +59,7 @@ pub leads_of_spelled : (words : List (List ℕ)) (choice : Choice) → Spells wo
 leads_of_spelled words Script spelled none = (spelled, none)
 leads_of_spelled words (Remote path) spelled none = (spelled, none)
 leads_of_spelled words (Call call) spelled none = (spelled, none)
-leads_of_spelled words Usage spelled none = (spelled, none)
+leads_of_spelled words (Usage why) spelled none = (spelled, none)
 leads_of_spelled words (NoCommand text) spelled none = (spelled, none)
 leads_of_spelled words Memory spelled none = tt
 leads_of_spelled words (Shown text) spelled none = absurd (spelled.2.1 spelled.2.0)
@@ -79,7 +79,7 @@ call_chooses_one found Script path caller given names some calls = absurd calls
 call_chooses_one found (Remote other) path caller given names some calls = absurd calls
 call_chooses_one found (Call call) path caller given names some calls =
     (given ∙ ap Some (sym calls.0), subst (Names found) (sym calls.1) names, some, calls.2)
-call_chooses_one found Usage path caller given names some calls = absurd calls
+call_chooses_one found (Usage why) path caller given names some calls = absurd calls
 call_chooses_one found (NoCommand text) path caller given names some calls =
     ((λ none. none-some path (sym none ∙ given)), some, calls)
 call_chooses_one found Memory path caller given names some calls = tt

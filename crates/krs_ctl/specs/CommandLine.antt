@@ -15,6 +15,7 @@ use Rattle.clap.specs.declared.builder.value_parser.ValueParser.TheVariants as p
 use Rattle.krs_types.specs.declared.caller.Caller.{Caller}
 use Rattle.krs_remote.specs.Call.{call_of}
 use Rattle.krs_ctl.specs.declared.choice.Choice.{Choice}
+use Rattle.krs_ctl.specs.declared.choice.Misuse.TheVariants.{NoWords, NoSocket, CallerOfScript}
 use Rattle.krs_ctl.specs.declared.choice.Choice.TheVariants.{Script, Remote, Call, Usage, NoCommand, Memory, Shown, Refused}
 
 -- `--socket PATH`; `--uid N` and `--gid N`, of 32 bits; and all words from the command on, whatever they begin with
@@ -76,7 +77,7 @@ abbrev pub Runs : Found → Choice → Type 0
 Runs found Script = NameNone found × (first_value found (codes "socket") ≡ None)
 Runs found (Remote path) = NameNone found × (first_value found (codes "socket") ≡ Some (string_bytes path))
 Runs found (Call call) = ⊥
-Runs found Usage = ¬ NameNone found
+Runs found (Usage why) = ¬ NameNone found × (why ≡ CallerOfScript)
 Runs found (NoCommand text) = ⊥
 Runs found Memory = ⊤
 Runs found (Shown text) = ⊥
@@ -88,7 +89,7 @@ CallsOver path caller words Script = ⊥
 CallsOver path caller words (Remote other) = ⊥
 CallsOver path caller words (Call call) =
     (string_bytes call.path ≡ path) × (call.caller ≡ caller) × (call_of words ≡ Some call.command)
-CallsOver path caller words Usage = ⊥
+CallsOver path caller words (Usage why) = ⊥
 CallsOver path caller words (NoCommand text) = call_of words ≡ None
 CallsOver path caller words Memory = ⊤
 CallsOver path caller words (Shown text) = ⊥
@@ -102,7 +103,8 @@ Calls found (Remote path) = ⊥
 Calls found (Call call) =
     (first_value found (codes "socket") ≡ Some (string_bytes call.path)) × Names found call.caller
     × (command_in found ≢ []) × (call_of (command_in found) ≡ Some call.command)
-Calls found Usage = (command_in found ≡ []) ⊎ (first_value found (codes "socket") ≡ None)
+Calls found (Usage why) =
+    ((command_in found ≡ []) × (why ≡ NoWords)) ⊎ ((first_value found (codes "socket") ≡ None) × (why ≡ NoSocket))
 Calls found (NoCommand text) =
     (first_value found (codes "socket") ≢ None) × (command_in found ≢ []) × (call_of (command_in found) ≡ None)
 Calls found Memory = ⊤
@@ -124,7 +126,7 @@ abbrev pub LeadsTo : List (List ℕ) → Choice → Type 0
 LeadsTo words Script = Spells words Script × (fault_of client words ≡ [])
 LeadsTo words (Remote path) = Spells words (Remote path) × (fault_of client words ≡ [])
 LeadsTo words (Call call) = Spells words (Call call) × (fault_of client words ≡ [])
-LeadsTo words Usage = Spells words Usage × (fault_of client words ≡ [])
+LeadsTo words (Usage why) = Spells words (Usage why) × (fault_of client words ≡ [])
 LeadsTo words (NoCommand text) = Spells words (NoCommand text) × (fault_of client words ≡ [])
 LeadsTo words Memory = ⊤
 LeadsTo words (Shown text) =

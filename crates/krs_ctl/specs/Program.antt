@@ -1,5 +1,5 @@
 -- What the program does: keyretain(1), "DESCRIPTION" and "EXIT STATUS".
-use Rattle.std.specs.Prelude.{ℕ, ◌≡◌, ◌≢◌, ◌⊎◌, List, Option, codes, string_bytes}
+use Rattle.std.specs.Prelude.{ℕ, ◌≡◌, ◌⊎◌, List, Option, codes, string_bytes}
 use Rattle.krs_model.specs.State.{starting_at}
 use Rattle.krs_words.specs.Saying.{Heard, Says as Tells}
 use Rattle.krs_script.specs.Ending.{Says}
@@ -10,7 +10,8 @@ use Rattle.krs_ctl.specs.declared.choice.Choice.{Choice}
 use Rattle.krs_ctl.specs.declared.choice.Choice.TheVariants.{Script, Remote, Call, Usage, NoCommand, Memory, Shown, Refused}
 use Rattle.krs_ctl.specs.declared.script.ScriptEnd.{ScriptEnd}
 use Rattle.krs_ctl.specs.Running.{EndsScript}
-use Rattle.krs_ctl.specs.Telling.{TellsOf, TellsScript, TellsOver}
+use Rattle.krs_ctl.specs.Choice.{misuse_text}
+use Rattle.krs_ctl.specs.Telling.{TellsCall, TellsScript, TellsOver}
 
 -- there is no connection, or no memory to make one
 abbrev pub SaysUnconnected : Option (List ℕ) → Option (List ℕ) → ℕ → Type 0
@@ -33,9 +34,9 @@ CallsAt call old new status =
 
 -- What is printed, and the status. A script runs on a new store, or over a connection; of one that stopped a line is
 -- told on standard error, and of one with status 0, which came to its end with nothing refused, nothing; of a single
--- call a line where its status is 3, and nothing else. What is refused of the words is told there, and nothing is
--- printed; of words that are none, where help is to be had, and of those that are no command, some text. Every other
--- choice says one text on standard output, and nothing on standard error. What is told stands there whole, or standard
+-- call what its status wants. What is refused of the words is told there, and nothing is printed; of words that are none
+-- why, and of those that are no command, some text. Every other choice says one text on standard output, and nothing on
+-- standard error. What is told stands there whole, or standard
 -- error has failed, or there was no memory for it.
 abbrev pub Answers : Choice → Option (List ℕ) → Option (List ℕ) → Option (List ℕ) → Heard → Heard → ℕ → Type 0
 Answers Script input old new old_errors new_errors status =
@@ -45,11 +46,9 @@ Answers (Remote path) input old new old_errors new_errors status =
     RunsAt input old new status × TellsOver (string_bytes path) status old_errors new_errors
     × (status ≡ 0 → new_errors ≡ old_errors)
 Answers (Call call) input old new old_errors new_errors status =
-    CallsAt call old new status × (status ≡ 3 → TellsOf (string_bytes call.path) old_errors new_errors)
-    × (status ≢ 3 → new_errors ≡ old_errors)
-Answers Usage input old new old_errors new_errors status =
-    Says old new (codes "usage\n") 2 status
-    × Tells old_errors new_errors (codes "keyretain: see keyretain --help\n")
+    CallsAt call old new status × TellsCall call status old_errors new_errors
+Answers (Usage why) input old new old_errors new_errors status =
+    Says old new (codes "usage\n") 2 status × Tells old_errors new_errors (misuse_text why)
 Answers (NoCommand text) input old new old_errors new_errors status =
     Says old new (codes "usage\n") 2 status × Tells old_errors new_errors text.items
 Answers Memory input old new old_errors new_errors status =

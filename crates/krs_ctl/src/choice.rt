@@ -33,6 +33,9 @@ const USES: &str = "keyretain script
        keyretain --socket PATH script
        keyretain --socket PATH [--uid N] [--gid N] COMMAND ..";
 
+const NUMBERS: &str =
+    "keyretain: options stand before the command; --uid and --gid take a number, as id -u and id -g print it\n";
+
 const WORDS_HELP: &str =
     "script: runs the lines of standard input, one command each, on a store of their own or over the socket; or, over \
 the socket, a single command";
@@ -74,7 +77,7 @@ pub enum Choice {
     /// One command is carried out over a connection.
     Call(Call),
     /// The words are none that the program takes.
-    Usage,
+    Usage(Misuse),
     /// The words of a single call are no command, with what is told of them.
     NoCommand(Vec<u8>),
     /// There was no memory for the words.
@@ -83,6 +86,19 @@ pub enum Choice {
     Shown(String),
     /// What is refused of the words, as the reader of options tells it.
     Refused(String),
+}
+
+/// Why words are none that the program takes.
+#[derive(Clone, Copy, Debug, PartialEq, Eq)]
+pub enum Misuse {
+    /// There is no command.
+    NoWords,
+    /// There is a command other than `script`, and no path.
+    NoSocket,
+    /// There is a script, and a uid or a gid.
+    CallerOfScript,
+    /// A word is no text.
+    NotText,
 }
 
 /// A single command over a connection to a path.
@@ -102,7 +118,7 @@ pub fn choose(alloc: Global, words: io::Result<Args>) -> Choice
     match words {
         Ok(words) => choice_of_all(alloc, words.collect(alloc)),
         Err(error) if error.kind() == io::ErrorKind::OutOfMemory => Choice::Memory,
-        Err(_) => Choice::Usage,
+        Err(_) => Choice::Usage(Misuse::NotText),
     }
 }
 
@@ -134,10 +150,19 @@ fn told(alloc: Global, error: &Error) -> Choice
     if error.kind() == ErrorKind::OutOfMemory {
         return Choice::Memory;
     }
-    match format!(in alloc; "{error}") {
+    let next = next_for(error.kind());
+    match format!(in alloc; "{error}{next}") {
         Ok(text) if error.use_stderr() => Choice::Refused(text),
         Ok(text) => Choice::Shown(text),
         Err(_) => Choice::Memory,
+    }
+}
+
+/// What to do, told behind what the reader of options tells of an error of this kind.
+fn next_for(kind: ErrorKind) -> &'static str {
+    match kind {
+        ErrorKind::ValueValidation | ErrorKind::UnknownArgument => NUMBERS,
+        _ => "",
     }
 }
 
@@ -159,11 +184,12 @@ fn choice_among(alloc: Global, matches: &ArgMatches<'_>) -> Result<Choice, Alloc
     if is_script(words) {
         return choice_of_script(alloc, matches);
     }
+    if words.is_empty() {
+        return Ok(Choice::Usage(Misuse::NoWords));
+    }
     match matches.get_str(SOCKET) {
-        Some(path) if !words.is_empty() => {
-            choice_of_call(alloc, path, caller_of(alloc, matches), words)
-        }
-        _ => Ok(Choice::Usage),
+        Some(path) => choice_of_call(alloc, path, caller_of(alloc, matches), words),
+        None => Ok(Choice::Usage(Misuse::NoSocket)),
     }
 }
 
@@ -189,7 +215,7 @@ fn choice_of_script(alloc: Global, matches: &ArgMatches<'_>) -> Result<Choice, A
     ensures { IfOk result (Runs (found_of matches.now)) }
 {
     if matches.get_str(UID).is_some() || matches.get_str(GID).is_some() {
-        return Ok(Choice::Usage);
+        return Ok(Choice::Usage(Misuse::CallerOfScript));
     }
     match matches.get_str(SOCKET) {
         None => Ok(Choice::Script),

@@ -1,17 +1,19 @@
 //! What is done over a connection, which is made first.
 
-ghost use Rattle.std.specs.Prelude.{◌≡◌, ◌≢◌, ◌⊎◌, IfOk, None, codes, string_bytes};
+ghost use Rattle.std.specs.Prelude.{◌≡◌, ◌≢◌, IfOk, codes, string_bytes};
 ghost use Rattle.std.specs.IoError.{error_kind};
 ghost use Rattle.std.specs.declared.io.ErrorKind.TheVariants.{OutOfMemory};
 ghost use Rattle.krs_words.specs.Saying.{heard, Says};
 ghost use Rattle.krs_script.specs.Ending.{Says as Prints};
 ghost use Rattle.krs_ctl.specs.Program.{CallsAt, RunsAt, SaysUnconnected};
-ghost use Rattle.krs_ctl.specs.Telling.{TellsOf, TellsOver, path_text};
+ghost use Rattle.krs_ctl.specs.Telling.{TellsCall, TellsEnd, TellsFailure, TellsOf, TellsOver, path_text};
 
+use crate::advice::of_refused;
 use crate::choice::Call;
+use crate::watched::Watched;
 use krs_remote::{run_call, run_remote_at};
 use krs_script::{NO_CONNECTION, OUT_OF_MEMORY, Place, push_quoted, say, tell};
-use krs_words::Voice;
+use krs_words::{Stop, Voice};
 use std::alloc::{AllocError, Global};
 use std::io;
 use std::io::{ErrorKind, Read, Write};
@@ -21,6 +23,25 @@ use std::os::unix::net::UnixStream;
 /// What is told of a connection that was made, and came to no reply.
 const FAILED: &str =
     "the connection failed, or gave no reply; or standard output cannot be written";
+
+/// What is told where the guard has no place for a client.
+const NO_PLACE: &str =
+    "keyretain-guard has no place left for this user: end other clients, or raise --per-uid";
+
+/// What is told of a call that fits no frame.
+const NO_FRAME: &str =
+    "keyretain: it fits no frame, which has 65536 bytes at most; a payload has 32767 at most\n";
+
+/// Why a call came to no reply.
+#[derive(Drop)]
+pub(crate) enum Failure {
+    /// There was no connection.
+    Unconnected(io::Error),
+    /// The guard had no place for it.
+    NoPlace,
+    /// The connection failed, or gave no reply.
+    Failed,
+}
 
 /// Runs the lines of a reader over a connection to the path: the script's status.
 pub(crate) fn script_at<N: Net, R: Read + Drop, W: Write, E: Write>(
@@ -35,21 +56,38 @@ pub(crate) fn script_at<N: Net, R: Read + Drop, W: Write, E: Write>(
     ensures told { TellsOver path.now result (heard E.contents errors.old) (heard E.contents errors.new) }
     ensures well { result ≡ 0 → heard E.contents errors.new ≡ heard E.contents errors.old }
 {
-    let mut place = Place::start(alloc);
     match UnixStream::connect(net, path) {
-        Ok(stream) => {
-            let mut to = &stream;
-            let (status, stopped) = run_remote_at(
-                alloc, input, output, &stream, &mut to, &mut place,
-            );
-            tell(alloc, errors, &place, stopped);
-            status
-        }
+        Ok(stream) => script_over(alloc, &stream, path, input, output, errors),
         Err(error) => {
             tell_cause(alloc, errors, path, &error);
             say_unconnected(output, &error)
         }
     }
+}
+
+/// The same over this connection.
+fn script_over<R: Read + Drop, W: Write, E: Write>(
+    alloc: Global,
+    stream: &UnixStream,
+    path: &str,
+    input: R,
+    output: &mut W,
+    errors: &mut Voice<E>,
+) -> u8
+    ensures runs { RunsAt (R.remaining input) (W.contents output.old) (W.contents output.new) result }
+    ensures told { TellsOver path.now result (heard E.contents errors.old) (heard E.contents errors.new) }
+    ensures well { result ≡ 0 → heard E.contents errors.new ≡ heard E.contents errors.old }
+{
+    let mut place = Place::start(alloc);
+    let mut from = Watched::new(stream);
+    let mut to = stream;
+    let (status, stopped) = run_remote_at(alloc, input, output, &mut from, &mut to, &mut place);
+    if stopped == Err(Stop::Connection) && from.is_turned_away() {
+        tell_of(alloc, errors, path, NO_PLACE);
+        return status;
+    }
+    tell(alloc, errors, &place, stopped);
+    status
 }
 
 /// Carries a single command out over a connection to its path: the status.
@@ -61,58 +99,89 @@ pub(crate) fn call_at<N: Net, W: Write, E: Write>(
     errors: &mut Voice<E>,
 ) -> u8
     ensures calls { CallsAt call (W.contents output.old) (W.contents output.new) result }
-    ensures told { result ≡ 3
-        → TellsOf (string_bytes call.path) (heard E.contents errors.old) (heard E.contents errors.new) }
-    ensures well { result ≢ 3 → heard E.contents errors.new ≡ heard E.contents errors.old }
+    ensures told { TellsCall call result (heard E.contents errors.old) (heard E.contents errors.new) }
 {
     match UnixStream::connect(net, call.path.as_str()) {
         Ok(stream) => {
+            let refused = of_refused(&call.caller, &call.command);
+            let mut from = Watched::new(&stream);
             let mut to = &stream;
-            let status = run_call(alloc, call.caller, call.command, output, &stream, &mut to);
-            tell_end(alloc, errors, call.path.as_str(), status, None);
+            let status = run_call(alloc, call.caller, call.command, output, &mut from, &mut to);
+            let why = failure_of(&from);
+            tell_end(alloc, errors, call.path.as_str(), status, why, refused);
             status
         }
         Err(error) => {
             let status = say_unconnected(output, &error);
-            tell_end(alloc, errors, call.path.as_str(), status, Some(error));
+            let failure = Failure::Unconnected(error);
+            tell_end(alloc, errors, call.path.as_str(), status, failure, "");
             call.command.let_go();
             status
         }
     }
 }
 
-/// Tells why a single call has status 3: there was no connection, or it failed, or gave no reply that is one. Of any other
-/// status nothing is told.
+/// Why a call over this connection came to no reply, where it did.
+fn failure_of(from: &Watched<'_>) -> Failure {
+    if from.is_turned_away() {
+        return Failure::NoPlace;
+    }
+    Failure::Failed
+}
+
+/// Tells what there is to tell of a single call with this status.
+#[tactic(auto, using(crate::proofs::TellingLemmas::tells_of_failure))]
 fn tell_end<E: Write>(
     alloc: Global,
     errors: &mut Voice<E>,
     path: &str,
     status: u8,
-    cause: Option<io::Error>,
+    failure: Failure,
+    refused: &str,
 )
-    ensures told { status ≡ 3
-        → TellsOf path.now (heard E.contents errors.old) (heard E.contents errors.new) }
-    ensures failed { status ≡ 3 → cause ≡ None
-        → Says (heard E.contents errors.old) (heard E.contents errors.new) (path_text path.now (codes
-        "the connection failed, or gave no reply; or standard output cannot be written")) }
-    ensures well { status ≢ 3 → errors.new ≡ errors.old }
+    ensures { TellsEnd path.now refused.now status (heard E.contents errors.old) (heard E.contents errors.new) }
 {
-    if status != 3 {
-        return;
-    }
-    match cause {
-        Some(error) => tell_cause(alloc, errors, path, &error),
-        None => tell_of(alloc, errors, path, FAILED),
+    match status {
+        1 => errors.say(refused),
+        2 => errors.say(NO_FRAME),
+        3 => tell_failure(alloc, errors, path, failure),
+        _ => (),
     }
 }
 
-/// Tells why there is no connection.
+/// Tells why a single call came to no reply.
+fn tell_failure<E: Write>(alloc: Global, errors: &mut Voice<E>, path: &str, failure: Failure)
+    ensures { TellsFailure path.now failure (heard E.contents errors.old) (heard E.contents errors.new) }
+{
+    match failure {
+        Failure::Unconnected(error) => tell_cause(alloc, errors, path, &error),
+        Failure::NoPlace => tell_of(alloc, errors, path, NO_PLACE),
+        Failure::Failed => tell_of(alloc, errors, path, FAILED),
+    }
+}
+
+/// Tells why there is no connection, and what to do.
 fn tell_cause<E: Write>(alloc: Global, errors: &mut Voice<E>, path: &str, error: &io::Error)
     ensures { TellsOf path.now (heard E.contents errors.old) (heard E.contents errors.new) }
 {
-    match format!(in alloc; "{error}") {
+    let next = next_for(error);
+    match format!(in alloc; "{error}{next}") {
         Ok(cause) => tell_of(alloc, errors, path, cause.as_str()),
         Err(_) => errors.lack(),
+    }
+}
+
+/// What to do where a connection can't be made: connect(2), "ERRORS".
+fn next_for(error: &io::Error) -> &'static str {
+    match error.raw_os_error() {
+        Some(2) =>
+            "\nkeyretain: start a daemon: systemctl --user start keyretaind, or keyretaind --socket PATH",
+        Some(111) =>
+            "\nkeyretain: its daemon has ended: remove the path, and start one: keyretaind --socket PATH",
+        Some(13) =>
+            "\nkeyretain: who may connect is told by the modes of the path and its folder: ls -ld",
+        Some(_) => "",
+        None => "\nkeyretain: a path has 107 bytes at most",
     }
 }
 

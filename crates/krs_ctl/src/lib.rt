@@ -3,11 +3,13 @@
 //! A contract sees a line as a list of bytes, and a reader and a writer by the bytes that they tell.
 #![tactic(auto)]
 
+mod advice;
 mod choice;
 mod connecting;
 mod laws;
 mod program;
 mod script;
+mod watched;
 
 pub use krs_remote::run_remote;
 pub use krs_words::Voice;

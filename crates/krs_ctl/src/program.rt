@@ -1,14 +1,14 @@
-ghost use Rattle.std.specs.Prelude.{IfOk, IfErr, map, codes, string_bytes};
+ghost use Rattle.std.specs.Prelude.{◌≡◌, IfOk, IfErr, map, codes, string_bytes};
 ghost use Rattle.std.specs.IoError.{error_kind};
 ghost use Rattle.std.specs.Vec.Iter.{into_iter_items};
 ghost use Rattle.krs_words.specs.Saying.{heard, Says as Tells};
 ghost use Rattle.krs_script.specs.Ending.{Says};
 ghost use Rattle.krs_ctl.specs.declared.choice.Choice.{Choice as ChoiceIs};
-ghost use Rattle.krs_ctl.specs.Choice.{IsUnread};
+ghost use Rattle.krs_ctl.specs.Choice.{IsUnread, misuse_text};
 ghost use Rattle.krs_ctl.specs.CommandLine.{LeadsTo};
 ghost use Rattle.krs_ctl.specs.Program.{Answers};
 
-use crate::choice::{Choice, choose};
+use crate::choice::{Choice, Misuse, choose};
 use crate::connecting::{call_at, script_at};
 use crate::script::run_script_at;
 use krs_script::{OUT_OF_MEMORY, Place, USAGE, say, tell};
@@ -19,9 +19,6 @@ use std::env::Args;
 use std::io;
 use std::io::{Read, Write};
 use std::net::Net;
-
-/// What is told where the words are none that the program takes.
-const HINT: &str = "keyretain: see keyretain --help\n";
 
 /// The program: from its words, the first of which is its name, and its three ends to its exit status. A connection is
 /// made by `net`.
@@ -65,7 +62,7 @@ fn answer<N: Net, R: Read + Drop, W: Write, E: Write>(
         }
         Choice::Remote(path) => script_at(net, alloc, path.as_str(), input, output, errors),
         Choice::Call(call) => call_at(net, alloc, call, output, errors),
-        Choice::Usage => say_usage(output, errors),
+        Choice::Usage(why) => say_usage(output, errors, why),
         Choice::NoCommand(text) => {
             errors.tell(text.as_slice());
             say(output, USAGE, 2)
@@ -79,14 +76,31 @@ fn answer<N: Net, R: Read + Drop, W: Write, E: Write>(
     }
 }
 
-/// Prints `usage`, and on the other output where help is to be had.
-fn say_usage<W: Write, E: Write>(output: &mut W, errors: &mut Voice<E>) -> u8
+/// Prints `usage`, and on the other output why.
+fn say_usage<W: Write, E: Write>(output: &mut W, errors: &mut Voice<E>, why: Misuse) -> u8
     ensures said { Says (W.contents output.old) (W.contents output.new) (codes "usage\n") 2 result }
-    ensures told { Tells (heard E.contents errors.old) (heard E.contents errors.new)
-        (codes "keyretain: see keyretain --help\n") }
+    ensures told { Tells (heard E.contents errors.old) (heard E.contents errors.new) (misuse_text why) }
 {
-    errors.say(HINT);
+    errors.say(text_of(why));
     say(output, USAGE, 2)
+}
+
+/// What is told of words that are none which the program takes.
+fn text_of(why: Misuse) -> &'static str
+    ensures { result.now ≡ misuse_text why }
+{
+    match why {
+        Misuse::NoWords => "keyretain: there is no command: see keyretain --help\n",
+        Misuse::NoSocket => {
+            "keyretain: --socket PATH is missing: where a daemon listens, which a single command is for\n"
+        }
+        Misuse::CallerOfScript => {
+            "keyretain: --uid and --gid are for a single command: a script names its caller by hello\n"
+        }
+        Misuse::NotText => {
+            "keyretain: an argument isn't UTF-8: hex: and digits spell any bytes of a payload\n"
+        }
+    }
 }
 
 /// Says that there was no memory for the words.

@@ -4,6 +4,7 @@
 
 mod carries;
 mod ending;
+mod hint;
 mod listed;
 mod reading;
 mod running;
@@ -16,4 +17,3 @@ pub use listed::{listing, records};
 pub use reading::Place;
 pub use running::run_by;
 pub use telling::{no_command, push_quoted, tell};
-pub use waiting::READ_AHEAD;

@@ -1,15 +1,17 @@
-ghost use Rattle.std.specs.Prelude.{Ok, ◌≡◌, ◌++◌, IfOk, IfErr, OnOk, get_or, map, codes, if◌then◌else◌, []};
+ghost use Rattle.std.specs.Prelude.{Ok, ◌≡◌, ◌++◌, ℕ, List, IfOk, IfErr, OnOk, get_or, map, codes, if◌then◌else◌, []};
 ghost use Rattle.std.specs.Char.Escape.{escape_ascii};
 ghost use Rattle.std.specs.List.{flat_map};
 ghost use Rattle.std.specs.Option.{is_some};
-ghost use Rattle.krs_commands.specs.Command.{row_of};
+ghost use Rattle.krs_commands.specs.Command.{command_of, row_of};
 ghost use Rattle.krs_words.specs.Words.{words_of};
 ghost use Rattle.krs_words.specs.Saying.{heard, Says};
-ghost use Rattle.krs_script.specs.Telling.{cause_text, no_command_text, quoted, refusal_text, stop_text};
+ghost use Rattle.krs_script.specs.Telling.{cause_text, no_command_text, quoted, reason_text, refusal_text, stop_text};
+ghost use Rattle.krs_script.specs.Telling.{hinted_refusal, hinted_text};
 
+use crate::hint::{call_hint, hint_of};
 use crate::reading::Place;
-use krs_commands::is_command;
-use krs_words::{Stop, Voice, words};
+use krs_commands::{is_command, parse};
+use krs_words::{NoCommand, Stop, Voice, words};
 use std::alloc::{AllocError, Global};
 use std::ascii::escape_default;
 use std::io::Write;
@@ -17,16 +19,16 @@ use std::io::Write;
 /// How many bytes of a word are quoted at most.
 const QUOTED: usize = 64;
 
-/// Tells those who look at standard error why a script stopped, and at which line, as far as memory and the writer
-/// allow. Of one that came to its end nothing is told.
+/// Tells those who look at standard error why a script stopped, at which line, and what to do, as far as memory and the
+/// writer allow. Of one that came to its end nothing is told.
 pub fn tell<E: Write>(
     alloc: Global,
     errors: &mut Voice<E>,
     place: &Place,
     stopped: Result<(), Stop>,
 )
-    ensures exact { IfErr stopped (λ stop. Says (heard E.contents errors.old) (heard E.contents errors.new)
-        (stop_text place.now.number place.now.line.items stop)) }
+    ensures exact { IfErr stopped (λ stop. (how : List ℕ) × Says (heard E.contents errors.old)
+        (heard E.contents errors.new) (stop_text place.now.number place.now.line.items stop how)) }
     ensures ended { stopped ≡ Ok tt → errors.new ≡ errors.old }
 {
     match stopped {
@@ -37,8 +39,8 @@ pub fn tell<E: Write>(
 
 /// Tells why a script stopped.
 fn tell_cause<E: Write>(alloc: Global, errors: &mut Voice<E>, place: &Place, cause: Stop)
-    ensures { Says (heard E.contents errors.old) (heard E.contents errors.new)
-        (stop_text place.now.number place.now.line.items cause) }
+    ensures { (how : List ℕ) × Says (heard E.contents errors.old) (heard E.contents errors.new)
+        (stop_text place.now.number place.now.line.items cause how) }
 {
     match text_of(alloc, place, cause) {
         Ok(text) => errors.tell(text.as_slice()),
@@ -46,14 +48,25 @@ fn tell_cause<E: Write>(alloc: Global, errors: &mut Voice<E>, place: &Place, cau
     }
 }
 
-/// The line that is told.
-#[tactic(auto, unfolding(crate::specs::Telling::stop_text))]
+/// What is told, with a hint.
 fn text_of(alloc: Global, place: &Place, cause: Stop) -> Result<Vec<u8>, AllocError>
-    ensures { IfOk result (λ text. text.items ≡ stop_text place.now.number place.now.line.items cause) }
+    ensures { IfOk result (λ text. (how : List ℕ)
+        × (text.items ≡ stop_text place.now.number place.now.line.items cause how)) }
+{
+    let hint = hint_of(alloc, place.line.as_slice(), cause)?;
+    text_with(alloc, place, cause, hint.as_slice())
+}
+
+/// What is told, with this hint.
+#[tactic(auto, unfolding(crate::specs::Telling::hinted_text))]
+fn text_with(alloc: Global, place: &Place, cause: Stop, hint: &[u8]) -> Result<Vec<u8>, AllocError>
+    ensures { IfOk result (λ text. text.items
+        ≡ hinted_text place.now.number place.now.line.items cause hint.now) }
 {
     let number = place.number;
     let mut text = format!(in alloc; "keyretain: line {number}: ")?.into_bytes();
     push_cause(alloc, &mut text, place.line.as_slice(), cause)?;
+    text.extend_from_slice(hint)?;
     text.push(b'\n')?;
     Ok(text)
 }
@@ -75,26 +88,35 @@ fn push_cause(alloc: Global, text: &mut Vec<u8>, line: &[u8], cause: Stop) -> Re
 
 /// Why the words of a line are no command here.
 fn push_usage(alloc: Global, text: &mut Vec<u8>, line: &[u8]) -> Result<(), AllocError>
-    ensures { OnOk result (text.new.items
-        ≡ text.old.items ++ no_command_text (get_or (words_of line.now) 0 [])) }
+    ensures { OnOk result (text.new.items ≡ text.old.items ++ no_command_text (words_of line.now)) }
 {
     let words = words(alloc, line)?;
-    push_reason(text, first_of(words.as_slice()))
+    push_reason(alloc, text, words.as_slice())
 }
 
-/// What is told of the words of a single call that are no command.
-#[tactic(auto, unfolding(crate::specs::Telling::refusal_text))]
+/// What is told of the words of a single call that are no command, with a hint.
 pub fn no_command(alloc: Global, words: &[&[u8]]) -> Result<Vec<u8>, AllocError>
-    ensures { IfOk result (λ text. text.items ≡ refusal_text (map (λ word. word.now) words.now)) }
+    ensures { IfOk result (λ text. (how : List ℕ)
+        × (text.items ≡ refusal_text (map (λ word. word.now) words.now) how)) }
+{
+    let hint = call_hint(alloc, words)?;
+    no_command_with(alloc, words, hint.as_slice())
+}
+
+/// The same with this hint.
+#[tactic(auto, unfolding(crate::specs::Telling::hinted_refusal))]
+fn no_command_with(alloc: Global, words: &[&[u8]], hint: &[u8]) -> Result<Vec<u8>, AllocError>
+    ensures { IfOk result (λ text. text.items ≡ hinted_refusal (map (λ word. word.now) words.now) hint.now) }
 {
     let mut text = Vec::from_slice(alloc, b"keyretain: ")?;
-    push_reason(&mut text, first_of(words))?;
+    push_reason(alloc, &mut text, words)?;
+    text.extend_from_slice(hint)?;
     text.push(b'\n')?;
     Ok(text)
 }
 
 /// The first word, or the empty one.
-fn first_of<'a>(words: &[&'a [u8]]) -> &'a [u8]
+pub(crate) fn first_of<'a>(words: &[&'a [u8]]) -> &'a [u8]
     ensures { result.now ≡ get_or (map (λ word. word.now) words.now) 0 [] }
 {
     match words.first() {
@@ -103,23 +125,42 @@ fn first_of<'a>(words: &[&'a [u8]]) -> &'a [u8]
     }
 }
 
-/// Why words are no command whose first one this is.
-#[tactic(auto, unfolding(crate::specs::Telling::no_command_text))]
-fn push_reason(text: &mut Vec<u8>, word: &[u8]) -> Result<(), AllocError>
-    ensures { OnOk result (text.new.items ≡ text.old.items ++ no_command_text word.now) }
+/// Why these words are no command here.
+#[tactic(auto, unfolding(crate::specs::Telling::no_command_text, crate::specs::Telling::reason_text))]
+fn push_reason(alloc: Global, text: &mut Vec<u8>, words: &[&[u8]]) -> Result<(), AllocError>
+    ensures { OnOk result (text.new.items
+        ≡ text.old.items ++ no_command_text (map (λ word. word.now) words.now)) }
 {
-    text.extend_from_slice(reason_of(word))?;
-    push_quoted(text, word)
+    let first = first_of(words);
+    let is_elsewhere = is_one(alloc, words)?;
+    text.extend_from_slice(reason_of(first, is_elsewhere))?;
+    push_quoted(text, first)
 }
 
-/// What stands before the word.
-fn reason_of(word: &[u8]) -> &'static [u8]
-    ensures { result.now ≡ (if is_some (row_of word.now)
-        then codes "not as it is used, see keyretain --help: "
+/// Whether these words are a command.
+pub(crate) fn is_one(alloc: Global, words: &[&[u8]]) -> Result<bool, AllocError>
+    ensures { IfOk result (λ is. is ≡ is_some (command_of (map (λ word. word.now) words.now))) }
+{
+    match parse(alloc, words) {
+        Ok(command) => {
+            command.let_go();
+            Ok(true)
+        }
+        Err(NoCommand::Usage) => Ok(false),
+        Err(NoCommand::Memory) => Err(AllocError),
+    }
+}
+
+/// What stands before the first word, where the words are a command elsewhere or are none.
+fn reason_of(word: &[u8], is_elsewhere: bool) -> &'static [u8]
+    ensures { result.now ≡ (if is_elsewhere then codes "no command here: "
+        else if is_some (row_of word.now) then codes "not as it is used: "
         else codes "no such command: ") }
 {
-    if is_command(word) {
-        b"not as it is used, see keyretain --help: "
+    if is_elsewhere {
+        b"no command here: "
+    } else if is_command(word) {
+        b"not as it is used: "
     } else {
         b"no such command: "
     }

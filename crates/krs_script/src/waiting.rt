@@ -9,7 +9,7 @@ use std::io::{BufReader, Read, Write};
 pub(crate) const MOST_LINES: u32 = 16_777_216;
 
 /// How many bytes are read at once.
-pub const READ_AHEAD: usize = 65_536;
+pub(crate) const READ_AHEAD: usize = 65_536;
 
 /// Writes what waits, unless the next line can be read without asking the reader for more: then nothing waits any more.
 pub(crate) fn write_before_waiting<R: Read, W: Write>(

@@ -343,8 +343,9 @@ fn programs(rt: HostRuntime) -> Result<(), Fail> {
 /// A script that stops says on standard error where and why; one that comes to its end says nothing.
 #[rattlefmt::skip]
 const TOLD: [(&str, &str); 4] = [
-    ("context 1\n\nfrobnicate 5\n", "keyretain: line 3: no such command: frobnicate\n"),
-    ("# add\nadd user\n", "keyretain: line 2: not as it is used, see keyretain --help: add\n"),
+    ("context 1\n\nfrobnicate 5\n",
+        "keyretain: line 3: no such command: frobnicate\nkeyretain: keyretain --help lists the commands\n"),
+    ("# add\nadd user\n", "keyretain: line 2: not as it is used: add TYPE DESC DATA RING\n"),
     ("context 1\n", ""),
     ("print 5\n", ""),
 ];
