@@ -5,9 +5,11 @@ A secret of this module is made of words of eight bytes, each of a mark of five 
 """
 from __future__ import annotations
 
+import errno
 import os
 import random
 import struct
+import time
 from string import ascii_letters
 from typing import Iterator, NamedTuple
 
@@ -16,6 +18,7 @@ PRESENT, SWAPPED = 1 << 63, 1 << 62
 PIECE = 1024  # pages that are read at once
 MARK, WORD = 5, 8
 LONGEST = 1 << 36
+TRIES = 50
 KERNELS = "[vvar]", "[vvar_vclock]", "[vsyscall]", "[vdso]"
 
 
@@ -70,7 +73,19 @@ def resident(process: int, start: int, end: int) -> Iterator[tuple[int, int]]:
 
 
 def left_of(process: int, secret: Secret) -> list[Run]:
-    """What is left of a secret in all that is resident: its words, those that stand in a row as one run."""
+    """What is left of a secret in all that is resident. Where a mapping goes meanwhile, it looks again."""
+    for _ in range(TRIES):
+        try:
+            return look(process, secret)
+        except OSError as error:
+            if error.errno != errno.EIO:
+                raise
+        time.sleep(0.02)
+    return look(process, secret)
+
+
+def look(process: int, secret: Secret) -> list[Run]:
+    """Its words, those that stand in a row as one run."""
     found: list[Run] = []
     with open(f"/proc/{process}/mem", "rb") as memory:
         for whole, behind, name in mappings(process):
