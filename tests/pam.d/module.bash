@@ -343,7 +343,7 @@ try_no_core() {
   pid=$(sed -n 's/^\([0-9]*\) .*execve("[^"]*keyretain-keeper".*/\1/p' "$dir/trace")
   is 'what is called before a keeper is executed' \
     'setresuid prctl(PR_SET_DUMPABLE, SUID_DUMP_DISABLE rt_sigprocmask(SIG_SETMASK, [] execve' \
-    "$(sed -n "s/^$pid  *//p" "$dir/trace" | sed -n -e 's/^\(setresuid\).*/\1/p' -e 's/^\(prctl([^)]*\)).*/\1/p' \
+    "$(sed -n "s/^$pid  *//p" "$dir/trace" | sed -n -e 's/^\(setresuid\).*/\1/p' -e 's/^\(prctl([^)<]*[^)< ]\).*/\1/p' \
       -e 's/^\(rt_sigprocmask([^]]*]\).*/\1/p' -e 's/^\(execve\).*/\1/p' -e '/^execve/q' | paste -sd' ')"
 }
 
