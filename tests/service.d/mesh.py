@@ -50,13 +50,15 @@ def walk():
     client, other = Client(1000), Client(2000)
     key = other.add(other.context, "user", "secret", b"s3", keyretain.USER)
     levels = nest(client)
+    # both before the first walk: a further keyring has the daemon take room for a walk anew, and what a walk takes it gives back
+    rings = [client.keyring(name, keyretain.USER) for name in ("beside", "beside again")]
     said = []
-    for name in ("beside", "beside again"):  # what a walk takes it gives back
+    for ring in rings:
         said += [("EACCES", client.says("READ", key)),
                  ("ENOKEY", client.says("SEARCH", keyretain.THREAD, b"user", b"none", 0)),
                  ("ENOKEY", client.says("REQUEST", b"user", b"none", 0)),
                  ("EDEADLK", client.says("LINK", levels[0][0], levels[-1][0])),
-                 ("ok", client.says("LINK", levels[0][0], client.keyring(name, keyretain.USER)))]
+                 ("ok", client.says("LINK", levels[0][0], ring))]
     said.append(("ok", other.says("READ", key)))
     return [f"{got} for {wanted}" for wanted, got in said if got != wanted]
 
