@@ -332,34 +332,44 @@ staying_client() {
   ask "stays$n" "add user name secret-$uid @u"
   key=$answer
   echo "$key" >"$dir/new.$n" && mv "$dir/new.$n" "$dir/key.$n"
-  until_true test -e "$dir/all-here"
+  flock -s "$dir/here" true
   answers "stays$n" "print $key" "secret-$uid"
   answers "stays$n" "print $(<"$dir/key.$next")" 'error 13 EACCES'
   answers "stays$n" "update $key hex:00ff" ok
   answers "stays$n" "print $key" ':hex:00ff'
   answers "stays$n" 'rlist @u' "$key"
   : >"$dir/saw.$n"
-  until_true test -e "$dir/all-saw"
+  flock -s "$dir/seen" true
   close_client "stays$n" 1
   [ "$failed" = 0 ]
 }
 
-have_all() {
-  local files=("$dir/$1".*)
-  [ "${#files[@]}" -ge 100 ]
+# until_all NAME PID ..: waits until each of 100 clients has made its file, or one has ended
+until_all() {
+  local name=$1 files pid
+  shift
+  until files=("$dir/$name".*) && [ "${#files[@]}" -ge 100 ]; do
+    for pid; do kill -0 "$pid" 2>/dev/null || return 1; done
+    sleep 0.2
+  done
 }
 
+# The clients wait for each other by locks, as a hundred that look again and again take the processors from the daemon.
 try_many_at_once() {
-  local n waits=()
+  local n here seen waits=()
   start --lanes 128 --accept 100
+  exec {here}>"$dir/here" {seen}>"$dir/seen"
+  flock "$here"
+  flock "$seen"
   for n in {1..100}; do
     staying_client "$n" &
     waits+=("$!")
   done
-  until_true have_all key
-  : >"$dir/all-here"
-  until_true have_all saw
-  : >"$dir/all-saw"
+  until_all key "${waits[@]}"
+  flock -u "$here"
+  until_all saw "${waits[@]}"
+  flock -u "$seen"
+  exec {here}>&- {seen}>&-
   for n in {1..100}; do
     wait "${waits[n - 1]}"
     is "client $n of 100 at once" 0 $?
