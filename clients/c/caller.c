@@ -199,11 +199,14 @@ static bool asks_often(const struct caller *caller) {
 }
 
 /* A connection takes a lane of the daemon. So it isn't held where nothing ends with it: no keyring of a thread or the
- * process, and no session that doesn't last as long as the process by itself, as that of a login. */
+ * process, and no session that doesn't last as long as the process by itself, as that of a login. Who asks often may
+ * fall silent, and so holds it with a name that few can have. */
 static bool may_let_go(const struct caller *caller) {
     const struct seat *seat = caller->seat;
-    if (!seat->connection || !seat->is_kept || seat->may_have_keyring || asks_often(caller)) return false;
-    return seats_may_let_go(seat);
+    if (!seat->connection || !seat->is_kept || seat->may_have_keyring) return false;
+    bool is_often = asks_often(caller);
+    if (is_often && seat->connection->has_name) return false;
+    return seats_may_let_go(seat) && !(is_often && kr_take_name(seat->connection));
 }
 
 /* A context that the daemon doesn't know is no error of the program's: the next call begins anew. */

@@ -74,6 +74,7 @@ struct kr {
     pid_t peer_pid;
     bool broken, interruptible;
     bool was_seen; /* it was looked at for the next ask: see kr_is_ours */
+    bool has_name; /* of kr_take_name */
     int patience;     /* milliseconds, or -1 */
     int64_t deadline; /* of the call that is being made */
     int64_t until;    /* a moment by which all calls end, or KR_NEVER */
@@ -111,6 +112,10 @@ bool kr_is_ours(const struct kr *connection);
 
 /* The same, and the next ask doesn't look again. */
 bool kr_see(struct kr *connection);
+
+/* Gives the socket one of the few names of unix(7) that connections to one path can have, if one is free: for as long
+ * as it is open anywhere. Another program may have them all. */
+bool kr_take_name(struct kr *connection);
 
 /* What may be sent or received by the deadline, and -1 with errno. kr_receive_bytes waits for some. */
 int kr_flush(struct kr *connection);

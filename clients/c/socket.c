@@ -6,7 +6,7 @@
 #include <sys/time.h>
 #include <time.h>
 
-enum { USUAL_PATIENCE = 30000, IN_SEND = 0, IN_RECV = 1 };
+enum { USUAL_PATIENCE = 30000, IN_SEND = 0, IN_RECV = 1, NAMES = 4 };
 
 /* Nothing is sent or decoded any more, so nothing stays of what was to be: whoever has the connection may keep it. */
 int kr_break_off(struct kr *connection, int error) {
@@ -193,6 +193,17 @@ bool kr_is_ours(const struct kr *connection) {
 bool kr_see(struct kr *connection) {
     connection->was_seen = !connection->broken && kr_is_ours(connection);
     return connection->was_seen;
+}
+
+bool kr_take_name(struct kr *connection) {
+    struct sockaddr_un name = { .sun_family = AF_UNIX }; /* a null byte first: it is no path */
+    for (int i = 0; i < NAMES && !connection->has_name && kr_is_ours(connection); i++) {
+        int length = snprintf(name.sun_path + 1, sizeof name.sun_path - 1, "keyretain-kept/%d%.80s", i,
+                              connection->address.sun_path);
+        socklen_t size = (socklen_t)(offsetof(struct sockaddr_un, sun_path) + 1 + (size_t)length);
+        connection->has_name = bind(connection->descriptor, (const struct sockaddr *)&name, size) == 0;
+    }
+    return connection->has_name;
 }
 
 void kr_close(struct kr *connection) {

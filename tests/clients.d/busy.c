@@ -16,7 +16,7 @@
 #include "keyretain.h"
 #include "keyutils.h"
 
-enum { THREADS = 32, LOOKS = 100, STALLED = 200, AGAIN = 9, SOCKETS = 64 };
+enum { THREADS = 32, LOOKS = 100, STALLED = 200, AGAIN = 9, SOCKETS = 64, OFTEN = 20 };
 
 static long ask(void) { return keyctl_get_keyring_ID(KEY_SPEC_USER_KEYRING, 0); }
 
@@ -177,6 +177,45 @@ static void ask_as_many(char **words) {
     printf("%d of %d\n", fine, count);
 }
 
+/* Asks as often, at one moment, and nothing from then on: until the other end is closed. Tells how many calls were
+ * answered, how many sockets there are then, and how many in a child. */
+static void fall_silent(int told, int end) {
+    char said[] = { 0, 0, 0 };
+    struct timespec now;
+    int status;
+    clock_gettime(CLOCK_MONOTONIC, &now);
+    stands = &now;
+    while (said[0] < OFTEN && ask() > 0) said[0]++;
+    said[1] = (char)sockets();
+    pid_t child = fork();
+    if (child == 0) _exit(sockets());
+    waitpid(child, &status, 0);
+    said[2] = (char)WEXITSTATUS(status);
+    (void)!write(told, said, sizeof said);
+    (void)!read(end, said, 1);
+    _exit(0);
+}
+
+/* silent COUNT: so many processes that live at one time and have fallen silent: how many were answered, hold a
+ * connection, and have a child that does; and what a further call comes to. */
+static void ask_beside_silent(char **words) {
+    int count = atoi(words[0]), fine = 0, held = 0, inherited = 0, end[2], told[2];
+    char said[3];
+    if (pipe(end) < 0 || pipe(told) < 0) exit(2);
+    for (int i = 0; i < count; i++)
+        if (fork() == 0) {
+            close(end[1]);
+            fall_silent(told[1], end[0]);
+        }
+    for (int i = 0; i < count && read(told[0], said, sizeof said) == sizeof said; i++) {
+        fine += said[0] == OFTEN;
+        held += said[1];
+        inherited += said[2];
+    }
+    printf("%d answered, %d held, %d inherited, ", fine, held, inherited);
+    puts(word_of(ask() > 0));
+}
+
 /* held: how many sockets a process has that has nothing to lose, that has asked often, that asks a second later, that
  * has a process keyring; and whether its key is there afterwards. */
 static void hold(char **words) {
@@ -242,11 +281,11 @@ static void join_when_full(char **words) {
     puts(word_of(keyctl_join_session_keyring(NULL) > 0));
 }
 
-/* read COUNT: so many calls, for whoever counts what they take. */
+/* read RING COUNT: so many calls, for whoever counts what they take. */
 static void read_often(char **words) {
     char room[8];
-    key_serial_t key = add_key("user", "read", "s3", 2, KEY_SPEC_PROCESS_KEYRING);
-    int count = atoi(words[0]), fine = 0;
+    key_serial_t key = add_key("user", "read", "s3", 2, atoi(words[0]));
+    int count = atoi(words[1]), fine = 0;
     for (int i = 0; i < count; i++) fine += keyctl_read(key, room, sizeof room) == 2;
     puts(fine == count ? "read" : "not read");
 }
@@ -258,8 +297,8 @@ int main(int count, char **words) {
     } modes[] = { { "fair", wait_beside_others },   { "stalled", ask_stopped },
                   { "threads", want_own_stopped },  { "late", want_contexts_stopped },
                   { "many", ask_as_many },          { "held", hold },
-                  { "thread", hold_for_thread },    { "no-process", join_when_full },
-                  { "read", read_often } };
+                  { "silent", ask_beside_silent },  { "thread", hold_for_thread },
+                  { "no-process", join_when_full }, { "read", read_often } };
     if (count < 2) return 2;
     for (size_t i = 0; i < sizeof modes / sizeof *modes; i++)
         if (strcmp(words[1], modes[i].name) == 0) modes[i].run(words + 2);

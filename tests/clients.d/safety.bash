@@ -112,30 +112,44 @@ END
   done
   try_counted
   kill_daemon TERM
+  serve --lanes 8
+  for name in busy busy-address,undefined busy-thread; do
+    [ ! -x "$dir/$name" ] || is "$name: processes that fall silent" '30 answered, 4 held, 0 inherited, answered' \
+      "$(in_session -- timeout 120 "$dir/$name" silent 30)"
+  done
+  kill_daemon TERM
 }
 
-# calls_of COUNT: how many system calls a program makes in all that reads a key so often, as one that has no rights: the
-# least of three runs, as on a busy machine a connection may seem to be no longer used, and is made once more
+# calls_of RING COUNT [WORD ..]: how many system calls a program makes in all that reads a key of this ring so often, as
+# one that has no rights, run by these words: the least of three runs, as on a busy machine a connection may seem to be no
+# longer used, and is made once more
 calls_of() {
+  local ring=$1 count=$2
+  shift 2
   for _ in 1 2 3; do
-    KEYRETAIN_SOCKET=$path setpriv --reuid 65534 --regid 65534 --clear-groups strace -f -c -o "$dir/counted" \
-      "$dir/busy" read "$1" >/dev/null 2>&1
+    KEYRETAIN_SOCKET=$path KEYRETAIN_LIBRARY_FOLDER=$dir/keyretain setpriv --reuid 65534 --regid 65534 --clear-groups \
+      "$@" strace -f -c -o "$dir/counted" "$dir/busy" read "$ring" "$count" >/dev/null 2>&1
     awk '$NF == "total" { print $4 }' "$dir/counted"
   done | sort -n | head -n 1
 }
 
-# What a call takes: geteuid, fstat, send and receive.
+# What a call takes: geteuid, fstat, send and receive; also in a session, on a connection that was asked often.
 try_counted() {
+  local calls
   if [ "$(id -u)" != 0 ] || ! command -v strace >/dev/null || ! command -v setpriv >/dev/null; then
     skipped 'how many system calls a call takes: not root, no strace, or no setpriv'
     return
   fi
   chmod 711 "$dir" && chmod 755 "$dir/keyretain" "$dir/c" && chmod 666 "$path"
   : >"$dir/counted" && chmod 666 "$dir/counted"
-  local calls=$(($(calls_of 1100) - $(calls_of 100)))
-  # a call that has to wait on a busy machine takes some more
-  [ "$calls" -lt 3990 ] || [ "$calls" -gt 4010 ] || calls=4000
-  is 'the system calls of 1000 calls' 4000 "$calls"
+  set --
+  for ring in -2 -3; do
+    calls=$(($(calls_of "$ring" 1100 "$@") - $(calls_of "$ring" 100 "$@")))
+    # a call that has to wait on a busy machine takes some more
+    [ "$calls" -lt 3990 ] || [ "$calls" -gt 4010 ] || calls=4000
+    is "the system calls of 1000 calls: ring $ring" 4000 "$calls"
+    set -- "$dir/c/keyretain-session" --
+  done
 }
 
 # ---- Keepers

@@ -247,6 +247,12 @@ WRAPS(int, connect, int descriptor, const struct sockaddr *address, socklen_t le
     return 0;
 }
 
+/* Where every other socket gets a name. */
+WRAPS(int, bind, int descriptor, const struct sockaddr *address, socklen_t length) {
+    if (!is_ours(descriptor)) return __real_bind(descriptor, address, length);
+    return server.inode & 1 ? 0 : fail(EADDRINUSE);
+}
+
 WRAPS(int, getsockopt, int descriptor, int level, int option, void *value, socklen_t *length) {
     if (!is_ours(descriptor)) return __real_getsockopt(descriptor, level, option, value, length);
     memset(value, 0, *length);
