@@ -87,11 +87,14 @@ gate:
 wrong-bodies:
 	tests/wrong-bodies
 
-# Fuzzes the C clients for so many seconds, against a hostile daemon in memory, and then the ssh-agent, by messages; both
-# under sanitizers. Wants a clang with libFuzzer and the headers of OpenSSL (libssl-dev).
+# Fuzzes four parts one after the other, each for so many seconds and under sanitizers: the C clients against a hostile
+# daemon in memory, what the supervisor reads of a program's memory, what a runtime tells the agent of containers, and
+# the ssh-agent by messages. Wants a clang with libFuzzer, jansson and the headers of OpenSSL (libjansson-dev, libssl-dev).
 SECONDS = 30
 fuzz:
 	$(MAKE) -C clients/c/fuzz fuzz SECONDS=$(SECONDS)
+	$(MAKE) -C clients/c/fuzz fuzz-supervisor SECONDS=$(SECONDS)
+	$(MAKE) -C clients/c/fuzz fuzz-agent SECONDS=$(SECONDS)
 	$(MAKE) -C ssh-agent/fuzz fuzz SECONDS=$(SECONDS)
 
 # Whether the man pages render without a warning.

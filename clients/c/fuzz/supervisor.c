@@ -1,6 +1,6 @@
 /* supervisor.c: fuzzes what reads a hostile program's memory: the notification of a call, the copies that its pointers
  * mean, and what is written back. The memory is this process's own, of which some pages aren't there; a daemon answers
- * at random. What goes to it is looked at: a text without its end, or a length beyond a copy, is seen by the sanitizers.
+ * at random. What goes to it is looked at: the sanitizers see a text without its end, and a length beyond a copy.
  *
  * An input is which call, five arguments of eight bytes, and what the memory begins with. */
 #define _GNU_SOURCE
