@@ -55,8 +55,6 @@ void admission_put_first(struct kr_identity *identity) {
     identity->gid = maps_gid(getegid());
 }
 
-bool admission_is_elsewhere(pid_t thread) { return maps_are_others(thread); }
-
 /* ---- Sessions ---- */
 
 /* Who has begun it, as that one is now, where it still holds it. */

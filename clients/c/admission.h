@@ -34,9 +34,6 @@ bool admission_may_be_forgotten(const struct process *process);
 bool admission_may_be_given(const struct proc_status *child, const struct session *session,
                             const struct proc_status *parent);
 
-/* Whether a thread is in another user namespace than the one whose ids are served: its user keyrings are others. */
-bool admission_is_elsewhere(pid_t thread);
-
 /* ---- maps.c: the ids of user_namespaces(7) ----
  *
  * Whose ids are served, and how those that are read here are seen there. */
@@ -67,7 +64,7 @@ unsigned maps_gid(unsigned gid);
 unsigned maps_unknown(void);
 unsigned maps_length(void);
 
-/* Whether a thread is in another user namespace. */
+/* Whether a thread is in another user namespace: its user keyrings are others. */
 bool maps_are_others(pid_t thread);
 
 #endif

@@ -2,12 +2,7 @@
 #include "caller.h"
 
 #include <poll.h>
-#if defined __has_include
-#if __has_include(<sys/single_threaded.h>)
 #include <sys/single_threaded.h>
-#define KEYRETAIN_HAS_SINGLE_THREADED
-#endif
-#endif
 
 #include "seats.h"
 
@@ -38,18 +33,11 @@ static int set_no_daemon(void) {
 }
 
 static struct daemon daemon_of(const struct kr *connection) {
-    struct daemon daemon = { .process = connection->peer_pid };
     struct stat status;
-    if (daemon.process != 0 || stat(connection->address.sun_path, &status) < 0) return daemon;
-    daemon.device = status.st_dev;
-    daemon.inode = status.st_ino;
-    daemon.made = status.st_mtim;
-    return daemon;
-}
-
-static bool are_same(const struct daemon *one, const struct daemon *other) {
-    return one->process == other->process && one->device == other->device && one->inode == other->inode &&
-           one->made.tv_sec == other->made.tv_sec && one->made.tv_nsec == other->made.tv_nsec;
+    if (connection->peer_pid != 0 || stat(connection->address.sun_path, &status) < 0)
+        return (struct daemon){ .process = connection->peer_pid };
+    return (struct daemon){ .device = (int64_t)status.st_dev, .inode = (int64_t)status.st_ino,
+                            .made = status.st_mtim.tv_sec, .and_nanoseconds = status.st_mtim.tv_nsec };
 }
 
 /* Whom this seat asks from now on. What a user's own daemon was told isn't told to the system's in its place. Serials
@@ -57,7 +45,8 @@ static bool are_same(const struct daemon *one, const struct daemon *other) {
 static int meet_daemon(struct seat *seat) {
     struct kr *connection = seat->connection;
     const struct daemon none = { 0 }, daemon = daemon_of(connection);
-    bool is_other = !are_same(&seat->daemon, &none) && !are_same(&seat->daemon, &daemon);
+    bool is_other = memcmp(&seat->daemon, &none, sizeof none) != 0 &&
+                    memcmp(&seat->daemon, &daemon, sizeof daemon) != 0;
     if (seat->is_own && connection->place == KR_SYSTEM) return fail_as(ENOSYS);
     if (is_other && seats_begin_serials(seat) < 0) return -1;
     seat->daemon = daemon;
@@ -228,10 +217,7 @@ void caller_leave(struct caller *caller, long result) {
  * never had another; else each thread is a folder, which counts as a link of the folder that they are in. */
 static bool is_one_thread(void) {
     struct stat status;
-#ifdef KEYRETAIN_HAS_SINGLE_THREADED
-    if (__libc_single_threaded) return true;
-#endif
-    return stat("/proc/self/task", &status) == 0 && status.st_nlink == 3;
+    return __libc_single_threaded || (stat("/proc/self/task", &status) == 0 && status.st_nlink == 3);
 }
 
 /* Enters a session that was made just now. EKEYREVOKED where it is gone again. */
@@ -270,12 +256,12 @@ static int export_and_enter(struct seat *seat, const struct kr_session *session)
  * joins it by the environment's word. */
 static int become_session(struct caller *caller, struct kr_session *session) {
     struct seat *seat = caller->seat;
-    struct kr_holder holder;
+    struct kr_file holder;
     enum kr_refusal why;
     if (kr_start_keeper(&holder, session, caller->connection->address.sun_path, false, caller->deadline, &why) < 0)
         return why == KR_REFUSED ? -1 : set_no_daemon();
     int entered = is_one_thread() ? export_and_enter(seat, session) : enter_for_all(seat, session);
-    if (entered < 0) return kr_close_holder(&holder), -1;
+    if (entered < 0) return kr_close_file(&holder), -1;
     if (is_one_thread()) kr_export_holder(&holder, session);
     seats_set_session(session, &holder);
     seat->is_kept = true;

@@ -1,7 +1,6 @@
 /* calls.c: copies what a call's pointers mean out of the caller's memory, lets syscalls.c answer it from these
  * copies, and copies the result back. Each byte is read once, so that nothing can change between a look and its
  * use. */
-#include "connection.h"
 #include "serve.h"
 
 #include <linux/keyctl.h>

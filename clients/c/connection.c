@@ -227,7 +227,7 @@ static int flush_at_once(struct kr *connection) {
  * nothing. */
 static int send_and_receive(struct kr *connection) {
     while (connection->out_start < connection->out_end) {
-        struct pollfd wait = { .fd = connection->descriptor, .events = POLLIN | POLLOUT };
+        struct pollfd wait = { .fd = connection->socket.descriptor, .events = POLLIN | POLLOUT };
         int ready = poll(&wait, 1, kr_milliseconds_left(connection));
         if (ready == 0) return fail_as(ETIMEDOUT);
         if (ready < 0 && (errno != EINTR || connection->interruptible)) return -1;

@@ -30,6 +30,27 @@ int kr_find_daemon(char *path, size_t room, enum kr_place *place);
 /* Whether a daemon that `peer` runs may be told what a user keeps. */
 bool kr_is_trusted(enum kr_place place, uid_t user, uid_t peer);
 
+/* ---- Descriptors ---- */
+
+/* A descriptor and the file that it stands for: a program may close every descriptor, and have something else under the
+ * number. */
+struct kr_file {
+    int descriptor; /* -1 for none */
+    mode_t type;
+    dev_t device;
+    ino_t inode;
+};
+
+/* Takes a descriptor over. False with errno where it is none, or can't be told from what has its number later: then it
+ * is closed. */
+bool kr_take_file(struct kr_file *file, int descriptor);
+
+/* Whether the number is still that file's, in whatever process. */
+bool kr_has_file(const struct kr_file *file);
+
+/* Closes it, if it is; errno stays. */
+void kr_close_file(struct kr_file *file);
+
 /* ---- A connection ---- */
 
 /* From here to the end of the block this thread isn't cancelled; errno is that of the block's end. */
@@ -62,9 +83,7 @@ struct kr_memory {
  * the last ask of which a byte was sent, `answered` that of the last reply. Replies up to `given_up` belong to calls
  * that have ended; those behind it to asks that were sent ahead, or to the one call that waits. */
 struct kr {
-    int descriptor;
-    dev_t device;
-    ino_t inode; /* of the socket: a program may close every descriptor and have something else under the number */
+    struct kr_file socket;
     pid_t owner; /* 0 where is_here tells */
     enum kr_place place;
     bool trusts_anybody;

@@ -19,14 +19,8 @@ enum { NATIVE = AUDIT_ARCH_X86_64, FIRST = 248, OTHER = AUDIT_ARCH_I386, OTHER_F
 #elif defined __aarch64__
 enum { NATIVE = AUDIT_ARCH_AARCH64, FIRST = 217, OTHER = AUDIT_ARCH_ARM, OTHER_FIRST = 309 };
 #define X32_BIT 0u
-#else /* which numbers the calls have is not known here */
-enum { NATIVE = 0, FIRST = 0, OTHER = 0, OTHER_FIRST = 0 };
-#define X32_BIT 0u
-#define IS_UNKNOWN 1
-#endif
-
-#ifndef IS_UNKNOWN
-#define IS_UNKNOWN 0
+#else
+#error "which numbers the calls have is not known here"
 #endif
 
 enum { CALLS = 3 };
@@ -65,7 +59,6 @@ static int install_for_kernel(void) {
 }
 
 int filter_install(void) {
-    if (IS_UNKNOWN) return fail_as(ENOSYS);
     int listener = install_for_kernel();
     if (listener >= 0 || errno != EACCES) return listener;
     if (prctl(PR_SET_NO_NEW_PRIVS, 1, 0, 0, 0) < 0) return -1;

@@ -6,8 +6,6 @@
 #include <spawn.h>
 #include <sys/wait.h>
 
-#include "connection.h"
-
 #ifndef KEYRETAIN_KEEPER
 #define KEYRETAIN_KEEPER "/usr/local/libexec/keyretain/keyretain-keeper"
 #endif
@@ -46,22 +44,20 @@ static int spawn(const struct pipes *pipes, char *const words[], pid_t *started)
     posix_spawn_file_actions_t actions;
     posix_spawnattr_t attributes;
     sigset_t none, all;
+    int error;
     sigemptyset(&none);
     sigfillset(&all);
-    int error = posix_spawn_file_actions_init(&actions);
-    if (error) return error;
-    error = posix_spawnattr_init(&attributes);
-    if (!error) {
-        if (!(error = posix_spawn_file_actions_adddup2(&actions, pipes->life[READING], STDIN_FILENO)) &&
-            !(error = posix_spawn_file_actions_adddup2(&actions, pipes->answer[WRITING], STDOUT_FILENO)) &&
-            !(error = posix_spawn_file_actions_addopen(&actions, STDERR_FILENO, "/dev/null", O_RDWR, 0)) &&
-            !(error = posix_spawnattr_setsigmask(&attributes, &none)) &&
-            !(error = posix_spawnattr_setsigdefault(&attributes, &all)) &&
-            !(error = posix_spawnattr_setflags(
-                  &attributes, POSIX_SPAWN_SETSIGMASK | POSIX_SPAWN_SETSIGDEF | POSIX_SPAWN_SETSID)))
-            error = posix_spawn(started, KEYRETAIN_KEEPER, &actions, &attributes, words, environment);
-        posix_spawnattr_destroy(&attributes);
-    }
+    posix_spawn_file_actions_init(&actions); /* this and the next take no memory */
+    posix_spawnattr_init(&attributes);
+    if (!(error = posix_spawn_file_actions_adddup2(&actions, pipes->life[READING], STDIN_FILENO)) &&
+        !(error = posix_spawn_file_actions_adddup2(&actions, pipes->answer[WRITING], STDOUT_FILENO)) &&
+        !(error = posix_spawn_file_actions_addopen(&actions, STDERR_FILENO, "/dev/null", O_RDWR, 0)) &&
+        !(error = posix_spawnattr_setsigmask(&attributes, &none)) &&
+        !(error = posix_spawnattr_setsigdefault(&attributes, &all)) &&
+        !(error = posix_spawnattr_setflags(
+              &attributes, POSIX_SPAWN_SETSIGMASK | POSIX_SPAWN_SETSIGDEF | POSIX_SPAWN_SETSID)))
+        error = posix_spawn(started, KEYRETAIN_KEEPER, &actions, &attributes, words, environment);
+    posix_spawnattr_destroy(&attributes);
     posix_spawn_file_actions_destroy(&actions);
     return error;
 }
@@ -70,6 +66,7 @@ static int spawn(const struct pipes *pipes, char *const words[], pid_t *started)
  * root's that has taken the user's effective uid: it is left then. A program that ignores SIGCHLD, or waits for any
  * child in its handler, may have reaped it before. */
 static void reap(pid_t started, int64_t deadline) {
+    ERRNO_STAYS;
     pid_t ended;
     while ((ended = waitpid(started, NULL, WNOHANG)) == 0 || (ended < 0 && errno == EINTR)) {
         if (kr_now() >= deadline) return;
@@ -122,17 +119,10 @@ static int read_answer(int from, struct kr_session *session, int64_t deadline, e
 /* ---- A holder ---- */
 
 /* What is inherited: not closed by execve(2), and out of the way of shells. */
-static int keep(struct kr_holder *holder, int life) {
-    struct stat status;
+static int keep(struct kr_file *holder, int life) {
     int kept = fcntl(life, F_DUPFD, KEPT_DESCRIPTOR);
     if (kept < 0) kept = fcntl(life, F_DUPFD, STDERR_FILENO + 1); /* fewer descriptors are allowed than that */
-    if (kept < 0) return -1;
-    if (fstat(kept, &status) < 0) { /* it couldn't be told from what has its number later, and so not be closed */
-        close_one(&kept);
-        return -1;
-    }
-    *holder = (struct kr_holder){ kept, status.st_dev, status.st_ino };
-    return 0;
+    return kr_take_file(holder, kept) ? 0 : -1;
 }
 
 static int start(struct pipes *pipes, char *const words[], struct kr_session *session, int64_t deadline,
@@ -145,13 +135,11 @@ static int start(struct pipes *pipes, char *const words[], struct kr_session *se
     close_one(&pipes->answer[WRITING]);
     if (error) return fail_as(error);
     int result = read_answer(pipes->answer[READING], session, deadline, why);
-    error = errno;
     reap(started, deadline);
-    errno = error;
     return result;
 }
 
-int kr_start_keeper(struct kr_holder *holder, struct kr_session *session, const char *socket, bool links_user,
+int kr_start_keeper(struct kr_file *holder, struct kr_session *session, const char *socket, bool links_user,
                     int64_t deadline, enum kr_refusal *why) {
     struct pipes pipes = { { -1, -1 }, { -1, -1 } };
     char *words[8] = { "keyretain-keeper", "--deaf", "--socket", (char *)socket };
@@ -172,30 +160,18 @@ int kr_start_keeper(struct kr_holder *holder, struct kr_session *session, const 
 
 #define HOLDER_VARIABLE "KEYRETAIN_HOLDER"
 
-int kr_export_holder(const struct kr_holder *holder, const struct kr_session *session) {
+int kr_export_holder(const struct kr_file *holder, const struct kr_session *session) {
     char text[sizeof session->name + 64];
     snprintf(text, sizeof text, "%d:%llu:%llu:%s", holder->descriptor, (unsigned long long)holder->device,
              (unsigned long long)holder->inode, session->name);
     return setenv(HOLDER_VARIABLE, text, 1);
 }
 
-struct kr_holder kr_handed_holder(const struct kr_session *session) {
+struct kr_file kr_handed_holder(const struct kr_session *session) {
     const char *text = secure_getenv(HOLDER_VARIABLE);
     unsigned long long device, inode;
     int descriptor, length = 0;
     bool is_read = text && sscanf(text, "%d:%llu:%llu:%n", &descriptor, &device, &inode, &length) == 3 && length > 0;
-    if (!is_read || strcmp(text + length, session->name) != 0) return (struct kr_holder){ .descriptor = -1 };
-    return (struct kr_holder){ descriptor, (dev_t)device, (ino_t)inode };
-}
-
-bool kr_is_held(const struct kr_holder *holder) {
-    struct stat status;
-    return holder->descriptor >= 0 && fstat(holder->descriptor, &status) == 0 && S_ISFIFO(status.st_mode) &&
-           status.st_dev == holder->device && status.st_ino == holder->inode;
-}
-
-void kr_close_holder(struct kr_holder *holder) {
-    ERRNO_STAYS;
-    if (kr_is_held(holder)) close(holder->descriptor);
-    holder->descriptor = -1;
+    if (!is_read || strcmp(text + length, session->name) != 0) return (struct kr_file){ .descriptor = -1 };
+    return (struct kr_file){ descriptor, S_IFIFO, (dev_t)device, (ino_t)inode };
 }

@@ -16,7 +16,6 @@
 #include <sys/syscall.h>
 #include <sys/wait.h>
 
-#include "connection.h"
 #include "serve.h"
 
 enum { FAILED = 3, DAEMON_PATIENCE = 10000, STACK_BYTES = 256 * 1024, COPIED_AT_ONCE = 1024 * 1024 };
@@ -321,7 +320,7 @@ void containers_end(void) {
         if (all.containers[i].server > 0) kill(all.containers[i].server, SIGKILL);
     for (unsigned i = 0; i < all.settings.most; i++) {
         if (all.containers[i].server <= 0) continue;
-        while (waitpid(all.containers[i].server, NULL, 0) < 0 && errno == EINTR) continue;
+        TEMP_FAILURE_RETRY(waitpid(all.containers[i].server, NULL, 0));
         forget(&all.containers[i]);
     }
 }

@@ -12,7 +12,6 @@
 #include <sys/socket.h>
 
 #include "../../guard/listener.h"
-#include "connection.h"
 #include "serve.h"
 
 #ifndef KEYRETAIN_DAEMON

@@ -3,14 +3,13 @@
  * It is executed by who has a session, with the ids of the session's user and nothing else: so its memory and its
  * descriptors have nothing of the program that started it, and what that program hands on is a pipe and no
  * connection. */
-#include "connection.h"
+#include "session.h"
 
 #include <linux/keyctl.h>
 #include <poll.h>
 #include <sys/prctl.h>
 
 #include "../../guard/listener.h"
-#include "session.h"
 
 enum { REFUSED = 1, USAGE = 2, NO_CONNECTION = 3 };
 enum { PATIENCE_MILLISECONDS = 10000, PATIENCE_DIGITS = 6, LOOK_MILLISECONDS = 1000 };

@@ -4,14 +4,13 @@
  * A keeper makes the session and holds it. The command, which doesn't know it, inherits the writing end of the pipe
  * on which the keeper waits: so the session lasts as long as the command and what it has started. With --syscalls a
  * supervisor holds it: launch.c. */
-#include "connection.h"
+#include "session.h"
 
 #include <limits.h>
 #include <linux/keyctl.h>
 
 #include "../../guard/listener.h"
 #include "launch.h"
-#include "session.h"
 
 #ifndef KEYRETAIN_LIBRARY_FOLDER
 #define KEYRETAIN_LIBRARY_FOLDER "/usr/local/lib/keyretain"
@@ -198,7 +197,7 @@ static void hide_library(void) {
 
 /* A new session, or the one of this name. */
 static void begin(const char *name, const char *path, struct kr_session *session) {
-    struct kr_holder holder;
+    struct kr_file holder;
     enum kr_refusal why;
     if (name && kr_name_session(session, name) < 0) fail(REFUSED, "the name");
     if (kr_start_keeper(&holder, session, path, true, kr_now() + PATIENCE_MILLISECONDS, &why) == 0) {

@@ -1,49 +1,14 @@
-/* keyretain.h: the asks of keyretaind(8), one function each.
+/* keyretain.h: the asks of keyretaind(8), one function each. keyretain-protocol(7) says what each does and in what
+ * order it is refused. libkeyretain(3) is the manual page of this file: who may listen, errors, waiting, threads and
+ * processes.
  *
- * A `struct kr` is one connection and so one client of the daemon: contexts and queues belong to it and end with it.
- * keyretain-protocol(7) says what each ask does and in what order it is refused; libkeyretain(3) is the manual page
- * of this file.
+ * A `struct kr` is one connection and so one client of the daemon: contexts and queues belong to it and end with it. It
+ * is used by one thread at a time, for one identity of one process: who has it may say HELLO as anybody. A call answers
+ * 0, a number or a length, or -1 with errno.
  *
- * ANSWERS. A call that is accepted answers 0, a number, or the length of a text. One that is not answers -1 and sets
- * errno, either to the daemon's error (the names and numbers of keyretain-protocol(7)), or to one of these:
- *
- *   EINVAL      the ask fits no frame: a name above 65535 bytes, or an ask above 65536; nothing was sent
- *   ENOMEM      also: out of memory in kr_open
- *   EACCES      also, of kr_open: who listens isn't trusted; nothing was sent
- *   EBUSY       also: replies to asks of kr_send are still to be received; nothing was sent
- *   EINTR       a signal came while the reply was awaited, and kr_set_interruptible was called
- *   ETIMEDOUT   the time of kr_set_patience has passed
- *   ECONNRESET  the connection is lost: the daemon ended it, or it is another process's
- *   EPROTO      what came is no reply to the ask
- *
- * After the last two, kr_is_broken is true, and each further call answers ECONNRESET. After EINTR and ETIMEDOUT it is
- * not known whether the ask was carried out; the connection can be used, and a reply that comes late is dropped.
- *
- * WHO ANSWERS. A secret is told to whoever listens at a path. So before anything is sent the kernel is asked who that
- * is (SO_PEERCRED in unix(7)), once for each connection:
- *
- *   a path that was found   the effective user. A user's own socket is meant where the user's runtime directory has a
- *                           folder keyretain, also if nobody listens there
- *   the system's path       root or the system's daemon, which is the owner of the folder /run/keyretain
- *   a path that was named   (in an argument, or by $KEYRETAIN_SOCKET) the effective user, root or the system's daemon;
- *                           with KR_ANY_SERVER anybody
- *
- * Whoever has a connection may say HELLO as anybody and read what that user may read. So a connection isn't handed on:
- * not to a forked child, not over execve(2), and not to another identity that the process takes.
- *
- * UNITS. Times are seconds, but for kr_set_patience, which takes milliseconds. Masks are those of keyctl_setperm(3).
- * Serials are above 2; the ids -1 to -5 are the keyrings of keyrings(7), KEY_SPEC_THREAD_KEYRING and so on. Lengths and
- * rooms are bytes. Texts end with a null byte, and NULL is the empty one. No answer has a null byte put after it.
- *
- * THREADS. The library has no variables of its own. One connection must be used by one thread at a time: a program
- * that shares it locks around each call. Connections are independent of each other. No call may be made in a signal
- * handler. A thread is not cancelled within a call.
- *
- * PROCESSES. The descriptor is closed by execve(2). After fork(2) a connection stays the parent's: in the child each
- * call answers ECONNRESET, and kr_close closes the child's copy of the descriptor and leaves the parent's connection
- * as it was. The child has no copy of what was sent and received. A descriptor that the program closed, and whose
- * number something else has since, is never written to.
- */
+ * Times are seconds, but for milliseconds that are named so. Masks are those of keyctl_setperm(3). Serials are above 2;
+ * the ids -1 to -5 are the keyrings of keyrings(7), KEY_SPEC_THREAD_KEYRING and so on. Lengths and rooms are bytes.
+ * Texts end with a null byte, and NULL is the empty one. No answer has a null byte put after it. */
 #ifndef KEYRETAIN_H
 #define KEYRETAIN_H
 
@@ -191,10 +156,7 @@ struct kr_note {
 };
 
 /* Decodes the first of `*length` bytes of records, as kr_read_queue puts them, and moves both behind it: 1; 0 where no
- * byte is left; -1 with EPROTO where the bytes are no record, and then both stay.
- *
- * No descriptor becomes readable when a note comes, as a daemon says nothing unasked: a program asks by kr_read_queue,
- * ten times a second where a person waits, once a second else. */
+ * byte is left; -1 with EPROTO where the bytes are no record, and then both stay. */
 int kr_next_note(const void **records, size_t *length, struct kr_note *note);
 
 /* ---- Asks that are sent ahead: many are under way, and their replies are received in order ---- */

@@ -1,6 +1,5 @@
 /* keyutils.c: the functions of libkeyutils 1.6.3. */
 #include "caller.h"
-#include "connection.h"
 #include "keyutils.h"
 #include "rows.h"
 #include "session.h"
@@ -267,12 +266,9 @@ struct wanted {
 /* The description, which stands behind four semicolons, of a key of this type; else NULL. */
 static const char *description_of_type(const char *text, const char *type) {
     size_t length = strlen(type);
-    if (strncmp(text, type, length) != 0 || text[length] != ';') return NULL;
-    for (int i = 0; text && i < 4; i++) {
-        text = strchr(text, ';');
-        if (text) text++;
-    }
-    return text;
+    int behind = 0;
+    if (strncmp(text, type, length) == 0) sscanf(text + length, ";%*u;%*u;%*x;%n", &behind);
+    return behind > 0 ? text + length + behind : NULL;
 }
 
 static int look_at_key(key_serial_t parent, key_serial_t key, char *text, int length, void *data) {

@@ -61,10 +61,7 @@ static void run_command(int socket, char **command) {
 
 /* ---- The supervisor ---- */
 
-static void tell(struct report report) {
-    ssize_t written;
-    while ((written = write(REPORTS, &report, sizeof report)) < 0 && errno == EINTR) continue;
-}
+static void tell(struct report report) { TEMP_FAILURE_RETRY(write(REPORTS, &report, sizeof report)); }
 
 static void give_up(int status) {
     tell((struct report){ FAILED, status, errno });
@@ -148,18 +145,14 @@ static void end_as(int status) {
 }
 
 static bool read_report(int reports, struct report *report) {
-    ssize_t got;
-    while ((got = read(reports, report, sizeof *report)) < 0 && errno == EINTR) continue;
-    return got == (ssize_t)sizeof *report;
+    return TEMP_FAILURE_RETRY(read(reports, report, sizeof *report)) == (ssize_t)sizeof *report;
 }
 
 /* Without the supervisor the command goes on, without keys, and is this process's child once that has ended. */
 static void wait_without(pid_t supervisor) {
     int status;
-    pid_t ended;
-    while (waitpid(supervisor, &status, 0) < 0 && errno == EINTR) continue;
-    while ((ended = waitpid(command_process, &status, 0)) < 0 && errno == EINTR) continue;
-    if (ended == command_process && command_process > 0) end_as(status);
+    TEMP_FAILURE_RETRY(waitpid(supervisor, &status, 0));
+    if (command_process > 0 && TEMP_FAILURE_RETRY(waitpid(command_process, &status, 0)) > 0) end_as(status);
     exit(NO_CONNECTION);
 }
 
@@ -183,8 +176,7 @@ static int try_filter(void) {
     pid_t child = fork();
     if (child < 0) return errno;
     if (child == 0) _exit(filter_install() < 0 ? errno : 0);
-    while (waitpid(child, &status, 0) < 0)
-        if (errno != EINTR) return errno;
+    if (TEMP_FAILURE_RETRY(waitpid(child, &status, 0)) < 0) return errno;
     return WIFEXITED(status) ? WEXITSTATUS(status) : EIO;
 }
 

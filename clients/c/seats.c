@@ -24,8 +24,8 @@ static struct {
     unsigned last_age;
     unsigned long turn;
     struct kr_session *session;
-    struct kr_holder holder; /* what keeps it */
-    struct kr_holder handed; /* the same, where it was begun by what has executed this */
+    struct kr_file holder; /* what keeps it */
+    struct kr_file handed; /* the same, where it was begun by what has executed this */
     pthread_key_t end_of_thread;
     bool has_end_of_thread;
 } process = { .lock = PTHREAD_MUTEX_INITIALIZER, .holder = { .descriptor = -1 }, .handed = { .descriptor = -1 } };
@@ -278,16 +278,12 @@ static void leave_line(const struct waiter *waiter) {
 /* Waits until a seat is passed on. NULL with ETIMEDOUT. */
 static struct seat *wait_in_line(const struct kr_identity *identity, int64_t deadline) {
     const struct timespec end = { .tv_sec = deadline / 1000, .tv_nsec = deadline % 1000 * 1000000 };
-    struct waiter self = { .identity = identity }, **at = &process.first;
-    pthread_condattr_t monotonic;
-    pthread_condattr_init(&monotonic);
-    pthread_condattr_setclock(&monotonic, CLOCK_MONOTONIC);
-    pthread_cond_init(&self.is_called, &monotonic);
-    pthread_condattr_destroy(&monotonic);
+    struct waiter self = { .identity = identity, .is_called = PTHREAD_COND_INITIALIZER }, **at = &process.first;
     while (*at) at = &(*at)->next;
     *at = &self;
     int error = 0;
-    while (!self.seat && error == 0) error = pthread_cond_timedwait(&self.is_called, &process.lock, &end);
+    while (!self.seat && error == 0)
+        error = pthread_cond_clockwait(&self.is_called, &process.lock, CLOCK_MONOTONIC, &end);
     if (!self.seat) leave_line(&self);
     pthread_cond_destroy(&self.is_called);
     errno = error;
@@ -375,19 +371,19 @@ bool seats_session(struct kr_session *session) {
 
 bool seats_may_let_go(const struct seat *seat) {
     lock();
-    bool may = seat->own == 0 && (kr_is_held(&process.holder) || kr_is_held(&process.handed));
+    bool may = seat->own == 0 && (kr_has_file(&process.holder) || kr_has_file(&process.handed));
     unlock();
     return may;
 }
 
-void seats_set_session(struct kr_session *session, const struct kr_holder *holder) {
+void seats_set_session(struct kr_session *session, const struct kr_file *holder) {
     lock();
     struct kr_session *old_session = process.session;
-    struct kr_holder old_holder = process.holder;
+    struct kr_file old_holder = process.holder;
     process.session = session;
     process.holder = *holder;
     process.handed.descriptor = -1;
     unlock();
-    kr_close_holder(&old_holder);
+    kr_close_file(&old_holder);
     free(old_session);
 }

@@ -3,10 +3,7 @@
 #define KEYRETAIN_SEATS_H
 
 #include "caller.h"
-#include "connection.h"
 #include "session.h"
-
-#include <time.h>
 
 /* Identities that are remembered: seteuid(2) and back must not lose the process keyring. */
 enum { SEATS = 4 };
@@ -14,10 +11,7 @@ enum { SEATS = 4 };
 /* Which daemon it is. It is known by its process, and where that has none in this PID namespace by the socket's file,
  * which each makes anew. */
 struct daemon {
-    pid_t process;
-    dev_t device;
-    ino_t inode;
-    struct timespec made;
+    int64_t process, device, inode, made, and_nanoseconds;
 };
 
 /* A context of the connection of this age, no other's. All zero is none. One serves all threads of an identity: so
@@ -89,6 +83,6 @@ bool seats_session(struct kr_session *session);
 bool seats_may_let_go(const struct seat *seat);
 
 /* Takes both over; those before end. */
-void seats_set_session(struct kr_session *session, const struct kr_holder *holder);
+void seats_set_session(struct kr_session *session, const struct kr_file *holder);
 
 #endif

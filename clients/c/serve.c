@@ -11,8 +11,6 @@
 #include <sys/syscall.h>
 #include <sys/wait.h>
 
-#include "connection.h"
-
 #ifndef SECCOMP_IOCTL_NOTIF_SET_FLAGS
 #define SECCOMP_IOCTL_NOTIF_SET_FLAGS _IOW('!', 4, __u64)
 #define SECCOMP_USER_NOTIF_FD_SYNC_WAKE_UP 1ul
@@ -93,18 +91,15 @@ int serve_send_listener(int socket, int listener) {
     head->cmsg_type = SCM_RIGHTS;
     head->cmsg_len = CMSG_LEN(sizeof listener);
     memcpy(CMSG_DATA(head), &listener, sizeof listener);
-    ssize_t sent;
-    while ((sent = sendmsg(socket, &message, MSG_NOSIGNAL)) < 0 && errno == EINTR) continue;
-    return sent == 1 ? 0 : -1;
+    return TEMP_FAILURE_RETRY(sendmsg(socket, &message, MSG_NOSIGNAL)) == 1 ? 0 : -1;
 }
 
 int serve_receive_listener(int socket) {
     char byte, room[CMSG_SPACE(sizeof(int))] = "";
     struct iovec bytes = { &byte, 1 };
     struct msghdr message = { .msg_iov = &bytes, .msg_iovlen = 1, .msg_control = room, .msg_controllen = sizeof room };
-    ssize_t got;
     int listener;
-    while ((got = recvmsg(socket, &message, MSG_CMSG_CLOEXEC)) < 0 && errno == EINTR) continue;
+    ssize_t got = TEMP_FAILURE_RETRY(recvmsg(socket, &message, MSG_CMSG_CLOEXEC));
     if (got == 0) errno = ECONNRESET;
     if (got <= 0) return -1;
     const struct cmsghdr *head = CMSG_FIRSTHDR(&message);
@@ -182,11 +177,10 @@ static void reap(void) {
 
 /* The child loses the filter before it can be waited for. */
 static void wait_for_child(void) {
-    pid_t child = all.settings->tracees.child, process;
+    pid_t child = all.settings->tracees.child;
     int status;
     if (child <= 0 || all.has_told) return;
-    while ((process = waitpid(child, &status, 0)) < 0 && errno == EINTR) continue;
-    if (process == child) note_end(child, status);
+    if (TEMP_FAILURE_RETRY(waitpid(child, &status, 0)) == child) note_end(child, status);
 }
 
 /* ---- The loop ---- */

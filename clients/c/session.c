@@ -4,8 +4,6 @@
 
 #include <sys/random.h>
 
-#include "connection.h"
-
 enum { DECIMAL = 10 };
 
 /* ---- Identity ---- */

@@ -45,7 +45,7 @@ static int wait_in_socket(struct kr *connection, int which, int left) {
     if (*set == wanted || (wanted > 0 && *set > wanted && *set - wanted <= *set / 128)) return 0;
     struct timeval time = { .tv_sec = wanted / 1000, .tv_usec = wanted % 1000 * 1000 };
     int option = which == IN_SEND ? SO_SNDTIMEO : SO_RCVTIMEO;
-    if (setsockopt(connection->descriptor, SOL_SOCKET, option, &time, sizeof time) < 0) return -1;
+    if (setsockopt(connection->socket.descriptor, SOL_SOCKET, option, &time, sizeof time) < 0) return -1;
     *set = wanted;
     return 0;
 }
@@ -55,6 +55,28 @@ static int prepare_to_wait(struct kr *connection, int which, int *flags) {
     int left = kr_milliseconds_left(connection);
     *flags = left == 0 ? MSG_DONTWAIT : 0;
     return left == 0 ? 0 : wait_in_socket(connection, which, left);
+}
+
+/* ---- Descriptors ---- */
+
+bool kr_take_file(struct kr_file *file, int descriptor) {
+    struct stat status;
+    if (descriptor < 0) return false;
+    if (fstat(descriptor, &status) < 0) return close_one(&descriptor), false;
+    *file = (struct kr_file){ descriptor, status.st_mode & S_IFMT, status.st_dev, status.st_ino };
+    return true;
+}
+
+bool kr_has_file(const struct kr_file *file) {
+    struct stat status;
+    return file->descriptor >= 0 && fstat(file->descriptor, &status) == 0 && (status.st_mode & S_IFMT) == file->type &&
+           status.st_dev == file->device && status.st_ino == file->inode;
+}
+
+void kr_close_file(struct kr_file *file) {
+    ERRNO_STAYS;
+    if (kr_has_file(file)) close(file->descriptor);
+    file->descriptor = -1;
 }
 
 /* ---- Opening ---- */
@@ -90,22 +112,10 @@ int kr_locate(struct kr_where *where, const char *path) {
     return 0;
 }
 
-static int have_socket(struct kr *connection) {
-    struct stat status;
-    int opened = open_socket();
-    connection->waits[IN_SEND] = connection->waits[IN_RECV] = 0;
-    if (opened < 0) return -1;
-    if (fstat(opened, &status) < 0) return close_one(&opened), -1;
-    connection->descriptor = opened;
-    connection->inode = status.st_ino;
-    connection->device = status.st_dev;
-    return 0;
-}
-
 static int prepare(struct kr *connection, const struct kr_where *where, unsigned flags) {
     _Static_assert(sizeof where->path == sizeof connection->address.sun_path, "a path of unix(7)");
     if (flags & ~(unsigned)KR_ANY_SERVER) return fail_as(EINVAL);
-    connection->descriptor = -1;
+    connection->socket.descriptor = -1;
     connection->patience = USUAL_PATIENCE;
     connection->until = KR_NEVER;
     connection->trusts_anybody = flags & KR_ANY_SERVER;
@@ -113,7 +123,7 @@ static int prepare(struct kr *connection, const struct kr_where *where, unsigned
     connection->address.sun_family = AF_UNIX;
     memcpy(connection->address.sun_path, where->path, sizeof where->path);
     connection->memory = make_memory(&connection->owner);
-    return connection->memory ? have_socket(connection) : -1;
+    return connection->memory && kr_take_file(&connection->socket, open_socket()) ? 0 : -1;
 }
 
 struct kr *kr_prepare(const struct kr_where *where, unsigned flags, uid_t user) {
@@ -133,7 +143,7 @@ static int connect_in_time(struct kr *connection) {
     for (;;) {
         int left = kr_milliseconds_left(connection);
         if (wait_in_socket(connection, IN_SEND, left == 0 ? 1 : left) < 0) return -1;
-        if (connect(connection->descriptor, address, length) == 0) return 0;
+        if (connect(connection->socket.descriptor, address, length) == 0) return 0;
         bool is_interrupted = errno == EINTR && !connection->interruptible;
         if (is_interrupted && left != 0) continue;
         return is_interrupted || errno == EAGAIN ? fail_as(ETIMEDOUT) : -1;
@@ -151,7 +161,7 @@ static bool may_be_told(const struct kr *connection) {
 static int check_peer(struct kr *connection) {
     struct ucred peer;
     socklen_t length = sizeof peer;
-    if (getsockopt(connection->descriptor, SOL_SOCKET, SO_PEERCRED, &peer, &length) < 0) return -1;
+    if (getsockopt(connection->socket.descriptor, SOL_SOCKET, SO_PEERCRED, &peer, &length) < 0) return -1;
     connection->peer_uid = peer.uid;
     connection->peer_gid = peer.gid;
     connection->peer_pid = peer.pid;
@@ -176,18 +186,9 @@ struct kr *kr_open_with(const char *path, unsigned flags, int milliseconds) {
 
 struct kr *kr_open(const char *path) { return kr_open_with(path, 0, USUAL_PATIENCE); }
 
-/* ---- Closing ---- */
-
-/* Whether the number is still that of the socket, in whatever process. */
-static bool is_socket(const struct kr *connection) {
-    struct stat status;
-    return connection->descriptor >= 0 && fstat(connection->descriptor, &status) == 0 && S_ISSOCK(status.st_mode) &&
-           status.st_ino == connection->inode && status.st_dev == connection->device;
-}
-
 bool kr_is_ours(const struct kr *connection) {
     bool is_here = connection->owner == 0 ? connection->memory->is_here : connection->owner == getpid();
-    return is_here && is_socket(connection);
+    return is_here && kr_has_file(&connection->socket);
 }
 
 bool kr_see(struct kr *connection) {
@@ -201,7 +202,7 @@ bool kr_take_name(struct kr *connection) {
         int length = snprintf(name.sun_path + 1, sizeof name.sun_path - 1, "keyretain-kept/%d%.80s", i,
                               connection->address.sun_path);
         socklen_t size = (socklen_t)(offsetof(struct sockaddr_un, sun_path) + 1 + (size_t)length);
-        connection->has_name = bind(connection->descriptor, (const struct sockaddr *)&name, size) == 0;
+        connection->has_name = bind(connection->socket.descriptor, (const struct sockaddr *)&name, size) == 0;
     }
     return connection->has_name;
 }
@@ -210,7 +211,7 @@ void kr_close(struct kr *connection) {
     ERRNO_STAYS;
     UNCANCELLED;
     if (!connection) return;
-    if (is_socket(connection)) close(connection->descriptor);
+    kr_close_file(&connection->socket);
     if (connection->memory) munmap(connection->memory, sizeof *connection->memory); /* the system clears its pages */
     free(connection);
 }
@@ -224,7 +225,10 @@ int kr_set_patience(struct kr *connection, int milliseconds) {
 
 void kr_set_interruptible(struct kr *connection, int interruptible) { connection->interruptible = interruptible != 0; }
 int kr_is_broken(const struct kr *connection) { return connection->broken; }
-int kr_descriptor(const struct kr *connection) { return is_socket(connection) ? connection->descriptor : -1; }
+
+int kr_descriptor(const struct kr *connection) {
+    return kr_has_file(&connection->socket) ? connection->socket.descriptor : -1;
+}
 
 void kr_peer(const struct kr *connection, uint32_t *uid, uint32_t *gid, int32_t *pid) {
     if (uid) *uid = connection->peer_uid;
@@ -247,7 +251,7 @@ int kr_flush(struct kr *connection) {
     int flags;
     while (connection->out_start < connection->out_end) {
         if (prepare_to_wait(connection, IN_SEND, &flags) < 0) return kr_break_off(connection, ECONNRESET);
-        ssize_t sent = send(connection->descriptor, out + connection->out_start,
+        ssize_t sent = send(connection->socket.descriptor, out + connection->out_start,
                             connection->out_end - connection->out_start, MSG_NOSIGNAL | flags);
         if (sent >= 0)
             connection->out_start += (size_t)sent;
@@ -263,7 +267,7 @@ int kr_receive_bytes(struct kr *connection) {
     int flags;
     for (;;) {
         if (prepare_to_wait(connection, IN_RECV, &flags) < 0) return kr_break_off(connection, ECONNRESET);
-        ssize_t got = recv(connection->descriptor, connection->memory->in + connection->in_length,
+        ssize_t got = recv(connection->socket.descriptor, connection->memory->in + connection->in_length,
                            sizeof connection->memory->in - connection->in_length, flags);
         if (got == 0) return kr_break_off(connection, ECONNRESET);
         if (got > 0) {

@@ -6,7 +6,6 @@
 
 #include "caller.h"
 #include "session.h"
-#include "wire.h"
 
 typedef const unsigned long *values;
 

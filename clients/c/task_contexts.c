@@ -3,7 +3,6 @@
 
 #include <linux/keyctl.h>
 
-#include "connection.h"
 #include "tracees.h"
 
 enum { LOOKED_AT = 64, GIVEN_UP = 8, MOST = KR_CONTEXTS * 3 / 4 };

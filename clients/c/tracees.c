@@ -30,7 +30,7 @@ static bool look_at(pid_t thread, struct arrival *arrival) {
     if (memory_open(&all.memory, thread) < 0 || !proc_read_status(thread, &all.status) || !admission_has_ids(status))
         return false;
     admission_read(&all.asker.process, thread, status);
-    all.asker.is_elsewhere = admission_is_elsewhere(thread);
+    all.asker.is_elsewhere = maps_are_others(thread);
     arrival->process = find_process(status->process);
     if ((arrival->image = proc_image(thread)) == 0) return false;
     arrival->has_executed = arrival->process && has_executed(arrival->process, arrival->image);
