@@ -24,8 +24,8 @@ struct kr_where {
     char path[KR_PATH_ROOM];
 };
 
-/* Puts the path there and answers its length, as kr_default_path does; -1 with errno. */
-int kr_find_daemon(char *path, size_t room, enum kr_place *place);
+/* Where a daemon listens: at this path, or for NULL at that which is found. -1 with errno. */
+int kr_locate(struct kr_where *where, const char *path);
 
 /* Whether a daemon that `peer` runs may be told what a user keeps. */
 bool kr_is_trusted(enum kr_place place, uid_t user, uid_t peer);
@@ -119,9 +119,6 @@ struct kr_answer {
 
 /* A connection for this user whose socket isn't connected yet: no call waits in here. NULL with errno. */
 struct kr *kr_prepare(const struct kr_where *where, unsigned flags, uid_t user);
-
-/* Where a daemon listens: at this path, or for NULL at that which is found. -1 with errno. */
-int kr_locate(struct kr_where *where, const char *path);
 
 /* Connects it by its deadline, and sees who listens; -1 with errno. */
 int kr_connect(struct kr *connection);

@@ -28,6 +28,7 @@ enum { LISTENERS = 3, COPY = 4, KEPT = 5 }; /* descriptors of a server */
 /* With an empty id it is a free place. */
 struct container {
     char id[CONTAINER_ID_MAX + 1];
+    char path[KR_PATH_ROOM]; /* of its daemon's socket */
     pid_t server, first;
     int process; /* the first one, as pidfd_open(2) opens it, or -1 */
     int in, out; /* what is sent to `in` comes out for the server */
@@ -87,10 +88,10 @@ static bool limit_memory(unsigned long bytes) {
     return bytes == 0 || (setrlimit(RLIMIT_STACK, &stack) == 0 && setrlimit(RLIMIT_AS, &space) == 0);
 }
 
-static _Noreturn void become_daemon(const struct container *container, const char *path, pid_t parent, int answers) {
+static _Noreturn void become_daemon(const struct container *container, pid_t parent, int answers) {
     static char one_arena[] = "MALLOC_ARENA_MAX=1", bound_now[] = "LD_BIND_NOW=1";
     char *environment[] = { one_arena, bound_now, NULL };
-    char *words[] = { "keyretaind", "--socket", (char *)path, "--lanes", "8", NULL };
+    char *words[] = { "keyretaind", "--socket", (char *)container->path, "--lanes", "8", NULL };
     if (drop_capabilities() && end_with(parent) && limit_memory(all.settings.memory) &&
         dup2(answers, STDOUT_FILENO) >= 0) {
         execveat(COPY, "", words, environment, AT_EMPTY_PATH);
@@ -119,12 +120,12 @@ static _Noreturn void fail_daemon(const struct container *container) {
     _exit(FAILED);
 }
 
-static void start_daemon(const struct container *container, const char *path) {
+static void start_daemon(const struct container *container) {
     pid_t parent = getpid();
     int ends[2];
     if (pipe2(ends, O_CLOEXEC) < 0) fail(container, "a pipe");
     pid_t daemon = fork();
-    if (daemon == 0) become_daemon(container, path, parent, ends[1]);
+    if (daemon == 0) become_daemon(container, parent, ends[1]);
     if (daemon < 0) fail(container, "its daemon");
     close(ends[1]);
     errno = 0;
@@ -152,16 +153,16 @@ static void reset_signals(void) {
 
 /* Serves the container until its last listener has gone, and ends the process: with 0 then, and else with FAILED. It
  * is a child of the agent, with which it ends. */
-static _Noreturn void serve_container(const struct container *container, const char *path, pid_t agent) {
+static _Noreturn void serve_container(const struct container *container, pid_t agent) {
     char name[sizeof "_ses." + CONTAINER_ID_MAX];
     const struct serve_settings settings = {
-        .tracees = { .socket = path, .name = name, .is_container = true, .first = container->first },
+        .tracees = { .socket = container->path, .name = name, .is_container = true, .first = container->first },
         .more = LISTENERS };
     snprintf(name, sizeof name, "_ses.%s", container->id);
     if (!end_with(agent)) _exit(FAILED);
     keep_descriptors(container);
     reset_signals();
-    start_daemon(container, path);
+    start_daemon(container);
     int listener = serve_receive_listener(LISTENERS);
     if (listener < 0) fail(container, "its listener");
     if (serve(listener, &settings) != SERVE_DONE) fail(container, "its session");
@@ -191,18 +192,9 @@ static bool open_folder(const char *path) {
     return flock(all.folder, LOCK_EX | LOCK_NB) == 0;
 }
 
-/* The name of the daemon's socket has nothing of the container's id. */
-static bool put_socket_path(char *path, size_t room, const struct container *container) {
-    int length = snprintf(path, room, "%s/%u.daemon", all.settings.folder, (unsigned)(container - all.containers));
-    return length > 0 && (size_t)length < room;
-}
-
-static void remove_socket(const struct container *container) {
-    char path[KR_PATH_ROOM];
-    if (put_socket_path(path, sizeof path, container)) unlink(path);
-}
-
 bool containers_begin(const struct containers_settings *settings) {
+    errno = ENAMETOOLONG;
+    if (strlen(settings->folder) + sizeof "/4095.daemon" > KR_PATH_ROOM) return false;
     all.settings = *settings;
     all.containers = calloc(settings->most, sizeof *all.containers);
     if (!all.containers || !open_folder(settings->folder)) return false;
@@ -249,11 +241,13 @@ static struct container *begin(const char *id, pid_t first) {
     int process = first > 0 ? proc_open(first) : -1;
     *container = (struct container){ .first = first, .process = process, .in = ends[0], .out = ends[1] };
     strcpy(container->id, id);
+    snprintf(container->path, sizeof container->path, "%s/%u.daemon", all.settings.folder,
+             (unsigned)(container - all.containers)); /* nothing of the container's id */
     return container;
 }
 
 static void forget(struct container *container) {
-    remove_socket(container);
+    unlink(container->path);
     close_one(&container->process);
     close(container->in);
     close(container->out);
@@ -273,12 +267,10 @@ static bool has_listeners(const struct container *container) {
 }
 
 static bool start_server(struct container *container) {
-    char path[KR_PATH_ROOM];
     pid_t agent = getpid();
-    if (!put_socket_path(path, sizeof path, container)) return false;
-    unlink(path);
+    unlink(container->path);
     container->server = fork();
-    if (container->server == 0) serve_container(container, path, agent);
+    if (container->server == 0) serve_container(container, agent);
     return container->server > 0;
 }
 

@@ -8,13 +8,17 @@
 #define SYSTEM_FOLDER "/run/keyretain"
 #define SOCKET_NAME "/keyretain.sock"
 
-static int put_path(char *path, size_t room, const char *folder, const char *name) {
-    int length = snprintf(path, room, "%s%s", folder, name);
-    return length >= 0 && (size_t)length < room ? length : fail_as(ENAMETOOLONG);
+/* An empty path would be a name that anybody may take. */
+static int put(struct kr_where *where, enum kr_place place, const char *folder, const char *name) {
+    int length = snprintf(where->path, sizeof where->path, "%s%s", folder, name);
+    where->place = place;
+    if (length > 0 && (size_t)length < sizeof where->path) return 0;
+    *where->path = '\0'; /* it leads elsewhere */
+    return fail_as(length == 0 ? ENOENT : ENAMETOOLONG);
 }
 
 /* $XDG_RUNTIME_DIR, unless it is another user's, which su(1) may leave in the environment. */
-static int put_runtime_folder(char *path, size_t room) {
+static bool put_runtime_folder(char *path, size_t room) {
     const char *folder = getenv("XDG_RUNTIME_DIR");
     struct stat status;
     char usual[32];
@@ -22,7 +26,8 @@ static int put_runtime_folder(char *path, size_t room) {
         snprintf(usual, sizeof usual, "/run/user/%u", (unsigned)geteuid());
         folder = usual;
     }
-    return put_path(path, room, folder, "/keyretain");
+    int length = snprintf(path, room, "%s/keyretain", folder);
+    return length >= 0 && (size_t)length < room;
 }
 
 /* Whether the user has set up a daemon. It is meant even while it is down: what its user keeps isn't told to the
@@ -32,22 +37,21 @@ static bool is_set_up(const char *folder) {
     return stat(folder, &status) == 0 || (errno != ENOENT && errno != ENOTDIR);
 }
 
-int kr_find_daemon(char *path, size_t room, enum kr_place *place) {
+int kr_locate(struct kr_where *where, const char *path) {
     bool is_set_uid = getauxval(AT_SECURE) != 0;
     const char *named = is_set_uid ? NULL : getenv("KEYRETAIN_SOCKET");
     char folder[PATH_MAX];
-    *place = KR_NAMED;
-    if (named && *named) return put_path(path, room, named, "");
-    *place = KR_OWN;
-    if (!is_set_uid && put_runtime_folder(folder, sizeof folder) > 0 && is_set_up(folder))
-        return put_path(path, room, folder, SOCKET_NAME);
-    *place = KR_SYSTEM;
-    return put_path(path, room, SYSTEM_FOLDER, SOCKET_NAME);
+    if (path || (named && *named)) return put(where, KR_NAMED, path ? path : named, "");
+    if (!is_set_uid && put_runtime_folder(folder, sizeof folder) && is_set_up(folder))
+        return put(where, KR_OWN, folder, SOCKET_NAME);
+    return put(where, KR_SYSTEM, SYSTEM_FOLDER, SOCKET_NAME);
 }
 
 int kr_default_path(char *path, size_t room) {
-    enum kr_place place;
-    return kr_find_daemon(path, room, &place);
+    struct kr_where where;
+    if (kr_locate(&where, NULL) < 0) return -1;
+    int length = snprintf(path, room, "%s", where.path);
+    return (size_t)length < room ? length : fail_as(ENAMETOOLONG);
 }
 
 /* As whom the system's daemon runs: who owns its folder, which only root can make there. */

@@ -101,17 +101,6 @@ static struct kr_memory *make_memory(pid_t *owner) {
     return memory;
 }
 
-/* An empty path would be a name that anybody may take. */
-int kr_locate(struct kr_where *where, const char *path) {
-    if (!path) return kr_find_daemon(where->path, sizeof where->path, &where->place) < 0 ? -1 : 0;
-    size_t length = strlen(path);
-    if (length == 0) return fail_as(ENOENT);
-    if (length >= sizeof where->path) return fail_as(ENAMETOOLONG);
-    where->place = KR_NAMED;
-    memcpy(where->path, path, length + 1);
-    return 0;
-}
-
 static int prepare(struct kr *connection, const struct kr_where *where, unsigned flags) {
     _Static_assert(sizeof where->path == sizeof connection->address.sun_path, "a path of unix(7)");
     if (flags & ~(unsigned)KR_ANY_SERVER) return fail_as(EINVAL);
@@ -174,7 +163,7 @@ int kr_connect(struct kr *connection) {
 
 struct kr *kr_open_with(const char *path, unsigned flags, int milliseconds) {
     UNCANCELLED;
-    struct kr_where where = { .place = KR_NAMED };
+    struct kr_where where;
     struct kr *connection = kr_locate(&where, path) < 0 ? NULL : kr_prepare(&where, flags, geteuid());
     if (!connection) return NULL;
     connection->patience = milliseconds < 0 ? -1 : milliseconds;

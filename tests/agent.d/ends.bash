@@ -237,6 +237,7 @@ try_places() {
   refuses 'a file in the place of the socket' --socket "$dir/file" --folder "$dir/other"
   is 'that file' 'there' "$(if [ -f "$dir/file" ]; then echo there; fi)"
   refuses 'a path that is too long' --socket "$dir/$(printf '%0120d' 0)" --folder "$dir/other"
+  refuses 'a folder whose path is too long' --socket "$dir/other.sock" --folder "$dir/$(printf '%0120d' 0)"
   refuses 'a daemon that lacks' --socket "$dir/other.sock" --folder "$dir/other" --daemon "$dir/none"
   refuses 'a folder that lacks' --socket "$dir/other.sock" --folder "$dir/none/none"
   try_strange_numbers
