@@ -42,7 +42,7 @@ bool admission_may_be_given(const struct proc_status *child, const struct sessio
 enum { MAP_RANGES = 340 };
 struct map {
     unsigned count;
-    struct {
+    struct range {
         unsigned inside, outside, length;
     } ranges[MAP_RANGES];
 };

@@ -34,8 +34,8 @@ static int set_no_daemon(void) {
 
 static struct daemon daemon_of(const struct kr *connection) {
     struct stat status;
-    if (connection->peer_pid != 0 || stat(connection->address.sun_path, &status) < 0)
-        return (struct daemon){ .process = connection->peer_pid };
+    if (connection->peer.pid != 0 || stat(connection->address.sun_path, &status) < 0)
+        return (struct daemon){ .process = connection->peer.pid };
     return (struct daemon){ .device = (int64_t)status.st_dev, .inode = (int64_t)status.st_ino,
                             .made = status.st_mtim.tv_sec, .and_nanoseconds = status.st_mtim.tv_nsec };
 }

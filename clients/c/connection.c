@@ -16,13 +16,6 @@ static uint64_t tag_of(uint64_t number, const struct kr_ask_form *form) {
     return makes_context(form) ? number | KR_MAKES : number;
 }
 
-/* An ask of which no byte went out was never made. */
-static void take_back(struct kr *connection, size_t length) {
-    ERRNO_STAYS;
-    explicit_bzero(connection->memory->out, length);
-    connection->out_end = 0;
-}
-
 /* Sends one ask behind what an earlier call left. */
 static int send_ask(struct kr *connection, const struct kr_ask_form *form, uint32_t context,
                     const struct kr_field *fields) {
@@ -37,8 +30,9 @@ static int send_ask(struct kr *connection, const struct kr_ask_form *form, uint3
     }
     connection->out_end = length;
     int sent = kr_flush(connection);
-    if (sent < 0 && connection->out_start == 0) {
-        take_back(connection, length);
+    if (sent < 0 && connection->out_start == 0) { /* no byte went out: it was never made */
+        explicit_bzero(out, length);
+        connection->out_end = 0;
         return -1;
     }
     connection->asked++;
@@ -110,13 +104,6 @@ static int receive_reply(struct kr *connection, struct kr_reply *reply) {
 
 /* ---- A call ---- */
 
-static int exchange(struct kr *connection, const struct kr_ask_form *form, uint32_t context,
-                    const struct kr_field *fields, struct kr_reply *reply) {
-    connection->given_up = connection->asked;
-    if (send_ask(connection, form, context, fields) < 0) return -1;
-    return receive_reply(connection, reply);
-}
-
 /* The last ask that is done with, one way or another. */
 static uint64_t last_done(const struct kr *connection) {
     return connection->answered > connection->given_up ? connection->answered : connection->given_up;
@@ -143,7 +130,8 @@ static int call(struct kr *connection, const struct kr_ask_form *form, uint32_t 
     if (awaited(connection) > 0) return fail_as(EBUSY);
     end_late(connection);
     kr_begin_call(connection);
-    int result = exchange(connection, form, context, fields, reply);
+    connection->given_up = connection->asked;
+    int result = send_ask(connection, form, context, fields) < 0 ? -1 : receive_reply(connection, reply);
     connection->given_up = connection->asked;
     wipe_part(connection);
     return result;
@@ -180,16 +168,6 @@ struct kr_answer kr_ask(struct kr *connection, enum kr_operation operation, uint
     return is_full ? ask(connection, form, context, fields) : answer;
 }
 
-bool kr_tell(struct kr *connection, enum kr_operation operation, uint32_t context) {
-    uint64_t before = connection->asked;
-    kr_wipe(connection);
-    if (check_whole(connection) < 0) return false;
-    connection->deadline = 0;
-    send_ask(connection, kr_ask_form(operation), context, NULL);
-    connection->given_up = connection->asked;
-    return connection->asked > before;
-}
-
 /* ---- Asks that are sent ahead ---- */
 
 static int send_ahead(struct kr *connection, const struct kr_ask_form *form, uint32_t context,
@@ -204,6 +182,13 @@ static int send_ahead(struct kr *connection, const struct kr_ask_form *form, uin
     if (connection->asked == before) return sent < 0 && errno == ETIMEDOUT ? fail_as(EAGAIN) : -1;
     connection->ahead[connection->asked % KR_AHEAD_MAX] = form;
     return connection->broken ? -1 : 0; /* what hasn't gone out goes out later */
+}
+
+bool kr_tell(struct kr *connection, enum kr_operation operation, uint32_t context) {
+    uint64_t before = connection->asked;
+    send_ahead(connection, kr_ask_form(operation), context, NULL);
+    connection->given_up = connection->asked;
+    return connection->asked > before;
 }
 
 int kr_send(struct kr *connection, unsigned operation, uint32_t context, const struct kr_field *fields,

@@ -80,10 +80,7 @@ static bool is_told_of(int descriptor, void *entry) {
 /* Where epoll(7) doesn't take the descriptor, the sweep sees the thread's end. */
 struct task *add_task(struct process *process, pid_t thread, int descriptor) {
     struct task *task = calloc(1, sizeof *task);
-    if (!task) {
-        close_one(&descriptor);
-        return NULL;
-    }
+    if (!task) return close_one(&descriptor), NULL;
     struct session *session = process->first ? process->first->session : NULL;
     *task = (struct task){ .kind = TASK, .thread = thread, .descriptor = descriptor, .process = process,
                            .session = session_use(session), .next = process->tasks };
@@ -96,11 +93,8 @@ struct task *add_task(struct process *process, pid_t thread, int descriptor) {
 struct process *add_process(pid_t id, int descriptor) {
     struct process *process = calloc(1, sizeof *process);
     if (process) *process = (struct process){ .kind = PROCESS, .id = id, .descriptor = descriptor, .memory = -1 };
-    if (!process || !is_told_of(descriptor, process) || !(process->first = add_task(process, id, -1))) {
-        free(process);
-        close_one(&descriptor);
-        return NULL;
-    }
+    if (!process || !is_told_of(descriptor, process) || !(process->first = add_task(process, id, -1)))
+        return close_one(&descriptor), forgotten(process);
     process->shares_memory = proc_has_only_forked(id) && proc_may_share_memory(id, proc_parent(id));
     process->next = *bucket_of(id);
     *bucket_of(id) = process;

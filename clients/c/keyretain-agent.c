@@ -58,11 +58,6 @@ static _Noreturn void fail_usage(void) {
     exit(USAGE);
 }
 
-static _Noreturn void answer(const char *text, const char *more) {
-    printf("%s%s", text, more);
-    exit(fflush(stdout) == 0 ? 0 : NO_SOCKET);
-}
-
 static unsigned number(const char *text, unsigned long least, unsigned long most) {
     char *end;
     errno = 0;
@@ -80,8 +75,8 @@ static void read_option(int option) {
     case 'd': settings.daemon = optarg; break;
     case 'c': settings.most = number(optarg, 1, CONTAINERS_MAX); break;
     case 'm': settings.memory = number(optarg, 0, MEMORY_MAX) * (unsigned long)MEBIBYTE; break;
-    case 'h': answer(usage, help);
-    case 'v': answer("keyretain-agent " KEYRETAIN_VERSION "\n", "");
+    case 'h': answer_option("--help", usage, help, ""); break;
+    case 'v': answer_option("--version", usage, help, "keyretain-agent " KEYRETAIN_VERSION); break;
     default: fail_usage();
     }
 }

@@ -274,20 +274,19 @@ int main(int count, char **arguments) {
     if (!fill_standard_descriptors()) exit(NO_CONNECTION); /* a connection would get their number */
     if (count == 2) answer_option(arguments[1], usage, help, "keyretain-session " KEYRETAIN_VERSION);
     char **given = read_arguments(arguments + 1, &session_name, &way), **command = command_or_shell(given);
-    const char *name = session_name;
-    if (name && !given && isatty(STDERR_FILENO))
-        fprintf(stderr, "keyretain-session: a shell in the session %s; a command stands behind --\n", name);
+    if (session_name && !given && isatty(STDERR_FILENO))
+        fprintf(stderr, "keyretain-session: a shell in the session %s; a command stands behind --\n", session_name);
     if (kr_default_path(socket_path, sizeof socket_path) < 0) fail(NO_CONNECTION, "the socket's path");
     if (way == BY_SYSTEM_CALLS)
         hide_library();
     else
         export_library();
     export_socket(socket_path);
-    if (way == BY_SYSTEM_CALLS) launch(getenv("KEYRETAIN_SOCKET"), name, command);
+    if (way == BY_SYSTEM_CALLS) launch(getenv("KEYRETAIN_SOCKET"), session_name, command);
     if (way == JOINING)
         find_session(&session);
     else
-        begin(name, getenv("KEYRETAIN_SOCKET"), &session);
+        begin(session_name, getenv("KEYRETAIN_SOCKET"), &session);
     if (way == JOINING || *variables) enter(socket_path, &session);
     if (kr_export_session(&session) < 0) fail(REFUSED, KR_SESSION_VARIABLE);
     run(command);

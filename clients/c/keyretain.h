@@ -30,9 +30,7 @@ struct kr;
 
 /* ---- A connection ---- */
 
-/* Connects to the daemon at `path`, or for NULL where kr_default_path says. NULL with connect(2)'s errno where that
- * fails, EACCES where who listens isn't trusted, ETIMEDOUT after 30 seconds, ENOENT for an empty path, ENAMETOOLONG
- * for one above 107 bytes. The frames are those of version 2. */
+/* Connects to the daemon at `path`, or for NULL where kr_default_path says. NULL with errno. */
 struct kr *kr_open(const char *path);
 
 /* The same with flags, and with the patience that kr_set_patience sets later. EINVAL for a flag that is none. */
@@ -41,11 +39,8 @@ struct kr *kr_open_with(const char *path, unsigned flags, int milliseconds);
 
 void kr_close(struct kr *connection);
 
-/* Where a daemon is looked for: $KEYRETAIN_SOCKET; else keyretain/keyretain.sock in the runtime directory, if that has
- * a folder keyretain; else /run/keyretain/keyretain.sock. The runtime directory is $XDG_RUNTIME_DIR, or /run/user/UID
- * where that isn't set or isn't the effective user's. A program that runs set-uid (AT_SECURE) takes the last one
- * whatever the environment says. Answers the path's length without its null byte, or -1 with ENAMETOOLONG where `room`
- * is too small. */
+/* Where a daemon is looked for, as keyretain-session(1) says; for a program that runs set-uid (AT_SECURE) the system's
+ * path. Answers its length without its null byte, or -1 with ENAMETOOLONG where `room` is too small. */
 int kr_default_path(char *path, size_t room);
 
 /* Who listened when the connection was made; the pid is 0 where it has none in this pid namespace. NULL for what isn't
@@ -182,8 +177,7 @@ struct kr_field {
 enum { KR_AHEAD_MAX = 256 };
 
 /* Sends an ask with as many fields as it has, and waits for nothing: 0, with its tag. -1 and EAGAIN where a reply is
- * to be received first: KR_AHEAD_MAX are awaited, or the daemon takes no more. EINVAL for a number of no ask. What
- * else a call answers is above. */
+ * to be received first: KR_AHEAD_MAX are awaited, or the daemon takes no more. EINVAL for a number of no ask. */
 int kr_send(struct kr *connection, unsigned operation, uint32_t context, const struct kr_field *fields, uint64_t *tag);
 
 /* Waits for the next reply, and answers as the ask's own function does, with the ask's tag. Bytes are in `buffer`

@@ -211,10 +211,7 @@ static void note_loss(struct scan *scan) {
 static int scan_links(struct scan *scan, key_serial_t ring, int depth) {
     void *links;
     int length = keyctl_read_alloc(ring, &links), found = 0;
-    if (length < 0) {
-        note_loss(scan);
-        return 0;
-    }
+    if (length < 0) return note_loss(scan), 0;
     if (length / SERIAL_WIDTH > scan->left) scan->is_lost = true;
     scan->left -= length / SERIAL_WIDTH;
     for (int at = 0; at + SERIAL_WIDTH <= length && !scan->is_lost; at += SERIAL_WIDTH) {

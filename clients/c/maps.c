@@ -6,7 +6,7 @@
 #include <sys/ioctl.h>
 #include <sys/wait.h>
 
-enum { DECIMAL = 10, OVERFLOW_ID = 65534, RANGE_LETTERS = 34 };
+enum { OVERFLOW_ID = 65534, RANGE_LETTERS = 34 };
 
 static struct {
     struct map uids, gids;
@@ -28,15 +28,12 @@ static bool is_same(const struct stat *one, const struct stat *other) {
 
 static bool read_map(pid_t process, const char *name, struct map *map) {
     char text[MAP_RANGES * RANGE_LETTERS + 1];
-    const char *line = text;
+    int length = 0;
     map->count = 0;
     if (!proc_read(process, name, text, sizeof text)) return false;
-    while (line && map->count < MAP_RANGES &&
-           sscanf(line, "%u %u %u", &map->ranges[map->count].inside, &map->ranges[map->count].outside,
-                  &map->ranges[map->count].length) == 3) {
-        map->count++;
-        line = strchr(line, '\n');
-        if (line) line++;
+    for (const char *line = text; map->count < MAP_RANGES; map->count++, line += length) {
+        struct range *range = &map->ranges[map->count];
+        if (sscanf(line, "%u %u %u%n", &range->inside, &range->outside, &range->length, &length) != 3) break;
     }
     return map->count > 0;
 }
@@ -48,11 +45,11 @@ static unsigned length_of(const struct map *map) {
 }
 
 static unsigned read_unknown(void) {
-    char text[32] = "";
+    unsigned unknown;
     FILE *file = fopen("/proc/sys/kernel/overflowuid", "re");
-    char *line = file ? fgets(text, sizeof text, file) : NULL;
+    if (!file || fscanf(file, "%u", &unknown) != 1) unknown = OVERFLOW_ID;
     if (file) fclose(file);
-    return line ? (unsigned)strtoul(line, NULL, DECIMAL) : OVERFLOW_ID;
+    return unknown;
 }
 
 /* The outermost user namespace around a process that isn't ours, if our user has made it, as runtimes do; else -1. What

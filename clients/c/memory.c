@@ -34,10 +34,7 @@ bool memory_read_text(const struct memory *memory, char *to, unsigned long from,
         if (wanted > max - length) wanted = max - length;
         if (length == 0 && wanted > SHORT) wanted = SHORT;
         ssize_t got = pread(memory->file, to + length, wanted, (off_t)(from + length));
-        if (got <= 0) {
-            explicit_bzero(to, length);
-            return false;
-        }
+        if (got <= 0) return explicit_bzero(to, length), false;
         char *next = to + length, *end = memchr(next, '\0', (size_t)got);
         if (end) {
             explicit_bzero(end, (size_t)(next + got - end));

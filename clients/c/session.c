@@ -30,13 +30,8 @@ void kr_own_identity(struct kr_identity *identity) {
     identity->count = count > 0 ? (uint32_t)count : 0;
 }
 
-static bool has_groups_of(const struct kr_identity *identity) {
-    struct kr_identity own;
-    kr_own_identity(&own);
-    return own.count == identity->count && memcmp(own.groups, identity->groups, sizeof own.groups) == 0;
-}
-
 bool kr_may_be_again(const struct kr_identity *identity) {
+    struct kr_identity own;
     uid_t real, effective, saved;
     gid_t real_group, effective_group, saved_group;
     getresuid(&real, &effective, &saved);
@@ -45,7 +40,9 @@ bool kr_may_be_again(const struct kr_identity *identity) {
     bool has_uid = identity->uid == real || identity->uid == effective || identity->uid == saved;
     bool has_gid =
         identity->gid == real_group || identity->gid == effective_group || identity->gid == saved_group;
-    return has_uid && has_gid && has_groups_of(identity);
+    kr_own_identity(&own);
+    bool has_groups = own.count == identity->count && memcmp(own.groups, identity->groups, sizeof own.groups) == 0;
+    return has_uid && has_gid && has_groups;
 }
 
 int64_t kr_hello_as(struct kr *connection, const struct kr_identity *identity) {
@@ -73,10 +70,9 @@ int kr_export_session(const struct kr_session *session) {
 }
 
 static int make_name(struct kr_session *session) {
-    uint64_t random[2];
+    unsigned long long random[2];
     if (getrandom(random, sizeof random, 0) != (ssize_t)sizeof random) return -1;
-    snprintf(session->name, sizeof session->name, "_ses.%016llx%016llx", (unsigned long long)random[0],
-             (unsigned long long)random[1]);
+    snprintf(session->name, sizeof session->name, "_ses.%016llx%016llx", random[0], random[1]);
     return 0;
 }
 
