@@ -32,7 +32,7 @@ def cells(text):
 def format_table():
     """The table of asks: number, name, whether it looks at the context, answer, growth."""
     return [(int(number), re.match(r"\[(\w+)\]\(#(\w+)-(\w+)\)$", name), looks, answer, grows)
-            for number, name, looks, answer, grows in cells(section("## 6. ").split("\n### ")[0])[1:]]
+            for number, name, looks, answer, grows, *_ in cells(section("## 6. ").split("\n### ")[0])[1:]]
 
 
 def format_section(number, name):
