@@ -182,8 +182,8 @@ class Connection:
         self._either.register(self._socket, select.POLLIN | select.POLLOUT)
 
     def end(self, why: str, forget: bool = False) -> None:
-        """From here on each call raises Lost, and says why; but first receive() gives the answers that have come, unless
-        they are to be forgotten."""
+        """From here on each call raises Lost, and says why; but first receive() gives the answers that have come,
+        unless they are to be forgotten."""
         self._lost = self._lost or why
         self._close()
         self._received = _behind(self._received, len(self._received))

@@ -20,8 +20,8 @@ PR_SET_DUMPABLE = 4  # prctl(2)
 
 def keep_no_core() -> None:
     """A program that crashes leaves no file of its memory, which may have secrets. With a limit of 0 a program that
-    core_pattern names is handed it all the same, core(5); with 1, which is less than any core, it isn't either. Where no
-    more than 0 is allowed the kernel is told that nobody may have it."""
+    core_pattern names is handed it all the same, core(5); with 1, which is less than any core, it isn't either. Where
+    no more than 0 is allowed the kernel is told that nobody may have it."""
     hard = resource.getrlimit(resource.RLIMIT_CORE)[1]
     resource.setrlimit(resource.RLIMIT_CORE, (0 if hard == 0 else 1, hard))
     if hard == 0:

@@ -88,8 +88,8 @@ def _check(line: bytes) -> None:
 
 
 def _reap(child: int, end: float) -> None:
-    """The process that was started goes to the background at once: what stays is another's child. Its user, whose effective
-    uid a program of root's may have taken, may have stopped it: then it is left at this moment."""
+    """The process that was started goes to the background at once: what stays is another's child. Its user, whose
+    effective uid a program of root's may have taken, may have stopped it: then it is left at this moment."""
     try:
         while os.waitpid(child, os.WNOHANG)[0] == 0 and time.monotonic() < end:
             time.sleep(PAUSE)
