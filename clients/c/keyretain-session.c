@@ -151,13 +151,32 @@ static const char *library_folder(void) {
     return named && *named ? named : KEYRETAIN_LIBRARY_FOLDER;
 }
 
-/* What the environment names may be another user's, as after su(1), and what is run would load it. */
-static void refuse_others(const char *path) {
+/* Whether nobody else may change what is there. Of a folder above the library's another user may write to one such as
+ * /tmp, where each may rename its own alone; and who owns / is root, which may have no number in a user namespace. */
+static bool is_safe(const struct stat *status, bool is_above) {
+    struct stat root;
+    bool is_own = status->st_uid == geteuid() || status->st_uid == 0 ||
+                  (is_above && stat("/", &root) == 0 && status->st_uid == root.st_uid);
+    mode_t writers = is_above || status->st_gid == getegid() ? S_IWOTH : S_IWGRP | S_IWOTH;
+    return is_own && (!(status->st_mode & writers) || (is_above && status->st_mode & S_ISVTX));
+}
+
+static void refuse_others(const char *path, const struct stat *status, bool is_above) {
+    errno = EACCES;
+    if (!is_safe(status, is_above)) fail(NO_CONNECTION, path);
+}
+
+/* What the environment names may be another user's, as after su(1), and what is run would load it. So each folder on
+ * the way is looked at, from / on, and no link is followed: what stands below one that is safe stays there. */
+static void check_folder(char *folder) {
     struct stat status;
-    bool is_there = stat(path, &status) == 0;
-    if (is_there && (status.st_uid == geteuid() || status.st_uid == 0)) return;
-    if (is_there) errno = EACCES;
-    fail(NO_CONNECTION, path);
+    for (char *end = folder; end;) {
+        end = strchr(end + 1, '/');
+        if (end) *end = '\0';
+        if (lstat(folder, &status) < 0) fail(NO_CONNECTION, folder);
+        refuse_others(folder, &status, end != NULL);
+        if (end) *end = '/';
+    }
 }
 
 /* Programs are to find our libkeyutils.so.1 before the system's, wherever they run. Without it they would use the
@@ -166,11 +185,12 @@ static void export_library(void) {
     const char *others = getenv("LD_LIBRARY_PATH");
     char library[PATH_MAX + 32], *folders;
     char *folder = realpath(library_folder(), NULL);
+    struct stat status;
     if (!folder) fail(NO_CONNECTION, library_folder());
     snprintf(library, sizeof library, "%s/libkeyutils.so.1", folder);
-    if (access(library, R_OK) < 0) fail(NO_CONNECTION, library);
-    refuse_others(folder);
-    refuse_others(library);
+    check_folder(folder);
+    if (access(library, R_OK) < 0 || stat(library, &status) < 0) fail(NO_CONNECTION, library);
+    refuse_others(library, &status, false);
     if (!others) others = "";
     if (asprintf(&folders, "%s%s%s", folder, *others ? ":" : "", others) < 0) fail(REFUSED, "LD_LIBRARY_PATH");
     set_variable("LD_LIBRARY_PATH", folders);
