@@ -11,5 +11,6 @@ pub mod QueueLimits
 pub mod ContextLimits
 pub mod WithinLimits
 pub mod Overwriting
+pub mod AddedOver
 pub mod Clock
 pub mod Expiry

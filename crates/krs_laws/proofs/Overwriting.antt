@@ -1,5 +1,5 @@
 -- What UPDATE overwrote leaves no trace.
-use Rattle.std.proofs.Common.{◌≡◌, ◌≢◌, ℕ, ℤ, List, [], ◌∷◌, Some, None, true, false, cond, Result, Ok, Err}
+use Rattle.std.proofs.Common.{◌≡◌, ◌≢◌, ℕ, ℤ, List, [], ◌∷◌, ◌++◌, Some, None, true, false, cond, Result, Ok, Err}
 use Rattle.std.proofs.Common.{refl, ap, ◌∙◌, sym, subst}
 use Rattle.std.specs.Prelude.{IsOk}
 use Rattle.std.specs.Ordering.{nat_cmp}
@@ -21,12 +21,12 @@ use Rattle.krs_model.specs.State.{State, Key, Content, Payload, Links, raised}
 use Rattle.krs_model.specs.Lookup.{context_of, serial_of, look_up}
 use Rattle.krs_model.specs.Outcome.{Outcome}
 use Rattle.krs_model.specs.Queues.{queues_of}
-use Rattle.krs_model.specs.Step.{Step, Serves, Ends, posts_by, watches_left}
+use Rattle.krs_model.specs.Step.{Step, Serves, Ends, outcome_of, posts_by, watches_left}
 use Rattle.krs_model.specs.Asks.Changing.{update, updated, updatable, paid_with}
 use Rattle.krs_model.specs.Hiding.{Hiding, blind, blind_content, blind_key, blind_keys, over}
 use Rattle.krs_model.specs.Secrecy.{HidesOnly}
 use Rattle.krs_model.specs.Notes.Posting.{Post, posts, dropped_watches, posted_in}
-use Rattle.krs_model.specs.Notes.Telling.{notes_of}
+use Rattle.krs_model.specs.Notes.Telling.{notes_of, ended_by}
 use Rattle.krs_model.proofs.Asks.Later.{bind_ok, same_ok}
 use Rattle.krs_model.proofs.Hiding.Lookups.{blind_found, look_up_blind}
 use Rattle.krs_model.proofs.Lookups.Serials.{found_serial}
@@ -69,7 +69,7 @@ updated_over h payload v =
     ap (λ (content : Content). record v { content = content; expiry = None }) (paid_over h payload v.content)
 
 -- the payload that was hidden is overwritten
-updated_keys : (hide : Hiding) (n : ℕ) (payload : List ℕ) (es : Table Key) → IsDistinct es → HidesOnly n hide
+pub updated_keys : (hide : Hiding) (n : ℕ) (payload : List ℕ) (es : Table Key) → IsDistinct es → HidesOnly n hide
     → alter (blind_keys hide es) n (updated payload) ≡ alter es n (updated payload)
 updated_keys hide n payload [] distinct only = refl
 updated_keys hide n payload (e ∷ es) distinct only =
@@ -87,7 +87,7 @@ updated_keys hide n payload (e ∷ es) distinct only =
           ∙ ap (λ (xs : Table Key). e ∷ xs) (updated_keys hide n payload es distinct.1 only)
     ] refl
 
-then_ok : {A B : Type 0} (r : Result A Errno) (f : A → Result B Errno) (x : A) (y : B) → r ≡ Ok x → f x ≡ Ok y
+pub then_ok : {A B : Type 0} (r : Result A Errno) (f : A → Result B Errno) (x : A) (y : B) → r ≡ Ok x → f x ≡ Ok y
     → (r >>= f) ≡ Ok y
 then_ok {A} {B} r f x y is h = ap (λ (q : Result A Errno). q >>= f) is ∙ h
 
@@ -117,33 +117,31 @@ update_same hide s client context id payload serial whose end distinct only own 
     (then_ok (paid c.0 payload) _ d.0 end d.1
     (ap (λ (es : Table Key). Ok (record s { keys = es }, Nothing)) keys ∙ d.2))))
 
-posts_same :
-    (hide : Hiding) (s : State) (client context : ℕ) (id : ℤ) (payload : List ℕ) (answer : Answer) (keys : Table Key)
-    (end : State × Answer) → update s client context id payload ≡ Ok end
-    → update (blind hide s) client context id payload ≡ Ok end
-    → posts_by (blind hide s) client context (Update id payload) answer keys
-    ≡ posts_by s client context (Update id payload) answer keys
-unfolding context_of serial_of
-posts_same hide s client context id payload answer keys end h k =
-    let notes = notes_of s client context (Update id payload) answer in
-    ap (λ (r : Outcome). posts (queues_of s) notes (dropped_watches keys (watches_left r))) (k ∙ sym h)
+-- with this answer the ask has the same notes in both states, ends the same watches, and leads to the same one
+pub record AsksAlike (s t : State) (client context : ℕ) (op : Op) (answer : Answer) : Type 0 where
+  pub notes : notes_of t client context op answer ≡ notes_of s client context op answer
+  pub ended : ended_by t client context op ≡ ended_by s client context op
+  pub meant : (mid : State) → outcome_of s client context op ≡ Ok (mid, answer)
+      → outcome_of t client context op ≡ Ok (mid, answer)
 
-served_same :
-    (hide : Hiding) (s new : State) (client context : ℕ) (id : ℤ) (payload : List ℕ) (serial : ℕ) (whose : Context)
-    (answer : Answer) → IsDistinct s.keys → HidesOnly serial hide → context_of s client context ≡ Ok whose
-    → serial_of s whose id ≡ Ok serial → Serves s client context (Update id payload) answer new
-    → Serves (blind hide s) client context (Update id payload) answer new
-served_same hide s new client context id payload serial whose answer distinct only own named serves =
-    let same = update_same hide s client context id payload serial whose (serves.mid, answer) distinct only own named
-    serves.meant in
+pub served_same :
+    (hide : Hiding) (s new : State) (client context : ℕ) (op : Op) (answer : Answer)
+    → AsksAlike s (blind hide s) client context op answer → Serves s client context op answer new
+    → Serves (blind hide s) client context op answer new
+served_same hide s new client context op answer alike serves =
+    let same = alike.meant serves.mid serves.meant in
+    let dropped : dropped_watches serves.swept.keys (watches_left (outcome_of (blind hide s) client context op))
+    ≡ dropped_watches serves.swept.keys (watches_left (outcome_of s client context op)) =
+    ap (λ (r : Outcome). dropped_watches serves.swept.keys (watches_left r)) (same ∙ sym serves.meant) in
+    let all : posts_by (blind hide s) client context op answer serves.swept.keys
+    ≡ posts_by s client context op answer serves.swept.keys = λ i.
+    posts (queues_of s) (alike.notes i) (alike.ended i ++ dropped i) in
     record {
       mid = serves.mid;
       swept = serves.swept;
       meant = same;
       sweep = serves.sweep;
-      posted = serves.posted
-          ∙ ap (λ (ps : List Post). posted_in ps serves.swept)
-          (sym (posts_same hide s client context id payload answer serves.swept.keys (serves.mid, answer) serves.meant same));
+      posted = serves.posted ∙ ap (λ (ps : List Post). posted_in ps serves.swept) (sym all);
     }
 
 accepted_same :
@@ -153,15 +151,24 @@ accepted_same :
 accepted_same s t new client context op (Ok answer) accepted stays ends = stays answer ends
 accepted_same s t new client context op (Err e) accepted stays ends = absurd (true≢false (sym accepted))
 
+update_alike :
+    (hide : Hiding) (s : State) (client context : ℕ) (id : ℤ) (payload : List ℕ) (serial : ℕ) (whose : Context)
+    (answer : Answer) → IsDistinct s.keys → HidesOnly serial hide → context_of s client context ≡ Ok whose
+    → serial_of s whose id ≡ Ok serial → AsksAlike s (blind hide s) client context (Update id payload) answer
+unfolding context_of serial_of
+update_alike hide s client context id payload serial whose answer distinct only own named = record {
+  notes = refl;
+  ended = refl;
+  meant = λ mid. update_same hide s client context id payload serial whose (mid, answer) distinct only own named;
+}
+
 pub updates_forget : UpdatesForget
 unfolding Step
 updates_forget hide old new event payload serial sound only updates step =
     let up = raised old event.moment in
-    let asked = updates.asked in
     accepted_same up (blind hide up) new event.lane event.ask.context event.ask.op event.reply updates.accepted
-    (λ answer serves.
-    subst (λ (o : Op). Serves (blind hide up) event.lane event.ask.context o answer new) (sym asked)
-    (served_same hide up new event.lane event.ask.context updates.id payload serial updates.names.whose answer
-    (rises_distinct old.keys sound.rising) only updates.names.own updates.names.named
-    (subst (λ (o : Op). Serves up event.lane event.ask.context o answer new) asked serves)))
+    (λ answer. served_same hide up new event.lane event.ask.context event.ask.op answer
+    (subst (λ (o : Op). AsksAlike up (blind hide up) event.lane event.ask.context o answer) (sym updates.asked)
+    (update_alike hide up event.lane event.ask.context updates.id payload serial updates.names.whose answer
+    (rises_distinct old.keys sound.rising) only updates.names.own updates.names.named)))
     step

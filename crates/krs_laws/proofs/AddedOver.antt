@@ -1,0 +1,183 @@
+-- What ADD overwrote leaves no trace.
+use Rattle.std.proofs.Common.{◌≡◌, ℕ, ℤ, ◌+◌, ◌<◌, ◌≤◌, ◌&&◌, List, Option, Some, None, Bool, true, false, cond}
+use Rattle.std.proofs.Common.{Result, Ok, Err, refl, ap, ◌∙◌, sym, subst, arith, nat_le}
+use Rattle.std.specs.Prelude.{codes}
+use Rattle.std.proofs.lemmas.Bool.Decides.{nat_tests}
+use Rattle.std.proofs.lemmas.Option.{none-some}
+use Rattle.krs_types.specs.declared.errno.Errno.{Errno}
+use Rattle.krs_types.specs.declared.errno.Errno.TheVariants.{EACCES}
+use Rattle.krs_types.specs.declared.context.Context.{Context}
+use Rattle.krs_types.specs.declared.name.Name.{Name}
+use Rattle.krs_types.specs.declared.key_id.KeyId.{KeyId}
+use Rattle.krs_types.specs.declared.ask.Answer.{Answer}
+use Rattle.krs_types.specs.declared.ask.Answer.TheVariants.{Number}
+use Rattle.krs_types.specs.declared.ask.Op.{Op}
+use Rattle.krs_types.specs.declared.ask.Op.TheVariants.{Add}
+use Rattle.krs_types.specs.declared.note.KeyEvent.TheVariants.{Updated as UpdatedNote, Linked}
+use Rattle.krs_types.specs.declared.rights.Want.TheVariants.{Granted}
+use Rattle.krs_types.specs.KeyId.{key_id_of}
+use Rattle.krs_types.specs.Rights.{has_all, WRITE}
+use Rattle.krs_model.specs.Table.{Table, at, put, IsBelow, IsDistinct}
+use Rattle.krs_model.specs.State.{State, Key, raised}
+use Rattle.krs_model.specs.Access.{is_alive, rights_on}
+use Rattle.krs_model.specs.Lookup.{context_of, serial_of, look_up}
+use Rattle.krs_model.specs.Linking.{ring_links, link_named}
+use Rattle.krs_model.specs.Making.{special_ring, made_for}
+use Rattle.krs_model.specs.Outcome.{Outcome}
+use Rattle.krs_model.specs.Step.{Step, Ends}
+use Rattle.krs_model.specs.Asks.Changing.{is_updatable}
+use Rattle.krs_model.specs.Asks.Adding.{Place, Updated, Made, admitted, if_room, over_match, by_match, place_of}
+use Rattle.krs_model.specs.Asks.Adding.{added, added_serial, added_in, add}
+use Rattle.krs_model.specs.Hiding.{Hiding, blind, blind_content, blind_keys, over}
+use Rattle.krs_model.specs.Secrecy.{HidesOnly}
+use Rattle.krs_model.specs.Notes.Telling.{named, about, about_link}
+use Rattle.krs_model.proofs.Asks.Later.{bind_ok, same_ok}
+use Rattle.krs_model.proofs.Hiding.Keys.{seen}
+use Rattle.krs_model.proofs.Hiding.Links.{same_ring_links, same_link_named, made_blind}
+use Rattle.krs_model.proofs.Hiding.Lookups.{blind_found, look_up_blind, same_possessed}
+use Rattle.krs_model.proofs.Hiding.Sweeps.{same_there}
+use Rattle.krs_model.proofs.MadeKeyring.Which.{IsMade, NoneMade, ThreadMade, ProcessMade, made_for_is}
+use Rattle.krs_model.proofs.Tables.Distinct.{put_distinct}
+use Rattle.krs_model.proofs.Tables.Entries.{rises_distinct}
+use Rattle.krs_laws.specs.Overwritten.{AddsForget}
+use Rattle.krs_laws.proofs.Overwriting.{updated_keys, then_ok, AsksAlike, served_same}
+
+-- ---- where an added key goes
+
+over_same :
+    (hide : Hiding) (s : State) (c : Context) (ring : ℕ × Key) (links : List ℕ) (found : ℕ) (o : Option Key)
+    → over_match (blind hide s) c (blind_found hide ring) links found o ≡ over_match s c ring links found o
+over_same hide s c ring links found None = refl
+over_same hide s c ring links found (Some key) = λ i.
+    cond (is_alive s.clock key && is_updatable key.kind)
+    (cond (has_all (rights_on key c.caller (same_possessed hide s c found i)) WRITE) (Ok (Updated found)) (Err EACCES))
+    (if_room s ring links (Some found))
+
+match_same :
+    (hide : Hiding) (s : State) (c : Context) (ring : ℕ × Key) (links : List ℕ) (match : Option ℕ)
+    → by_match (blind hide s) c (blind_found hide ring) links match ≡ by_match s c ring links match
+match_same hide s c ring links None = refl
+match_same hide s c ring links (Some found) =
+    over_same hide s c ring links found (at (blind_keys hide s.keys) found)
+    ∙ seen hide s.keys (over_match s c ring links found) found (λ v. refl)
+
+-- it goes there, whatever is hidden
+place_same :
+    (hide : Hiding) (s : State) (c : Context) (name : Name) (ring : ℤ) (place : Place)
+    → place_of s c name ring ≡ Ok place → place_of (blind hide s) c name ring ≡ Ok place
+unfolding place_of
+place_same hide s c name ring place h =
+    let a = bind_ok (look_up s c ring (Granted WRITE)) _ place h in
+    let found = a.0 in
+    let b = bind_ok (ring_links found.1.content) _ place a.2 in
+    then_ok (look_up (blind hide s) c ring (Granted WRITE)) _ (blind_found hide found) place
+    (look_up_blind hide s c ring (Granted WRITE) ∙ ap (over (blind_found hide)) a.1)
+    (then_ok (ring_links (blind_content (hide found.0) found.1.content)) _ b.0 place
+    (same_ring_links (hide found.0) found.1.content ∙ b.1)
+    (match_same hide s c found b.0 (link_named (blind hide s).keys name b.0)
+    ∙ (ap (by_match s c found b.0) (same_link_named hide s.keys name b.0) ∙ b.2)))
+
+-- ---- the state that it meets, with a keyring made where it wants one
+
+record IsAbove (s : State) (n : ℕ) : Type 0 where
+  distinct : IsDistinct s.keys
+  given : n < s.next_serial
+
+more_above : (s : State) (n : ℕ) (ring : Key) (t : State) → IsBelow s.keys s.next_serial → IsAbove s n
+    → t.keys ≡ put s.keys s.next_serial ring → t.next_serial ≡ s.next_serial + 1 → IsAbove t n
+more_above s n ring t below above keys next =
+    let given : n < s.next_serial = above.given in
+    let none : at s.keys s.next_serial ≡ None = below s.next_serial (omega arith) in
+    record {
+      distinct = subst IsDistinct (sym keys) (put_distinct s.keys s.next_serial ring none above.distinct);
+      given = omega arith;
+    }
+
+made_above :
+    (s : State) (number : ℕ) (c : Context) (id : Result KeyId Errno) (made : State × Context) (n : ℕ)
+    → IsBelow s.keys s.next_serial → IsAbove s n → IsMade s number c id made → IsAbove made.0 n
+made_above s number c id _ n below above NoneMade = above
+made_above s number c id _ n below above (ThreadMade is none) =
+    more_above s n (special_ring (codes "_tid") c.caller) _ below above refl refl
+made_above s number c id _ n below above (ProcessMade is none) =
+    more_above s n (special_ring (codes "_pid") c.caller) _ below above refl refl
+
+-- ---- what it leaves
+
+-- where the serial was given before, the payload that was hidden is overwritten
+added_same :
+    (hide : Hiding) (s : State) (c : Context) (name : Name) (payload : List ℕ) (serial : ℕ) (place : Place)
+    → IsAbove s serial → HidesOnly serial hide → added_serial s place ≡ serial
+    → ◌≡◌ {A = State × Answer} (added (blind hide s) c name payload place, Number (added_serial (blind hide s) place))
+    (added s c name payload place, Number (added_serial s place))
+added_same hide s c name payload serial (Updated found) above only is =
+    let to : Table Key → State × Answer = λ es. (record s { keys = es }, Number found) in
+    ap to
+    (updated_keys hide found payload s.keys above.distinct (subst (λ (n : ℕ). HidesOnly n hide) (sym is) only))
+added_same hide s c name payload serial (Made ring) above only is =
+    let given : serial < s.next_serial = above.given in
+    let same : s.next_serial ≡ serial = is in
+    absurd (omega arith)
+
+numbered : (r : Outcome) (a b : State) (n k : ℕ) → r ≡ Ok (a, Number n) → r ≡ Ok (b, Number k) → n ≡ k
+numbered r a b n k was is =
+    let same : Number n ≡ Number k = ap (λ (x : State × Answer). x.1) (same_ok r (a, Number n) (b, Number k) was is) in
+    cc
+
+add_same :
+    (hide : Hiding) (s : State) (client context : ℕ) (type_name desc payload : List ℕ) (ring : ℤ) (serial : ℕ)
+    (mid : State) → IsBelow s.keys s.next_serial → IsAbove s serial → HidesOnly serial hide
+    → add s client context type_name desc payload ring ≡ Ok (mid, Number serial)
+    → add (blind hide s) client context type_name desc payload ring ≡ Ok (mid, Number serial)
+unfolding add context_of
+add_same hide s client context type_name desc payload ring serial mid below above only h =
+    let end : State × Answer = (mid, Number serial) in
+    let a = bind_ok (context_of s client context) _ end h in
+    let b = bind_ok (admitted type_name desc payload) _ end a.2 in
+    let made = made_for s context a.0 ring in
+    let d = bind_ok (place_of made.0 made.1 b.0 ring) _ end b.2 in
+    let new = added made.0 made.1 b.0 payload d.0 in
+    let given = added_serial made.0 d.0 in
+    let is = numbered (Ok (new, Number given)) new mid given serial refl d.2 in
+    let in_made = made_above s context a.0 (key_id_of ring) made serial below above (made_for_is s context a.0 ring) in
+    then_ok (context_of (blind hide s) client context) _ a.0 end a.1
+    (then_ok (admitted type_name desc payload) _ b.0 end b.1
+    (ap (λ (x : State × Context). added_in x.0 x.1 b.0 payload ring) (made_blind hide s context a.0 ring)
+    ∙ then_ok (place_of (blind hide made.0) made.1 b.0 ring) _ d.0 end
+    (place_same hide made.0 made.1 b.0 ring d.0 d.1)
+    (ap (λ (x : State × Answer). Ok x) (added_same hide made.0 made.1 b.0 payload serial d.0 in_made only is) ∙ d.2)))
+
+add_alike :
+    (hide : Hiding) (s : State) (client context : ℕ) (type_name desc payload : List ℕ) (ring : ℤ) (serial : ℕ)
+    → IsBelow s.keys s.next_serial → IsAbove s serial → HidesOnly serial hide
+    → AsksAlike s (blind hide s) client context (Add type_name desc payload ring) (Number serial)
+unfolding context_of serial_of
+add_alike hide s client context type_name desc payload ring serial below above only = record {
+  notes = ap (λ (b : Bool). cond b (about UpdatedNote (Ok serial))
+      (about_link Linked (named s client context ring) (Ok serial))) (same_there hide s.keys serial);
+  ended = refl;
+  meant = λ mid. add_same hide s client context type_name desc payload ring serial mid below above only;
+}
+
+-- a serial of a key that is there was given
+there_below : (keys : Table Key) (next n : ℕ) (key : Key) → IsBelow keys next → at keys n ≡ Some key → n < next
+there_below keys next n key below there =
+    elim (nat_le next n) as (λ b. nat_le next n ≡ b → n < next) [
+      | true ↦ λ t.
+          let over : next ≤ n = grind (arith, nat_tests) in
+          absurd (none-some key (sym (below n over) ∙ there))
+      | false ↦ λ t. grind (arith, nat_tests)
+    ] refl
+
+pub adds_forget : AddsForget
+unfolding Step
+adds_forget hide old new event serial sound only adds step =
+    let up = raised old event.moment in
+    let given = there_below old.keys old.next_serial serial adds.key sound.unused adds.there in
+    let alike = add_alike hide up event.lane event.ask.context adds.type_name adds.desc adds.payload adds.ring serial
+    sound.unused (record { distinct = rises_distinct old.keys sound.rising; given = given }) only in
+    subst (λ (r : Result Answer Errno). Ends (blind hide up) event.lane event.ask.context event.ask.op r new)
+    (sym adds.told)
+    (served_same hide up new event.lane event.ask.context event.ask.op (Number serial)
+    (subst (λ (o : Op). AsksAlike up (blind hide up) event.lane event.ask.context o (Number serial)) (sym adds.asked) alike)
+    (subst (λ (r : Result Answer Errno). Ends up event.lane event.ask.context event.ask.op r new) adds.told step))
