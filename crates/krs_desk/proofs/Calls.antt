@@ -13,7 +13,7 @@ use Rattle.krs_world.specs.Knowing.{flight}
 use Rattle.krs_world.proofs.Keeping.{prefix_self, prefix_trans, prefix_more}
 use Rattle.krs_desk.specs.declared.helping.Helped.{Helped}
 use Rattle.krs_desk.specs.declared.helping.Helped.TheVariants.{Took, Busy}
-use Rattle.krs_desk.specs.Sitting.{Sitting, missed_by, posted_by, Collects, Adds}
+use Rattle.krs_desk.specs.Sitting.{Sitting, missed_by, posted_by, rested, Collects, Adds}
 use Rattle.krs_desk.specs.Helping.{HasHelped, HasLooked, Waits}
 use Rattle.krs_desk.proofs.Seen.{legal_cut}
 
@@ -70,9 +70,20 @@ waits_helped desk s t u moment ask how w h = helped_on desk s t u moment ask how
 
 -- nothing is changed where no reply was collected
 pub waits_still :
-    (desk : TableId) (s t u : Sitting) (moment : ℕ) (ask : Ask) → Waits desk s moment ask t → u ≡ t
+    (desk : TableId) (s t u : Sitting) (moment : ℕ) (ask : Ask) → Waits desk s moment ask t → u ≡ rested t
     → Waits desk s moment ask u
-waits_still desk s t u moment ask w same = subst (Waits desk s moment ask) (sym same) w
+waits_still desk s t u moment ask w same =
+    subst (Waits desk s moment ask) (sym same)
+    record {
+      same_table = w.same_table;
+      opening = w.opening;
+      lane = w.lane;
+      flight = w.flight;
+      mine = w.mine;
+      seen = w.seen;
+      rises = w.rises;
+      looked = w.looked;
+    }
 
 same_flight :
     (moment moment' : ℕ) (ask ask' : Ask) (before before' : List Event)
@@ -125,7 +136,10 @@ looked_collected desk s t u moment ask reply w c =
 
 -- nothing is changed but how often the turn was found taken
 abbrev pub found_taken : Sitting → ℕ → Sitting
-found_taken s count = record s { part = record s.part { found = count } }
+found_taken s count = record (rested s) { part = record s.part { found = count } }
+
+pub none_found : (s : Sitting) → s.kept ≡ 0 → s ≡ found_taken s s.part.found
+none_found s none = λ i. record s { kept = none i }
 
 pub found_more :
     (s t u : Sitting) → t ≡ found_taken s t.part.found → u ≡ missed_by t → u ≡ found_taken s u.part.found

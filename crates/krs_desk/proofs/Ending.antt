@@ -1,5 +1,5 @@
 -- The store that a seat had as the desk was closed.
-use Rattle.std.proofs.Common.{◌≡◌, subst}
+use Rattle.std.proofs.Common.{◌≡◌, ℕ, subst}
 use Rattle.atomic_table.specs.Seated.{TableId}
 use Rattle.krs_model.specs.State.{State}
 use Rattle.krs_desk.specs.Sitting.{Sitting, EndsIn}
@@ -8,8 +8,8 @@ use Rattle.krs_desk.specs.Helping.{Had}
 
 -- it ends a legal list that begins with what the seat had seen, and has its calls
 pub ends_in :
-    (table : TableId) (m n : Me) (s : Sitting) (store : State) → sitting_of table m ≡ s → Had m n store
-    → EndsIn s store
-ends_in table m n s store view had =
+    (table : TableId) (served : ℕ) (m n : Me) (s : Sitting) (store : State) → sitting_of table served m ≡ s
+    → Had m n store → EndsIn s store
+ends_in table served m n s store view had =
     subst (λ (z : Sitting). EndsIn z store) view
     record { log = had.log; legal = had.found.legal; seen = had.found.seen; own = had.found.mine }

@@ -380,11 +380,13 @@ brought_mine m w slots h told quiet =
 
 -- what the caller is told
 helped_part :
-    (table desk : TableId) (m : Me) (log : List Event) (q : Part) (count : ℕ) (next : State) → (part m).lane < lanes_of desk
+    (table desk : TableId) (a b : ℕ) (m : Me) (log : List Event) (q : Part) (count : ℕ) (next : State)
+    → (part m).lane < lanes_of desk
     → Begins (part m).seen log → Progress (opening m) (taken (part m) log) count (lanes_of desk) q next
     → (q.flight ≡ None → events_of q.lane (held_of q.holding) ≡ q.mine) → (c : List (ℕ × SlotValue))
-    → Helps desk (sitting_of table m) count (sitting_of table (sat (opening m) (put_none q (held_of q.holding)), c))
-helped_part table desk m log q count next within seen g own c =
+    → Helps desk (sitting_of table a m) count
+    (sitting_of table b (sat (opening m) (put_none q (held_of q.holding)), c))
+helped_part table desk a b m log q count next within seen g own c =
     let all : held_of q.holding ≡ log ++ g.events = ap held_of g.holds in record {
       same_table = refl;
       opening = refl;
@@ -405,12 +407,12 @@ helped_part table desk m log q count next within seen g own c =
     }
 
 pub helped :
-    (table same_table desk : TableId) (m n k w : Me) (s : Sitting) (count : ℕ) → sitting_of table m ≡ s
+    (table same_table desk : TableId) (a b : ℕ) (m n k w : Me) (s : Sitting) (count : ℕ) → sitting_of table a m ≡ s
     → same_table ≡ table → (part m).lane < lanes_of desk → (h : Holds m n) → Goes n count (lanes_of desk) k
     → w ≡ (sat (opening k) (put_none (part k) (held_of (part k).holding)), rest k.1)
     → ((part k).flight ≡ None → events_of (part k).lane (held_of (part k).holding) ≡ (part k).mine)
-    → Helps desk s count (sitting_of same_table w)
-helped table same_table desk m n k w s count view same within h g is own =
+    → Helps desk s count (sitting_of same_table b w)
+helped table same_table desk a b m n k w s count view same within h g is own =
     let open_is : opening n ≡ opening m = ap opening h.has in
     let open_k : opening k ≡ opening m = ap opening g.1 ∙ open_is in
     let p_is : part n ≡ taken (part m) h.log = ap part h.has in
@@ -418,8 +420,8 @@ helped table same_table desk m n k w s count view same within h g is own =
     subst (λ (z : State × Part). Progress z.0 z.1 count (lanes_of desk) (part k) g.0) (λ i. (open_is i, p_is i)) g.2 in
     let w_is : w ≡ (sat (opening m) (put_none (part k) (held_of (part k).holding)), rest k.1) =
     is ∙ ap (λ (z : State). (sat z (put_none (part k) (held_of (part k).holding)), rest k.1)) open_k in
-    subst (λ (z : Sitting × Sitting). Helps desk z.0 count z.1) (λ i. (view i, sitting_of (sym same i) (sym w_is i)))
-    (helped_part table desk m h.log (part k) count g.0 within h.found.seen going own (rest k.1))
+    subst (λ (z : Sitting × Sitting). Helps desk z.0 count z.1) (λ i. (view i, sitting_of (sym same i) b (sym w_is i)))
+    (helped_part table desk a b m h.log (part k) count g.0 within h.found.seen going own (rest k.1))
 
 pub helped_seated :
     (lane : ℕ) (idle : Bool) (m n k w : Me) (count lanes : ℕ) → IsSeated lane idle m → (h : Holds m n)

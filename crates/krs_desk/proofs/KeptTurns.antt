@@ -18,7 +18,7 @@ use Rattle.krs_world.proofs.Keeping.{own_event}
 use Rattle.krs_desk.specs.declared.slot.SlotValue.{SlotValue}
 use Rattle.krs_desk.specs.declared.slot.SlotValue.TheVariants.{Home}
 use Rattle.krs_desk.specs.Parts.{sat, hand_of}
-use Rattle.krs_desk.specs.Sitting.{Sitting, Adds}
+use Rattle.krs_desk.specs.Sitting.{Sitting, Adds, rested}
 use Rattle.krs_desk.specs.Seated.{Me, part, opening, sitting_of, is_free, IsSeated, Serves}
 use Rattle.krs_desk.specs.Helping.{HoldsAll, Finishes, HasLooked, held_of}
 use Rattle.krs_desk.specs.Keeping.{HasKept, given_back, at_rest, IsPlaced, GoesOn}
@@ -28,9 +28,9 @@ use Rattle.krs_desk.proofs.Turns.{serves_is, serves_last}
 -- A seat, whether or not it has kept a turn.
 
 -- the same is told of it, without its turn
-rest_same : (t : TableId) (served : ℕ) (m : Me) → sitting_of t (at_rest served m) ≡ sitting_of t m
-rest_same t zero m = refl
-rest_same t (suc n) m = refl
+rest_same : (t : TableId) (kept served : ℕ) (m : Me) → sitting_of t kept (at_rest served m) ≡ sitting_of t kept m
+rest_same t kept zero m = refl
+rest_same t kept (suc n) m = refl
 
 -- what is known of it either way
 pub record Knows (lane : ℕ) (idle : Bool) (m : Me) : Type 0 where
@@ -61,7 +61,7 @@ knows lane idle served m placed = known_at lane idle served m placed.rests
 
 -- the lane of a seat, and whether it is idle
 pub lane_told : (t : TableId) (lane : ℕ) (idle : Bool) (served : ℕ) (m : Me) (s : Sitting)
-    → IsPlaced lane idle served m → sitting_of t m ≡ s → lane ≡ s.part.lane
+    → IsPlaced lane idle served m → sitting_of t served m ≡ s → lane ≡ s.part.lane
 lane_told t lane idle served m s placed view =
     (knows lane idle served m placed).numbered ∙ ap (λ (z : Sitting). z.part.lane) view
 
@@ -73,13 +73,13 @@ none_free : (f : Option Flight) → f ≡ None → is_free f ≡ true
 none_free f e = ap (λ (g : Option Flight). is_free g) e
 
 pub idle_told : (t : TableId) (lane : ℕ) (idle : Bool) (served : ℕ) (m : Me) (s : Sitting)
-    → IsPlaced lane idle served m → sitting_of t m ≡ s → idle ≡ true → s.part.flight ≡ None
+    → IsPlaced lane idle served m → sitting_of t served m ≡ s → idle ≡ true → s.part.flight ≡ None
 idle_told t lane idle served m s placed view is_so =
     let tells : idle ≡ is_free (part m).flight = (knows lane idle served m placed).tells in
     sym (ap (λ (z : Sitting). z.part.flight) view) ∙ free_none (part m).flight (sym is_so ∙ tells)
 
 pub busy_told : (t : TableId) (lane : ℕ) (idle : Bool) (served : ℕ) (m : Me) (s : Sitting)
-    → IsPlaced lane idle served m → sitting_of t m ≡ s → s.part.flight ≡ None → idle ≡ true
+    → IsPlaced lane idle served m → sitting_of t served m ≡ s → s.part.flight ≡ None → idle ≡ true
 busy_told t lane idle served m s placed view quiet =
     (knows lane idle served m placed).tells
     ∙ none_free (part m).flight (ap (λ (z : Sitting). z.part.flight) view ∙ quiet)
@@ -89,10 +89,15 @@ pub given_seated : (lane : ℕ) (idle : Bool) (served : ℕ) (m n : Me) → IsPl
     → n ≡ at_rest served m → IsSeated lane idle n
 given_seated lane idle served m n placed is = subst (λ (z : Me). IsSeated lane idle z) (sym is) placed.rests
 
-pub given_view : (t t' : TableId) (served : ℕ) (m n : Me) (s : Sitting) → sitting_of t m ≡ s → t' ≡ t
-    → n ≡ at_rest served m → sitting_of t' n ≡ s
+-- but for the turn the same is known of it
+pub given_view : (t t' : TableId) (served : ℕ) (m n : Me) (s : Sitting) → sitting_of t served m ≡ s → t' ≡ t
+    → n ≡ at_rest served m → sitting_of t' served n ≡ s
 given_view t t' served m n s view same is =
-    (λ i. sitting_of (same i) (is i)) ∙ (rest_same t served m ∙ view)
+    (λ i. sitting_of (same i) served (is i)) ∙ (rest_same t served served m ∙ view)
+
+pub rests_at : (t : TableId) (served none : ℕ) (m : Me) (s : Sitting) → sitting_of t served m ≡ s → none ≡ 0
+    → sitting_of t none m ≡ rested s
+rests_at t served none m s view zero_is = ap (λ (k : ℕ). sitting_of t k m) zero_is ∙ ap rested view
 
 -- a seat that has no turn
 pub placed : (lane : ℕ) (idle : Bool) (served : ℕ) (m : Me) → served ≡ 0 → IsSeated lane idle m
@@ -123,6 +128,10 @@ gives_back (suc served) m n not kept is =
 pub none_given : (served : ℕ) (m : Me) → served ≡ 0 → m ≡ at_rest served m
 none_given zero m none = refl
 none_given (suc n) m none = absurd (omega arith)
+
+pub unkept_seated : (lane : ℕ) (idle : Bool) (served : ℕ) (m : Me) → served ≡ 0 → IsPlaced lane idle served m
+    → IsSeated lane idle m
+unkept_seated lane idle served m none placed = given_seated lane idle served m m placed (none_given served m none)
 
 -- A call is served, and the turn kept.
 
@@ -204,9 +213,9 @@ kept_seated lane idle served m w e not placed f =
       legal = legal_more (opening m) f.last f.after f.log e f.legal f.step;
     }
 
-kept_adds : (t : TableId) (m w : Me) (e : Event) → HasKept m → (f : Finishes m e w) → e.lane ≡ (part m).lane
-    → Adds (sitting_of t m) e (sitting_of t (sat (opening m) (put_own (part m) f.log e), rest m.1))
-kept_adds t m w e kept f lane =
+kept_adds : (t : TableId) (a b : ℕ) (m w : Me) (e : Event) → HasKept m → (f : Finishes m e w) → e.lane ≡ (part m).lane
+    → Adds (sitting_of t a m) e (sitting_of t b (sat (opening m) (put_own (part m) f.log e), rest m.1))
+kept_adds t a b m w e kept f lane =
     let same : f.log ≡ (part m).seen = same_list f.log (part m).seen (sym f.held ∙ kept.whole) in record {
       table = refl;
       opening = refl;
@@ -222,27 +231,26 @@ kept_adds t m w e kept f lane =
     }
 
 pub kept_told :
-    (t t' : TableId) (m w : Me) (s : Sitting) (lane : ℕ) (idle : Bool) (served moment : ℕ) (ask : Ask)
-    (reply : Result Answer Errno) → sitting_of t m ≡ s → t' ≡ t → served ≢ 0 → IsPlaced lane idle served m
+    (t t' : TableId) (m w : Me) (s : Sitting) (lane : ℕ) (idle : Bool) (served then moment : ℕ) (ask : Ask)
+    (reply : Result Answer Errno) → sitting_of t served m ≡ s → t' ≡ t → served ≢ 0 → IsPlaced lane idle served m
     → Finishes m (event_of lane moment ask reply) w
-    → Adds s (event_of s.part.lane moment ask reply) (sitting_of t' w)
-kept_told t t' m w s lane idle served moment ask reply view same not placed f =
+    → Adds s (event_of s.part.lane moment ask reply) (sitting_of t' then w)
+kept_told t t' m w s lane idle served then moment ask reply view same not placed f =
     let e : Event = event_of lane moment ask reply in
     let is : lane ≡ (part m).lane = (knows lane idle served m placed).numbered in
-    let made : Adds (sitting_of t m) e (sitting_of t (sat (opening m) (put_own (part m) f.log e), rest m.1)) =
-    kept_adds t m w e (placed.keeps not) f is in
-    let there : Adds (sitting_of t m) e (sitting_of t' w) =
-    subst (λ (z : Sitting). Adds (sitting_of t m) e z) (λ i. sitting_of (sym same i) (sym f.has i)) made in
-    subst (λ (z : Sitting). Adds z (event_of z.part.lane moment ask reply) (sitting_of t' w)) view
-    (subst (λ (j : ℕ). Adds (sitting_of t m) (event_of j moment ask reply) (sitting_of t' w)) is there)
+    let there : Adds (sitting_of t served m) e (sitting_of t' then w) =
+    subst (λ (z : Sitting). Adds (sitting_of t served m) e z) (λ i. sitting_of (sym same i) then (sym f.has i))
+    (kept_adds t served then m w e (placed.keeps not) f is) in
+    subst (λ (z : Sitting). Adds z (event_of z.part.lane moment ask reply) (sitting_of t' then w)) view
+    (subst (λ (j : ℕ). Adds (sitting_of t served m) (event_of j moment ask reply) (sitting_of t' then w)) is there)
 
 pub kept_idle : (m w : Me) (e : Event) → HasKept m → Finishes m e w → (part w).flight ≡ None
 kept_idle m w e kept f = ap (λ (z : Me). (part z).flight) f.has ∙ kept.quiet
 
 -- the turn was taken before
-pub kept_looked : (desk t t' : TableId) (m w : Me) (s : Sitting) (e : Event) → sitting_of t m ≡ s → Finishes m e w
-    → HasLooked desk s (sitting_of t' w)
-kept_looked desk t t' m w s e view f lt =
+pub kept_looked : (desk t t' : TableId) (served : ℕ) (m w : Me) (s : Sitting) (e : Event)
+    → sitting_of t served m ≡ s → Finishes m e w → HasLooked desk s (sitting_of t' 0 w)
+kept_looked desk t t' served m w s e view f lt =
     let same : (part w).taken ≡ (part m).taken = ap (λ (z : Me). (part z).taken) f.has in
     let was : (part m).taken ≡ s.part.taken = ap (λ (z : Sitting). z.part.taken) view in
     let less : s.part.taken < (part w).taken = lt in

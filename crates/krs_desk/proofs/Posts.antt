@@ -109,10 +109,11 @@ posted_seated lane idle m n moment ask seated is =
     }
 
 pub posts_is :
-    (k l : TableId) (m n : Me) (s : Sitting) (moment : ℕ) (ask : Ask) → sitting_of k m ≡ s → l ≡ k
-    → n ≡ (sat (opening m) (posted (part m) moment ask), []) → sitting_of l n ≡ posted_by s moment ask
-posts_is k l m n s moment ask view same is =
-    (λ i. sitting_of (same i) (is i)) ∙ ap (λ (z : Sitting). posted_by z moment ask) view
+    (k l : TableId) (served now : ℕ) (m n : Me) (s : Sitting) (moment : ℕ) (ask : Ask) → sitting_of k served m ≡ s
+    → l ≡ k → now ≡ 0 → n ≡ (sat (opening m) (posted (part m) moment ask), [])
+    → sitting_of l now n ≡ posted_by s moment ask
+posts_is k l served now m n s moment ask view same zero_is is =
+    (λ i. sitting_of (same i) (zero_is i) (is i)) ∙ ap (λ (z : Sitting). posted_by z moment ask) view
 
 -- Collecting.
 
@@ -275,11 +276,11 @@ collected_seated lane idle m w log e seated g is =
     }
 
 collects :
-    (k : TableId) (m : Me) (log : List Event) (moment : ℕ) (ask : Ask) (reply : Result Answer Errno)
+    (k : TableId) (a b : ℕ) (m : Me) (log : List Event) (moment : ℕ) (ask : Ask) (reply : Result Answer Errno)
     (c : List (ℕ × SlotValue)) → Gathers (opening m) (part m) (event_of (part m).lane moment ask reply) log
-    → Collects (sitting_of k m) reply
-    (sitting_of k (sat (opening m) (collected (part m) log (event_of (part m).lane moment ask reply)), c))
-collects k m log moment ask reply c g = record {
+    → Collects (sitting_of k a m) reply
+    (sitting_of k b (sat (opening m) (collected (part m) log (event_of (part m).lane moment ask reply)), c))
+collects k a b m log moment ask reply c g = record {
   table = refl;
   opening = refl;
   lane = refl;
@@ -300,10 +301,10 @@ collects k m log moment ask reply c g = record {
 }
 
 pub collects_is :
-    (k l : TableId) (m w : Me) (s : Sitting) (log : List Event) (moment : ℕ) (ask : Ask) (reply : Result Answer Errno)
-    (c : List (ℕ × SlotValue)) → sitting_of k m ≡ s → l ≡ k
+    (k l : TableId) (a b : ℕ) (m w : Me) (s : Sitting) (log : List Event) (moment : ℕ) (ask : Ask)
+    (reply : Result Answer Errno) (c : List (ℕ × SlotValue)) → sitting_of k a m ≡ s → l ≡ k
     → w ≡ (sat (opening m) (collected (part m) log (event_of (part m).lane moment ask reply)), c)
-    → Gathers (opening m) (part m) (event_of (part m).lane moment ask reply) log → Collects s reply (sitting_of l w)
-collects_is k l m w s log moment ask reply c view same is g =
-    subst (λ (z : Sitting × Sitting). Collects z.0 reply z.1) (λ i. (view i, sitting_of (sym same i) (sym is i)))
-    (collects k m log moment ask reply c g)
+    → Gathers (opening m) (part m) (event_of (part m).lane moment ask reply) log → Collects s reply (sitting_of l b w)
+collects_is k l a b m w s log moment ask reply c view same is g =
+    subst (λ (z : Sitting × Sitting). Collects z.0 reply z.1) (λ i. (view i, sitting_of (sym same i) b (sym is i)))
+    (collects k a b m log moment ask reply c g)

@@ -64,9 +64,10 @@ missed_seated lane idle m n seated is =
     }
 
 pub missed_is :
-    (k l : TableId) (m n : Me) (s : Sitting) → sitting_of k m ≡ s → l ≡ k
-    → n ≡ (sat (opening m) (missed (part m)), m.1) → sitting_of l n ≡ missed_by s
-missed_is k l m n s view same is = (λ i. sitting_of (same i) (is i)) ∙ ap missed_by view
+    (k l : TableId) (served none : ℕ) (m n : Me) (s : Sitting) → sitting_of k served m ≡ s → l ≡ k → none ≡ 0
+    → n ≡ (sat (opening m) (missed (part m)), m.1) → sitting_of l none n ≡ missed_by s
+missed_is k l served none m n s view same zero_is is =
+    (λ i. sitting_of (same i) (zero_is i) (is i)) ∙ ap missed_by view
 
 -- one that has met another
 pub met_seated :
@@ -85,11 +86,11 @@ met_seated lane idle a m n log last seated sound is legal =
     }
 
 meets :
-    (k l k' l' : TableId) (m n : Me) (log : List Event) (last : State) → Found (opening m) (part m) log last
-    → Found (opening m) (part n) log last → opening n ≡ opening m
-    → Meets (sitting_of k m) (sitting_of l n) (sitting_of k' (sat (opening m) (loaded (part m) log), m.1))
-    (sitting_of l' (sat (opening m) (loaded (part n) log), n.1))
-meets k l k' l' m n log last f g one = record {
+    (k l k' l' : TableId) (a b a' b' : ℕ) (m n : Me) (log : List Event) (last : State)
+    → Found (opening m) (part m) log last → Found (opening m) (part n) log last → opening n ≡ opening m
+    → Meets (sitting_of k a m) (sitting_of l b n) (sitting_of k' a' (sat (opening m) (loaded (part m) log), m.1))
+    (sitting_of l' b' (sat (opening m) (loaded (part n) log), n.1))
+meets k l k' l' a b a' b' m n log last f g one = record {
   opening = (refl, refl);
   kept = sym one;
   log = log;
@@ -102,10 +103,12 @@ meets k l k' l' m n log last f g one = record {
 }
 
 pub meets_at :
-    (k l k' l' : TableId) (m n m' n' : Me) (s t : Sitting) → sitting_of k m ≡ s → sitting_of l n ≡ t
-    → SeeOneList m n m' n' → opening n ≡ opening m → Meets s t (sitting_of k' m') (sitting_of l' n')
-meets_at k l k' l' m n m' n' s t view view' sees one =
-    subst (λ (z : Sitting × Sitting). Meets z.0 z.1 (sitting_of k' m') (sitting_of l' n')) (λ i. (view i, view' i))
-    (subst (λ (z : Me × Me). Meets (sitting_of k m) (sitting_of l n) (sitting_of k' z.0) (sitting_of l' z.1))
+    (k l k' l' : TableId) (a b a' b' : ℕ) (m n m' n' : Me) (s t : Sitting) → sitting_of k a m ≡ s
+    → sitting_of l b n ≡ t → SeeOneList m n m' n' → opening n ≡ opening m
+    → Meets s t (sitting_of k' a' m') (sitting_of l' b' n')
+meets_at k l k' l' a b a' b' m n m' n' s t view view' sees one =
+    subst (λ (z : Sitting × Sitting). Meets z.0 z.1 (sitting_of k' a' m') (sitting_of l' b' n'))
+    (λ i. (view i, view' i))
+    (subst (λ (z : Me × Me). Meets (sitting_of k a m) (sitting_of l b n) (sitting_of k' a' z.0) (sitting_of l' b' z.1))
     (λ i. (sym sees.first i, sym sees.second i))
-    (meets k l k' l' m n sees.log sees.last sees.founds.0 sees.founds.1 one))
+    (meets k l k' l' a b a' b' m n sees.log sees.last sees.founds.0 sees.founds.1 one))

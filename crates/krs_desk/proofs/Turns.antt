@@ -125,12 +125,12 @@ turn_seated lane idle m n k w count lanes e seated h g f =
     }
 
 adds :
-    (table : TableId) (m : Me) (q : Part) (log : List Event) (events : List Event) (e : Event) (next : State)
+    (table : TableId) (a b : ℕ) (m : Me) (q : Part) (log : List Event) (events : List Event) (e : Event) (next : State)
     (c : List (ℕ × SlotValue)) → Begins (part m).seen log → q.lane ≡ (part m).lane → q.mine ≡ (part m).mine
     → IsLegal (opening m) ((log ++ events) ++ e ∷ []) next → events_of q.lane (log ++ events) ≡ q.mine
     → e.lane ≡ q.lane
-    → Adds (sitting_of table m) e (sitting_of table (sat (opening m) (put_own q (log ++ events) e), c))
-adds table m q log events e next c seen lane_is mine_is legal own lane = record {
+    → Adds (sitting_of table a m) e (sitting_of table b (sat (opening m) (put_own q (log ++ events) e), c))
+adds table a b m q log events e next c seen lane_is mine_is legal own lane = record {
   table = refl;
   opening = refl;
   lane = lane_is;
@@ -147,11 +147,11 @@ adds table m q log events e next c seen lane_is mine_is legal own lane = record 
 }
 
 pub turn_adds :
-    (table same_table : TableId) (m n k w : Me) (s : Sitting) (lane : ℕ) (idle : Bool) (count lanes moment : ℕ)
-    (ask : Ask) (reply : Result Answer Errno) → sitting_of table m ≡ s → same_table ≡ table → IsSeated lane idle m
-    → Holds m n → Goes n count lanes k → Finishes k (event_of lane moment ask reply) w
-    → Adds s (event_of s.part.lane moment ask reply) (sitting_of same_table w)
-turn_adds table same_table m n k w s lane idle count lanes moment ask reply view same seated h g f =
+    (table same_table : TableId) (a b : ℕ) (m n k w : Me) (s : Sitting) (lane : ℕ) (idle : Bool)
+    (count lanes moment : ℕ) (ask : Ask) (reply : Result Answer Errno) → sitting_of table a m ≡ s → same_table ≡ table
+    → IsSeated lane idle m → Holds m n → Goes n count lanes k → Finishes k (event_of lane moment ask reply) w
+    → Adds s (event_of s.part.lane moment ask reply) (sitting_of same_table b w)
+turn_adds table same_table a b m n k w s lane idle count lanes moment ask reply view same seated h g f =
     let e : Event = event_of lane moment ask reply in
     let left = has_left m n k w count lanes e h g f in
     let lane_is : (part k).lane ≡ (part m).lane = g.2.stays.same_lane ∙ ap (λ (z : Me). (part z).lane) h.has in
@@ -159,13 +159,13 @@ turn_adds table same_table m n k w s lane idle count lanes moment ask reply view
     let own : events_of (part k).lane (h.log ++ g.2.events) ≡ (part k).mine =
     ap (events_of (part k).lane) (sym left.0) ∙ f.mine in
     let v : Me = (sat (opening m) (put_own (part k) (h.log ++ g.2.events) e), m.1) in
-    let made : Adds (sitting_of table m) e (sitting_of table v) =
-    adds table m (part k) h.log g.2.events e f.after m.1 h.found.seen lane_is mine_is
+    let made : Adds (sitting_of table a m) e (sitting_of table b v) =
+    adds table a b m (part k) h.log g.2.events e f.after m.1 h.found.seen lane_is mine_is
     (legal_left m n k w count lanes e h g f) own (seated.numbered ∙ sym lane_is) in
-    let there : Adds (sitting_of table m) e (sitting_of same_table w) =
-    subst (λ (z : Sitting). Adds (sitting_of table m) e z) (λ i. sitting_of (sym same i) (sym left.1 i)) made in
-    subst (λ (z : Sitting). Adds z (event_of z.part.lane moment ask reply) (sitting_of same_table w)) view
-    (subst (λ (j : ℕ). Adds (sitting_of table m) (event_of j moment ask reply) (sitting_of same_table w))
+    let there : Adds (sitting_of table a m) e (sitting_of same_table b w) =
+    subst (λ (z : Sitting). Adds (sitting_of table a m) e z) (λ i. sitting_of (sym same i) b (sym left.1 i)) made in
+    subst (λ (z : Sitting). Adds z (event_of z.part.lane moment ask reply) (sitting_of same_table b w)) view
+    (subst (λ (j : ℕ). Adds (sitting_of table a m) (event_of j moment ask reply) (sitting_of same_table b w))
     seated.numbered there)
 
 pub turn_idle :
@@ -177,6 +177,6 @@ turn_idle m n k w count lanes e quiet h g f =
 
 -- each lane's cell was looked at
 pub turn_looked :
-    (desk table : TableId) (s : Sitting) (n k w : Me) (count : ℕ) (e : Event) → Goes n count (lanes_of desk) k
-    → Finishes k e w → HasLooked desk s (sitting_of table w)
+    (desk table : TableId) (s : Sitting) (n k w : Me) (count : ℕ) (e : Event)
+    → Goes n count (lanes_of desk) k → Finishes k e w → HasLooked desk s (sitting_of table 0 w)
 turn_looked desk table s n k w count e g f = λ lt. ap (λ (z : Me). (part z).checked) f.has ∙ g.2.checked

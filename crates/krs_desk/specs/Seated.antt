@@ -20,13 +20,13 @@ use Rattle.krs_desk.specs.Sitting.{Sitting}
 abbrev pub Me : Type 0
 Me = Known
 
--- what a caller is told of a lane: not whether its seat has kept a turn, whose list it has seen
+-- what a caller is told of a lane: not the list that is held, which it has seen
 abbrev pub untold : Part → Part
 untold p = record p { holding = None }
 
--- what a caller knows of a seat
-abbrev pub sitting_of : TableId → Me → Sitting
-sitting_of table m = record { table = table; opening = opening m; part = untold (part m) }
+-- what a caller knows of a seat that has served so many calls in the turn that it keeps
+abbrev pub sitting_of : TableId → ℕ → Me → Sitting
+sitting_of table served m = record { table = table; opening = opening m; part = untold (part m); kept = served }
 
 -- it stands for one lane, has its slot unless a call is in flight, and no list is held
 abbrev pub IsResting : Me → Type 0

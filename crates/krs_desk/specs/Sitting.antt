@@ -1,5 +1,5 @@
 -- What a caller knows of a seat, and how calls, meeting and closing change it. The form is this project's own.
-use Rattle.std.specs.Prelude.{◌≡◌, ℕ, zero, suc, false, List, [], ◌∷◌, ◌++◌, Some, None, Result}
+use Rattle.std.specs.Prelude.{◌≡◌, ◌≢◌, ℕ, zero, suc, ◌+◌, ◌≤◌, Bool, false, List, [], ◌∷◌, ◌++◌, Some, None, Result}
 use Rattle.atomic_table.specs.Seated.{TableId}
 use Rattle.krs_types.specs.declared.ask.Ask.{Ask}
 use Rattle.krs_types.specs.declared.ask.Answer.{Answer}
@@ -13,15 +13,17 @@ use Rattle.krs_world.specs.Knowing.{events_of, flight, fresh, loaded, missed, po
 use Rattle.krs_world.specs.History.{StandsAfter}
 
 -- A seat: of which desk it is, the state of the store that the desk was opened with, and what the seat knows: its lane,
--- the events that it has `seen`, its own calls `mine`, and how often it `found` the turn taken.
+-- the events that it has `seen`, its own calls `mine`, and how often it `found` the turn taken. A turn may be kept for
+-- calls that follow. So many were served in it so far: 0 where none is kept.
 pub record Sitting : Type 0 where
   pub table : TableId
   pub opening : State
   pub part : Part
+  pub kept : ℕ
 
 -- a seat that nothing was called on
 abbrev pub fresh_seat : TableId → State → ℕ → Sitting
-fresh_seat table opening lane = record { table = table; opening = opening; part = fresh lane }
+fresh_seat table opening lane = record { table = table; opening = opening; part = fresh lane; kept = 0 }
 
 -- one for each lane below this one, in order
 abbrev pub fresh_seats : TableId → State → ℕ → List Sitting
@@ -32,9 +34,17 @@ fresh_seats table opening (suc lane) = fresh_seats table opening lane ++ fresh_s
 abbrev pub IsIdleAt : TableId → Sitting → Type 0
 IsIdleAt table s = (s.table ≡ table) × (s.part.flight ≡ None)
 
+-- no turn is kept
+abbrev pub rested : Sitting → Sitting
+rested s = record s { kept = 0 }
+
+-- A turn is given back where no more calls follow. One that is kept has served one call more, and 63 at most.
+abbrev pub KeepsTurn : Bool → Sitting → Sitting → Type 0
+KeepsTurn more s t = (more ≡ false → t.kept ≡ 0) × (t.kept ≢ 0 → (t.kept ≡ s.kept + 1) × (t.kept ≤ 63))
+
 -- the turn was found taken once more
 abbrev pub missed_by : Sitting → Sitting
-missed_by s = record s { part = missed s.part }
+missed_by s = record (rested s) { part = missed s.part }
 
 -- A call was made. Some beginning `upto` of what is now seen is legal from the opening state, begins with all that had
 -- been seen, and ends with the call. The call is one more of the lane's, and what is now seen has just those.
@@ -53,7 +63,7 @@ pub record Adds (s : Sitting) (event : Event) (t : Sitting) : Type 0 where
 
 -- a call is in flight, after all that was seen
 abbrev pub posted_by : Sitting → ℕ → Ask → Sitting
-posted_by s moment ask = record s { part = posted s.part moment ask }
+posted_by s moment ask = record (rested s) { part = posted s.part moment ask }
 
 -- The call that was in flight has its reply. What is now seen is legal from the opening state, begins with all that had
 -- been seen, and has the call after all that had been seen as it was posted. The call is one more of the lane's, and

@@ -1,8 +1,8 @@
 //! A call that waits until it is answered.
-ghost use Rattle.std.specs.Prelude.{◌≡◌, IfOk, IfErr, OnErr, None};
+ghost use Rattle.std.specs.Prelude.{◌≡◌, IfOk, IfErr, OnOk, OnErr, None};
 ghost use Rattle.krs_model.specs.History.{event_of};
 ghost use Rattle.krs_store.specs.Told.{reply_of, bytes_of};
-ghost use Rattle.krs_desk.specs.Sitting.{Adds, missed_by};
+ghost use Rattle.krs_desk.specs.Sitting.{Adds, KeepsTurn, missed_by};
 ghost use Rattle.krs_desk.specs.Helping.{HasLooked};
 
 use crate::desk::Desk;
@@ -28,15 +28,16 @@ impl Desk {
     ) -> Result<Told, Ask>
         requires table { seat.old.table ≡ self.now }
         requires idle { seat.old.part.flight ≡ None }
+        requires rested { seat.old.kept ≡ 0 }
         ensures table { seat.new.table ≡ seat.old.table }
         ensures idle { seat.new.part.flight ≡ None }
         ensures added { IfOk result (λ told. Adds seat.old (event_of seat.old.part.lane moment ask (reply_of told)) seat.new) }
         ensures taken { IfOk result (λ told. T.took taker.old (bytes_of told) taker.new) }
         ensures looked { IfOk result (λ told. HasLooked self.now seat.old seat.new) }
+        ensures keeps { OnOk result (KeepsTurn more seat.old seat.new) }
         ensures missed { IfErr result (λ back. (back ≡ ask) × (seat.new ≡ missed_by seat.old)) }
         ensures untaken { OnErr result (taker.new ≡ taker.old) }
     {
-        self.give_back(&mut seat.served, &mut seat.token);
         if self.take(&mut seat.token) != FREE {
             return Err(ask);
         }
@@ -58,6 +59,7 @@ impl Desk {
         ensures idle { seat.new.part.flight ≡ None }
         ensures added { Adds seat.old (event_of seat.old.part.lane moment ask result) seat.new }
         ensures looked { HasLooked self.now seat.old seat.new }
+        ensures rested { seat.new.kept ≡ 0 }
     {
         self.post(seat, moment, ask);
         for _ in rt.forever() {
@@ -81,6 +83,7 @@ impl Desk {
         ensures idle { seat.new.part.flight ≡ None }
         ensures added { Adds seat.old (event_of seat.old.part.lane moment ask result) seat.new }
         ensures looked { HasLooked self.now seat.old seat.new }
+        ensures rested { seat.new.kept ≡ 0 }
     {
         self.bells.begin_to_wait();
         let reply = self.call_by_post(rt, seat, moment, ask);
@@ -102,11 +105,13 @@ impl Desk {
     ) -> Told
         requires table { seat.old.table ≡ self.now }
         requires idle { seat.old.part.flight ≡ None }
+        requires rested { seat.old.kept ≡ 0 }
         ensures table { seat.new.table ≡ seat.old.table }
         ensures idle { seat.new.part.flight ≡ None }
         ensures added { Adds seat.old (event_of seat.old.part.lane moment ask (reply_of result)) seat.new }
         ensures taken { T.took taker.old (bytes_of result) taker.new }
         ensures looked { HasLooked self.now seat.old seat.new }
+        ensures keeps { KeepsTurn more seat.old seat.new }
     {
         let mut ask = ask;
         let mut spins = FIRST_PAUSE;
@@ -135,11 +140,13 @@ impl Desk {
     ) -> Told
         requires table { seat.old.table ≡ self.now }
         requires idle { seat.old.part.flight ≡ None }
+        requires rested { seat.old.kept ≡ 0 }
         ensures table { seat.new.table ≡ seat.old.table }
         ensures idle { seat.new.part.flight ≡ None }
         ensures added { Adds seat.old (event_of seat.old.part.lane moment ask (reply_of result)) seat.new }
         ensures taken { T.took taker.old (bytes_of result) taker.new }
         ensures looked { HasLooked self.now seat.old seat.new }
+        ensures keeps { KeepsTurn more seat.old seat.new }
     {
         if !self.is_free() {
             return self.call_again(rt, seat, moment, ask, more, taker);
@@ -168,6 +175,7 @@ impl Desk {
         ensures added { Adds seat.old (event_of seat.old.part.lane moment ask (reply_of result)) seat.new }
         ensures taken { T.took taker.old (bytes_of result) taker.new }
         ensures looked { HasLooked self.now seat.old seat.new }
+        ensures keeps { KeepsTurn more seat.old seat.new }
     {
         match self.call_in_kept_turn(seat, moment, ask, more, taker) {
             Ok(told) => told,
@@ -192,12 +200,14 @@ impl Desk {
         ensures idle { seat.new.part.flight ≡ None }
         ensures added { Adds seat.old (event_of seat.old.part.lane moment ask result) seat.new }
         ensures looked { HasLooked self.now seat.old seat.new }
+        ensures keeps { KeepsTurn more seat.old seat.new }
     {
         reply_in(self.call_into(rt, seat, moment, ask, more, &mut Nobody))
     }
 
-    /// Asks the store in a turn of its own, after each call that is posted. Where the turn is taken again and again it
-    /// posts the call, and helps or waits until it is answered.
+    /// Asks the store as the last call of the turn that the seat keeps. Where it keeps none, asks in a turn of its own,
+    /// after each call that is posted. Where the turn is taken again and again it posts the call, and helps or waits
+    /// until it is answered.
     pub fn call<R: Wait>(&self, rt: &R, seat: &mut Seat, moment: u64, ask: Ask) -> Reply
         requires table { seat.old.table ≡ self.now }
         requires idle { seat.old.part.flight ≡ None }
@@ -205,6 +215,7 @@ impl Desk {
         ensures idle { seat.new.part.flight ≡ None }
         ensures added { Adds seat.old (event_of seat.old.part.lane moment ask result) seat.new }
         ensures looked { HasLooked self.now seat.old seat.new }
+        ensures rested { seat.new.kept ≡ 0 }
     {
         self.call_on(rt, seat, moment, ask, false)
     }

@@ -180,6 +180,7 @@ impl Desk {
         ensures idle { seat.new.part.flight ≡ None }
         ensures added { IfOk result (λ reply. Adds seat.old (event_of seat.old.part.lane moment ask reply) seat.new) }
         ensures alone { IfOk result (λ reply. seat.new.part.checked ≡ []) }
+        ensures rested { seat.new.kept ≡ 0 }
         ensures missed { IfErr result (λ back. (back ≡ ask) × (seat.new ≡ missed_by seat.old)) }
     {
         self.give_back(&mut seat.served, &mut seat.token);

@@ -155,6 +155,7 @@ impl Desk {
         ensures table { seat.new.table ≡ seat.old.table }
         ensures flight { seat.new.part.flight ≡ seat.old.part.flight }
         ensures helped { HasHelped self.now seat.old result seat.new }
+        ensures rested { seat.new.kept ≡ 0 }
     {
         self.give_back(&mut seat.served, &mut seat.token);
         if self.take(&mut seat.token) != FREE {

@@ -1,12 +1,12 @@
 //! A turn that a seat keeps for the calls that follow at once.
-ghost use Rattle.std.specs.Prelude.{◌≡◌, ◌≢◌, ◌<◌, true, List, [], ◌∷◌, IfOk, IfErr, OnErr, Some, None};
+ghost use Rattle.std.specs.Prelude.{◌≡◌, ◌≢◌, ◌<◌, true, List, [], ◌∷◌, IfOk, IfErr, OnOk, OnErr, Some, None};
 ghost use Rattle.krs_types.specs.declared.event.Event.{Event};
 ghost use Rattle.krs_model.specs.History.{event_of};
 ghost use Rattle.krs_store.specs.Told.{reply_of, bytes_of};
 ghost use Rattle.krs_world.specs.Knowing.{events_of, kept};
 ghost use Rattle.krs_desk.specs.Parts.{sat};
 ghost use Rattle.krs_desk.specs.Steps.{event_in};
-ghost use Rattle.krs_desk.specs.Sitting.{Adds};
+ghost use Rattle.krs_desk.specs.Sitting.{Adds, KeepsTurn, rested};
 ghost use Rattle.krs_desk.specs.Seated.{HoldsBefore, part, opening};
 ghost use Rattle.krs_desk.specs.Helping.{HoldsAll, HasLooked};
 ghost use Rattle.krs_desk.specs.Keeping.{HasKept, GoesOn, at_rest};
@@ -90,7 +90,7 @@ impl Desk {
     #[inline]
     pub fn rest(&self, seat: &mut Seat)
         requires { seat.old.table ≡ self.now }
-        ensures { seat.new ≡ seat.old }
+        ensures { seat.new ≡ rested seat.old }
     {
         self.give_back(&mut seat.served, &mut seat.token);
     }
@@ -121,7 +121,9 @@ impl Desk {
         ensures added { IfOk result (λ told. Adds seat.old (event_of seat.old.part.lane moment ask (reply_of told)) seat.new) }
         ensures taken { IfOk result (λ told. T.took taker.old (bytes_of told) taker.new) }
         ensures looked { IfOk result (λ told. HasLooked self.now seat.old seat.new) }
+        ensures keeps { OnOk result (KeepsTurn more seat.old seat.new) }
         ensures none { IfErr result (λ back. (back ≡ ask) × (seat.new ≡ seat.old)) }
+        ensures rested { OnErr result (seat.new.kept ≡ 0) }
         ensures untaken { OnErr result (taker.new ≡ taker.old) }
     {
         if seat.served == 0 {

@@ -59,6 +59,7 @@ impl Desk {
         requires table { (first.old.table ≡ self.now) × (second.old.table ≡ self.now) }
         ensures table { (first.new.table ≡ self.now) × (second.new.table ≡ self.now) }
         ensures met { Meets first.old second.old first.new second.new }
+        ensures rested { (first.new.kept ≡ 0) × (second.new.kept ≡ 0) }
     {
         self.give_back(&mut first.served, &mut first.token);
         self.give_back(&mut second.served, &mut second.token);

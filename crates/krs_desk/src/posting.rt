@@ -1,6 +1,6 @@
 //! Calls that are posted, and collected once they are answered.
 ghost use Rattle.std.specs.Prelude.{◌≡◌, ◌≢◌, true, None, IfSome, IfNone};
-ghost use Rattle.krs_desk.specs.Sitting.{posted_by, Collects};
+ghost use Rattle.krs_desk.specs.Sitting.{posted_by, Collects, rested};
 
 use crate::desk::Desk;
 use crate::seat::Seat;
@@ -29,7 +29,8 @@ impl Desk {
         requires table { seat.old.table ≡ self.now }
         ensures table { seat.new.table ≡ seat.old.table }
         ensures some { IfSome result (λ reply. Collects seat.old reply seat.new) }
-        ensures none { IfNone result ((seat.new ≡ seat.old) × (seat.old.part.done ≢ true)) }
+        ensures none { IfNone result ((seat.new ≡ rested seat.old) × (seat.old.part.done ≢ true)) }
+        ensures rested { seat.new.kept ≡ 0 }
     {
         self.give_back(&mut seat.served, &mut seat.token);
         let table = &self.table;

@@ -8,8 +8,8 @@ use std::marker::Model;
 
 /// A client's place at the desk that made it. It may be sent to another thread. A contract sees which desk it is of,
 /// the state of the store that the desk was opened with, and what it knows of the history: the events that it has seen,
-/// its own calls, the one that is in flight, and how often it found the turn taken. It doesn't see whether the seat has
-/// kept a turn from one call to the next.
+/// its own calls, the one that is in flight, how often it found the turn taken, and how many calls it has served in the
+/// turn that it keeps.
 pub struct Seat {
     pub(crate) lane: u32,
     // Whether no call is in flight: then the lane's slot is this seat's.
@@ -27,7 +27,7 @@ impl Model for Seat {
     ghost use Rattle.krs_desk.specs.Seated.{sitting_of, HasSlot};
     ghost use Rattle.krs_desk.specs.Keeping.{IsPlaced};
 
-    ghost view = { λ s. sitting_of s.token.table_id s.token.me };
+    ghost view = { λ s. sitting_of s.token.table_id s.served s.token.me };
 
     ghost invariant = { λ s. IsPlaced s.lane s.idle s.served s.token.me × HasSlot s.lane s.token.table_id };
 }
@@ -47,7 +47,7 @@ impl Drop for Seat {
 impl Seat {
     // The lane, whether it is idle, how many calls its turn has served, and the token of a seat that is given up.
     pub(crate) fn into_parts(self) -> (u32, bool, u32, Token)
-        ensures sitting { sitting_of result.3.table_id result.3.me ≡ self }
+        ensures sitting { sitting_of result.3.table_id result.2 result.3.me ≡ self }
         ensures placed { IsPlaced result.0 result.1 result.2 result.3.me × HasSlot result.0 result.3.table_id }
     {
         let Self {

@@ -32,7 +32,7 @@ returns-then-may_keep-clause-added g c =
     let seat = c.seat.inside in
     let w = c.go_on-told.new.token.me in
     kept_told seat.token.table_id c.go_on-told.new.token.table_id seat.token.me (given_back w) c.args.seat.now seat.lane
-    seat.idle seat.served c.args.moment c.args.ask (reply_of c.go_on-told.result) c.seat.view_is (search rules) (search rules)
+    seat.idle seat.served _ c.args.moment c.args.ask (reply_of c.go_on-told.result) c.seat.view_is (search rules) (search rules)
     c.seat.invariant.0 (goes_finished seat.token.me w _ c.go_on-told.ensures.gone)
 
 pub returns-then-may_keep-clause-idle : goal.returns-then-may_keep-clause-idle
@@ -46,7 +46,7 @@ pub returns-then-may_keep-clause-looked : goal.returns-then-may_keep-clause-look
 returns-then-may_keep-clause-looked g c =
     let seat = c.seat.inside in
     let w = c.go_on-told.new.token.me in
-    kept_looked c.args.self.now seat.token.table_id c.go_on-told.new.token.table_id seat.token.me (given_back w)
+    kept_looked c.args.self.now seat.token.table_id c.go_on-told.new.token.table_id _ seat.token.me (given_back w)
     c.args.seat.now _ c.seat.view_is (goes_finished seat.token.me w _ c.go_on-told.ensures.gone)
 
 pub finish-told-requires-clause-held : goal.finish-told-requires-clause-held
@@ -72,7 +72,7 @@ pub returns-clause-added : goal.returns-clause-added
 returns-clause-added g c =
     let seat = c.seat.inside in
     kept_told seat.token.table_id c.finish-told.new.token.table_id seat.token.me c.finish-told.new.token.me
-    c.args.seat.now seat.lane seat.idle seat.served c.args.moment c.args.ask (reply_of c.finish-told.result) c.seat.view_is
+    c.args.seat.now seat.lane seat.idle seat.served _ c.args.moment c.args.ask (reply_of c.finish-told.result) c.seat.view_is
     (search rules) (search rules) c.seat.invariant.0 c.finish-told.ensures.finished
 
 pub returns-clause-idle : goal.returns-clause-idle
@@ -84,5 +84,5 @@ returns-clause-idle g c =
 pub returns-clause-looked : goal.returns-clause-looked
 returns-clause-looked g c =
     let seat = c.seat.inside in
-    kept_looked c.args.self.now seat.token.table_id c.finish-told.new.token.table_id seat.token.me
+    kept_looked c.args.self.now seat.token.table_id c.finish-told.new.token.table_id _ seat.token.me
     c.finish-told.new.token.me c.args.seat.now _ c.seat.view_is c.finish-told.ensures.finished

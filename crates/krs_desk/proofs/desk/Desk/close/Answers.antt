@@ -14,6 +14,6 @@ fetch-requires-clause-rests c =
 pub returns-in-Ok-clause-ended : goal.returns-in-Ok-clause-ended
 returns-in-Ok-clause-ended c =
     let t = c.into_parts-lane.result in
-    ends_in _ _ _ _ _
+    ends_in _ _ _ _ _ _
     (given_view t.3.table_id c.give_back.new.token.table_id t.2 t.3.me c.give_back.new.token.me c.args.seat
     c.into_parts-lane.ensures.sitting c.give_back.ensures.table c.give_back.ensures.given) c.in-Ok.ensures.had

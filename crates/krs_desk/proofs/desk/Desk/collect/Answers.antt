@@ -31,7 +31,7 @@ returns-clause-some c =
     let n = c.compare_exchange.new.seat.me in
     let w = c.exchange.new.seat.me in
     let t = c.compare_exchange.ensures.2.0 c.if-compare_exchange-ne-ANSWERED.false in
-    collects_is c.give_back.new.token.table_id c.exchange.new.seat.table_id m w c.args.seat.now t.0 t.1 t.2
+    collects_is c.give_back.new.token.table_id c.exchange.new.seat.table_id _ _ m w c.args.seat.now t.0 t.1 t.2
     c.in-Replied.reply _ view (search rules)
     (collected_is m n w c.exchange.result _ t.0 t.1 t.2 t.3 c.in-Replied.reply t.4 c.exchange.ensures.2 c.in-Replied.is
     c.exchange.ensures.3)

@@ -77,7 +77,7 @@ returns-clause-helped c =
     given_view seat.token.table_id c.give_back.new.token.table_id seat.served seat.token.me m c.args.seat.now
     c.seat.view_is c.give_back.ensures.table c.give_back.ensures.given in
     let had = c.take.ensures.had c.if-take-ne-FREE.false in
-    helped c.give_back.new.token.table_id c.bring.new.token.table_id c.args.self.now m c.take.new.token.me
+    helped c.give_back.new.token.table_id c.bring.new.token.table_id c.args.self.now _ _ m c.take.new.token.me
     c.serve_all-answered.new.token.me c.bring.new.token.me c.args.seat.now _ view (search rules)
     (within seat.lane seat.idle m seat.token.table_id c.args.self.now seated c.seat.invariant.1
     (ap (λ (s : Sitting). s.table) c.seat.view_is ∙ c.requires.table)) had c.serve_all-answered.ensures.gone

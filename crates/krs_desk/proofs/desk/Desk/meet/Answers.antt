@@ -69,5 +69,5 @@ returns-clause-met c =
     given_view second.token.table_id c.give_back-2.new.token.table_id second.served second.token.me m' c.args.second.now
     c.second.view_is c.give_back-2.ensures.table c.give_back-2.ensures.given in
     meets_at c.give_back.new.token.table_id c.give_back-2.new.token.table_id c.look_as_one.new.first.table_id
-    c.look_as_one.new.second.table_id m m' c.look_as_one.new.first.me c.look_as_one.new.second.me c.args.first.now
+    c.look_as_one.new.second.table_id _ _ _ _ m m' c.look_as_one.new.first.me c.look_as_one.new.second.me c.args.first.now
     c.args.second.now view view' c.look_as_one.ensures.seen c.look_as_one.ensures.openings

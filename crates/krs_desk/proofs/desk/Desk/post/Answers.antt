@@ -64,7 +64,7 @@ returns c =
     given_view seat.token.table_id c.give_back.new.token.table_id seat.served seat.token.me m c.args.seat.now
     c.seat.view_is c.give_back.ensures.table c.give_back.ensures.given in
     let quiet = ap (λ (s : Sitting). s.part.flight) view ∙ c.requires.idle in
-    posts_is c.give_back.new.token.table_id c.store.new.seat.table_id m c.store.new.seat.me c.args.seat.now c.args.moment
-    c.args.ask view (search rules)
+    posts_is c.give_back.new.token.table_id c.store.new.seat.table_id _ _ m c.store.new.seat.me c.args.seat.now c.args.moment
+    c.args.ask view (search rules) c.give_back.ensures.none
     (posted_is 0 seat.lane seat.idle m c.exchange.new.seat.me c.store.new.seat.me c.args.moment c.args.ask seated quiet
     c.exchange.ensures.3 c.store.ensures.2)

@@ -1,5 +1,5 @@
 use Rattle.std.proofs.Common.{rules}
-use Rattle.krs_desk.proofs.KeptTurns.{given_seated, given_view, placed}
+use Rattle.krs_desk.proofs.KeptTurns.{given_seated, given_view, placed, rests_at}
 use Rattle.krs_desk.proofs.desk.Desk.rest.Goals as goal
 
 pub give_back-requires-clause-kept : goal.give_back-requires-clause-kept
@@ -20,4 +20,5 @@ returns c =
     let view =
     given_view seat.token.table_id c.give_back.new.token.table_id seat.served seat.token.me m c.args.seat.now
     c.seat.view_is c.give_back.ensures.table c.give_back.ensures.given in
-    view
+    rests_at c.give_back.new.token.table_id seat.served c.give_back.new.served m c.args.seat.now view
+    c.give_back.ensures.none

@@ -83,7 +83,7 @@ returns-clause-added c =
     let had = c.take.ensures.had c.if-take-ne-FREE.false in
     let held = had_held seat.lane seat.idle m _ seated had in
     rw c.reply_in.ensures
-    (turn_adds c.give_back.new.token.table_id c.finish-told.new.token.table_id m c.take.new.token.me c.take.new.token.me
+    (turn_adds c.give_back.new.token.table_id c.finish-told.new.token.table_id _ _ m c.take.new.token.me c.take.new.token.me
     c.finish-told.new.token.me c.args.seat.now seat.lane seat.idle 0 0 c.args.moment c.args.ask
     (reply_of c.finish-told.result) view (search rules) seated had (starts _ held.0 held.1) c.finish-told.ensures.finished)
 
