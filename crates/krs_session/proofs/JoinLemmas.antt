@@ -249,14 +249,18 @@ module _ {S C W : Type 0} (leads : S → List Event → S → Type 0) (ticked : 
       }
 
   -- what is held is written in the end, unless something stopped the writing
-  pub holds_wrote : (lane : ℕ) (s0 s1 : S) (c0 c1 : C) (w0 w1 w2 : W) (held : List ℕ) (frames : List Framed)
-      (result : Option Ended) → Holds leads ticked took lane s0 s1 c0 c1 w0 w1 held frames None
-      → Wrote took w1 w2 held result → Answers leads ticked took lane s0 s1 c0 c1 w0 w2 frames result
-  holds_wrote lane s0 s1 c0 c1 w0 w1 w2 held frames result a wrote =
+  pub holds_wrote : (lane : ℕ) (s0 s1 s2 : S) (c0 c1 : C) (w0 w1 w2 : W) (held : List ℕ) (frames : List Framed)
+      (result : Option Ended) → Holds leads ticked took lane s0 s1 c0 c1 w0 w1 held frames None → leads s1 [] s2
+      → Wrote took w1 w2 held result → Answers leads ticked took lane s0 s2 c0 c1 w0 w2 frames result
+  holds_wrote lane s0 s1 s2 c0 c1 w0 w1 w2 held frames result a still wrote =
       record {
         events = a.events;
         order = a.order;
-        asked = a.asked;
+        asked = record {
+          led = subst (λ (e : List Event). leads s0 e s2) (append-nil a.events) (led s0 s1 s2 a.events [] a.asked.led still);
+          moments = a.asked.moments;
+          lanes = a.asked.lanes;
+        };
         wrote = pending_wrote took joins w0 w1 w2 held (session_text frames (replies_of a.events)) result a.pending
             wrote;
       }

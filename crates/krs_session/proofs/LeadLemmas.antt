@@ -1,5 +1,5 @@
 -- What a seat gains by the calls that lead to another.
-use Rattle.std.proofs.Common.{◌≡◌, List, [], ◌∷◌, ◌++◌, refl, sym, ap, subst, ◌∙◌, append_assoc}
+use Rattle.std.proofs.Common.{◌≡◌, ℕ, List, [], ◌∷◌, ◌++◌, refl, sym, ap, subst, ◌∙◌, append_assoc}
 use Rattle.std.proofs.lemmas.List.{append-nil, map-append}
 use Rattle.krs_types.specs.declared.event.Event.{Event}
 use Rattle.krs_types.specs.declared.ask.Ask.{Ask}
@@ -14,18 +14,18 @@ use Rattle.krs_session.specs.Events.{asks_of, asks_in}
 use Rattle.krs_session.specs.Session.{leave}
 use Rattle.krs_session.specs.Leads.{Leads, SeesUpTo, Gains, GainsTheirCalls, GainsSession}
 
-no_call : (s : Sitting) (before after : List Event) (call : Event) → [] ≡ before ++ call ∷ after → SeesUpTo s call s
-no_call s [] after call is = absurd cc
-no_call s (x ∷ before) after call is = absurd cc
+no_call : (s t : Sitting) (before after : List Event) (call : Event) → [] ≡ before ++ call ∷ after → SeesUpTo s call t
+no_call s t [] after call is = absurd cc
+no_call s t (x ∷ before) after call is = absurd cc
 
-gains_none : (s : Sitting) → Gains s [] s
-gains_none s = record {
+gains_none : (s : Sitting) (kept : ℕ) → Gains s [] (record s { kept = kept })
+gains_none s kept = record {
   table = refl;
   opening = refl;
   lane = refl;
   mine = sym (append-nil s.part.mine);
   seen = prefix_self s.part.seen;
-  each = no_call s;
+  each = no_call s (record s { kept = kept });
   own = λ made. absurd (made refl);
 }
 
@@ -73,7 +73,8 @@ sees_each s u t first calls a gains (x ∷ before) after call is =
     sees_later s u t first call a (gains.each before after call cc)
 
 pub gains_by : GainsTheirCalls
-gains_by s t [] p = subst (λ (z : Sitting). Gains s [] z) p (gains_none s)
+gains_by s t [] p =
+    subst (λ (z : Sitting). Gains s [] z) (ap (λ (z : Sitting). record z { kept = t.kept }) p) (gains_none s t.kept)
 gains_by s t (call ∷ calls) p =
     let u : Sitting = p.0 in
     let later : Gains u calls t = gains_by u t calls p.2 in

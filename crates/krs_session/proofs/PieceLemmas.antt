@@ -207,9 +207,9 @@ module _ {R S C W : Type 0} (gave : R → List ℕ → R → Type 0) (leads : S 
             a.wrote b.served);
       }
 
-  pub so_far_none : (lane : ℕ) (r : R) (s : S) (c : C) (w : W) (f : End) → gave r [] r → leads s [] s → ticked c [] c
-      → took w [] w → Frames [] [] f → SoFar gave leads ticked took lane 0 r r s s c c w w f
-  so_far_none lane r s c w f a b d e h =
+  pub so_far_none : (lane : ℕ) (r : R) (s t : S) (c : C) (w : W) (f : End) → gave r [] r → leads s [] t
+      → ticked c [] c → took w [] w → Frames [] [] f → SoFar gave leads ticked took lane 0 r r s t c c w w f
+  so_far_none lane r s t c w f a b d e h =
       record {
         bytes = [];
         frames = [];

@@ -1,26 +1,47 @@
 -- Which calls lead from one seat of a desk to another, and what the seat gains by them. The form is this project's own.
 use Rattle.std.specs.Prelude.{◌≡◌, ◌≢◌, List, [], ◌∷◌, ◌++◌, refl}
-use Rattle.std.proofs.Common.{subst, sym}
+use Rattle.std.proofs.Common.{◌∙◌, ap, subst, sym}
 use Rattle.krs_types.specs.declared.event.Event.{Event}
 use Rattle.krs_model.specs.State.{State}
 use Rattle.krs_model.specs.Lists.{Begins}
 use Rattle.krs_model.specs.History.{IsLegal}
 use Rattle.krs_world.specs.Knowing.{events_of}
-use Rattle.krs_desk.specs.Sitting.{Sitting, Adds}
+use Rattle.krs_desk.specs.Sitting.{Sitting, Adds, rested}
 use Rattle.krs_wire.specs.declared.framed.Framed.{Framed}
 use Rattle.krs_session.specs.Events.{asks_of, asks_in}
 use Rattle.krs_session.specs.Session.{leave}
 
--- each call is made at the seat that the one before it left
+-- each call is made at the seat that the one before it left, or that has rested since
 abbrev pub Leads : Sitting → List Event → Sitting → Type 0
-Leads s [] t = s ≡ t
+Leads s [] t = rested s ≡ rested t
 Leads s (call ∷ calls) t = (u : Sitting) × Adds s call u × Leads u calls t
 
 pub leads_none : (s : Sitting) → Leads s [] s
 leads_none s = refl
 
+-- a call adds the same, whether a turn is kept or not
+adds_as : (s t u : Sitting) (e : Event) → rested s ≡ rested t → Adds t e u → Adds s e u
+adds_as s t u e same a =
+    let back = sym same in record {
+      table = a.table ∙ ap (λ (z : Sitting). z.table) back;
+      opening = a.opening ∙ ap (λ (z : Sitting). z.opening) back;
+      lane = a.lane ∙ ap (λ (z : Sitting). z.part.lane) back;
+      upto = a.upto;
+      between = a.between;
+      last = a.last;
+      begins = a.begins;
+      legal = subst (λ (z : Sitting). IsLegal z.opening a.upto a.last) back a.legal;
+      ends = a.ends ∙ ap (λ (z : Sitting). (z.part.seen ++ a.between) ++ e ∷ []) back;
+      mine = a.mine ∙ ap (λ (z : Sitting). z.part.mine ++ e ∷ []) back;
+      own = a.own;
+    }
+
+leads_as : (s t u : Sitting) (ys : List Event) → rested s ≡ rested t → Leads t ys u → Leads s ys u
+leads_as s t u [] same q = same ∙ q
+leads_as s t u (y ∷ ys) same q = (q.0, adds_as s t q.0 y same q.1, q.2)
+
 pub leads_both : (s t u : Sitting) (xs ys : List Event) → Leads s xs t → Leads t ys u → Leads s (xs ++ ys) u
-leads_both s t u [] ys p q = subst (λ (z : Sitting). Leads z ys u) (sym p) q
+leads_both s t u [] ys p q = leads_as s t u ys p q
 leads_both s t u (x ∷ xs) ys p q = (p.0, p.1, leads_both p.0 t u xs ys p.2 q)
 
 -- Some beginning `upto` of what is now seen is legal from the opening state, begins with all that had been seen, and

@@ -7,7 +7,7 @@ ghost use Rattle.krs_wire.specs.Reply.{reply_frame};
 ghost use Rattle.krs_session.specs.Replies.{HoldsFrame, TellsNext};
 ghost use Rattle.krs_session.specs.Serving.{Asked, Answers, Holds, PendingNext, StopsBy, StopsNext};
 
-use crate::writing::{can_hold, flush, forget, send_reply};
+use crate::writing::{flush, forget, send_reply};
 use crate::{Clock, Ended, Gate, Keeper, Point, Replies, Sink};
 use krs_store::Told;
 use krs_types::{Ask, Op, Reply};
@@ -26,30 +26,6 @@ pub(crate) struct Setting<'a, H, D, G> {
     pub turns: u64,
 }
 
-/// One ask at a moment, and its reply, which may be held then. Where more follow, others may have to wait for them.
-fn ask_at<H, S, D: Keeper<S, H>, G: Gate>(
-    setting: &Setting<'_, H, D, G>,
-    seat: &mut S,
-    moment: u64,
-    ask: Ask,
-    more: bool,
-    out: &mut Replies,
-) -> Told
-    requires { D.ready setting.now.desk.now seat.old }
-    ensures led { D.leads seat.old (event_of (D.lane_of seat.old) moment ask (reply_of result) ∷ []) seat.new }
-    ensures taken { HoldsFrame out.old (bytes_of result) out.new }
-    ensures ready { D.ready setting.now.desk.now seat.new }
-    ensures lane { D.lane_of seat.new ≡ D.lane_of seat.old }
-{
-    let lane = setting.desk.lane(seat);
-    setting.gate.pass(lane, Point::Asked);
-    let told = setting
-        .desk
-        .call_into(setting.rt, seat, moment, ask, more, out);
-    setting.gate.pass(lane, Point::Answered);
-    told
-}
-
 /// One ask at the clock's moment, and its reply.
 pub(crate) fn ask_one<H, S, D: Keeper<S, H>, C: Clock, G: Gate>(
     setting: &Setting<'_, H, D, G>,
@@ -62,6 +38,7 @@ pub(crate) fn ask_one<H, S, D: Keeper<S, H>, C: Clock, G: Gate>(
         × Asked D.leads C.ticked (D.lane_of seat.old) seat.old seat.new clock.old clock.new (event ∷ []) }
     ensures ready { D.ready setting.now.desk.now seat.new }
     ensures lane { D.lane_of seat.new ≡ D.lane_of seat.old }
+    ensures rested { D.rested seat.new }
 {
     let moment = clock.now();
     let lane = setting.desk.lane(seat);
@@ -90,8 +67,8 @@ fn is_long(op: &Op) -> bool {
     )
 }
 
-/// One ask at a moment among those of a piece, and its reply, which may be held then. Nobody waits for those that follow where that reply can't
-/// be held behind the others: what is held is written then, which may block.
+/// One ask at a moment among those of a piece, and its reply, which may be held then. Where more follow, others may have
+/// to wait for them.
 fn ask_among<H, S, D: Keeper<S, H>, G: Gate>(
     setting: &Setting<'_, H, D, G>,
     seat: &mut S,
@@ -107,11 +84,12 @@ fn ask_among<H, S, D: Keeper<S, H>, G: Gate>(
     ensures lane { D.lane_of seat.new ≡ D.lane_of seat.old }
 {
     let goes_on = more && !setting.gate.may_hold() && !is_long(&ask.op);
-    let told = ask_at(setting, seat, moment, ask, goes_on, out);
-    if can_hold(&out.bytes, &told) {
-        return told;
-    }
-    setting.desk.rest(seat);
+    let lane = setting.desk.lane(seat);
+    setting.gate.pass(lane, Point::Asked);
+    let told = setting
+        .desk
+        .call_into(setting.rt, seat, moment, ask, goes_on, out);
+    setting.gate.pass(lane, Point::Answered);
     told
 }
 
@@ -126,42 +104,56 @@ fn moment_of<C: Clock>(clock: &mut C, was_asked: bool) -> u64
 }
 
 /// A reply is held or written where nothing stopped the writing before.
-fn reply_behind<W: Sink>(
+fn reply_behind<H, W: Sink, S, D: Keeper<S, H>, G: Gate>(
+    setting: &Setting<'_, H, D, G>,
     writer: &mut W,
     out: &mut Vec<u8>,
+    seat: &mut S,
     tag: Option<u64>,
     reply: Reply,
     stop: Option<Ended>,
 ) -> Option<Ended>
-    requires { stop ≡ None → W.failures writer.old < u64.MAX }
+    requires ready { D.ready setting.now.desk.now seat.old }
+    requires failures { stop ≡ None → W.failures writer.old < u64.MAX }
     ensures sent { PendingNext W.took writer.old writer.new out.old.items out.new.items
         (reply_frame tag reply) stop result }
     ensures count { StopsNext (W.failures writer.old) (W.failures writer.new) stop result }
 
     // Where it ends for memory, the replies that were held before are written.
     ensures memory { stop ≡ None → result ≡ Some Ended.Memory → W.took writer.old out.old.items writer.new }
+    ensures led { D.leads seat.old [] seat.new }
+    ensures ready { D.ready setting.now.desk.now seat.new }
+    ensures lane { D.lane_of seat.new ≡ D.lane_of seat.old }
 {
     match stop {
-        None => send_reply(writer, out, tag, &reply),
+        None => send_reply(setting, writer, out, seat, tag, &reply),
         Some(_) => stop,
     }
 }
 
 /// The same of a reply that may be held already.
-fn told_behind<W: Sink>(
+fn told_behind<H, W: Sink, S, D: Keeper<S, H>, G: Gate>(
+    setting: &Setting<'_, H, D, G>,
     writer: &mut W,
     out: &mut Replies,
+    seat: &mut S,
     tag: Option<u64>,
     told: Told,
     stop: Option<Ended>,
 ) -> Option<Ended>
-    requires { stop ≡ None → W.failures writer.old < u64.MAX }
+    requires ready { D.ready setting.now.desk.now seat.old }
+    requires failures { stop ≡ None → W.failures writer.old < u64.MAX }
     ensures sent { TellsNext W.took writer.old writer.new out.old out.new tag told stop result }
     ensures count { StopsNext (W.failures writer.old) (W.failures writer.new) stop result }
+    ensures led { D.leads seat.old [] seat.new }
+    ensures ready { D.ready setting.now.desk.now seat.new }
+    ensures lane { D.lane_of seat.new ≡ D.lane_of seat.old }
 {
     match told {
         Told::Taken(_) => stop,
-        Told::Reply(reply) => reply_behind(writer, &mut out.bytes, tag, reply, stop),
+        Told::Reply(reply) => {
+            reply_behind(setting, writer, &mut out.bytes, seat, tag, reply, stop)
+        }
     }
 }
 
@@ -193,7 +185,7 @@ fn ask_all<H, W: Sink, S, D: Keeper<S, H>, C: Clock, G: Gate>(
         let more = !frames.is_empty();
         out.tag = tag;
         let told = ask_among(setting, seat, moment, ask, more, out);
-        stop = told_behind(writer, out, tag, told, stop);
+        stop = told_behind(setting, writer, out, seat, tag, told, stop);
     }
     stop
 }
@@ -215,10 +207,11 @@ pub(crate) fn answer_all<H, W: Sink, S, D: Keeper<S, H>, C: Clock, G: Gate>(
     ensures count { StopsBy (W.failures writer.old) (W.failures writer.new) result }
     ensures ready { D.ready setting.now.desk.now seat.new }
     ensures lane { D.lane_of seat.new ≡ D.lane_of seat.old }
+    ensures rested { result ≡ None → D.rested seat.new }
 {
     out.bytes.clear();
     match ask_all(setting, writer, out, seat, clock, frames) {
-        None => flush(writer, &mut out.bytes),
+        None => flush(setting, writer, &mut out.bytes, seat),
         Some(stop) => {
             forget(&mut out.bytes);
             Some(stop)

@@ -8,6 +8,7 @@ use krs_types::{Ask, Reply};
 use std::sync::Wait;
 
 impl<R: Wait> Keeper<Seat, R> for Desk {
+    ghost use Rattle.std.specs.Prelude.{◌≡◌};
     ghost use Rattle.krs_session.specs.Leads.{Leads, leads_none, leads_both};
 
     ghost ready = { IsIdleAt };
@@ -16,6 +17,8 @@ impl<R: Wait> Keeper<Seat, R> for Desk {
 
     // Each event is a call, at the seat that the one before it left.
     ghost leads = { Leads };
+
+    ghost rested = { λ s. s.kept ≡ 0 };
 
     fn lane(&self, seat: &Seat) -> u32 {
         seat.lane()

@@ -1,4 +1,4 @@
-ghost use Rattle.std.specs.Prelude.{◌≡◌, ℕ, List, [], ◌∷◌, ◌++◌};
+ghost use Rattle.std.specs.Prelude.{◌≡◌, ℕ, false, List, [], ◌∷◌, ◌++◌};
 ghost use Rattle.krs_types.specs.declared.event.Event.{Event};
 ghost use Rattle.krs_model.specs.History.{event_of};
 ghost use Rattle.krs_store.specs.Told.{reply_of, bytes_of};
@@ -19,6 +19,9 @@ pub trait Keeper<S, R> {
     // This list of events leads from one seat to another.
     ghost leads: { S → List Event → S → Type 0 };
 
+    // The seat keeps no turn for calls that would follow.
+    ghost rested: { S → Type 0 };
+
     fn lane(&self, seat: &S) -> u32
         requires { ready self.now seat.now }
         ensures { result ≡ lane_of seat.now };
@@ -28,7 +31,8 @@ pub trait Keeper<S, R> {
         requires { ready self.now seat.old }
         ensures ready { ready self.now seat.new }
         ensures lane { lane_of seat.new ≡ lane_of seat.old }
-        ensures led { leads seat.old (event_of (lane_of seat.old) moment ask result ∷ []) seat.new };
+        ensures led { leads seat.old (event_of (lane_of seat.old) moment ask result ∷ []) seat.new }
+        ensures rested { rested seat.new };
 
     /// As `call`, but a payload may come to be held among the replies at once. Where more calls of the seat follow, all
     /// others may have to wait for them, until a call with no more, or `rest`.
@@ -46,6 +50,7 @@ pub trait Keeper<S, R> {
         ensures lane { lane_of seat.new ≡ lane_of seat.old }
         ensures led { leads seat.old (event_of (lane_of seat.old) moment ask (reply_of result) ∷ []) seat.new }
         ensures taken { HoldsFrame replies.old (bytes_of result) replies.new }
+        ensures rested { more ≡ false → rested seat.new }
     {
         let _ = more;
         let _ = replies;
@@ -58,9 +63,7 @@ pub trait Keeper<S, R> {
         ensures ready { ready self.now seat.new }
         ensures lane { lane_of seat.new ≡ lane_of seat.old }
         ensures led { leads seat.old [] seat.new }
-    {
-        let _ = seat;
-    }
+        ensures rested { rested seat.new };
 
     /// Whether the session of a seat lacks memory.
     fn is_short(&self) -> bool;

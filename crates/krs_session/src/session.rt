@@ -87,6 +87,7 @@ fn answer_fed<H, W: Sink, S, D: Keeper<S, H>, C: Clock, G: Gate>(
     ensures told { held.new.lack ≤ 2097152 }
     ensures ready { D.ready setting.now.desk.now seat.new }
     ensures lane { D.lane_of seat.new ≡ D.lane_of seat.old }
+    ensures rested { result ≡ None → D.rested seat.new }
 {
     if held.feed.lacking() == 0 {
         held.lack.tell::<S, H, D>(setting.desk, 0);
@@ -118,6 +119,7 @@ fn answer_cut<H, W: Sink, S, D: Keeper<S, H>, C: Clock, G: Gate>(
     ensures told { held.new.lack ≤ 2097152 }
     ensures ready { D.ready setting.now.desk.now seat.new }
     ensures lane { D.lane_of seat.new ≡ D.lane_of seat.old }
+    ensures rested { result ≡ None → D.rested seat.new }
 {
     let mut frames = VecDeque::from(frames);
     let stop = answer_fed(setting, held, writer, seat, clock, &mut frames);
@@ -190,6 +192,7 @@ fn serve_piece<H, W: Sink, S, D: Keeper<S, H>, C: Clock, G: Gate>(
     ensures told { result ≡ None → held.new.lack ≤ 2097152 }
     ensures ready { D.ready setting.now.desk.now seat.new }
     ensures lane { D.lane_of seat.new ≡ D.lane_of seat.old }
+    ensures rested { result ≡ None → D.rested seat.new }
 {
     match cut::<H, S, D>(setting.desk, &mut held.feed, &mut held.lack, piece) {
         Err(fault) => match fault {
@@ -228,6 +231,7 @@ fn serve_read<H, W: Sink, S, D: Keeper<S, H>, C: Clock, G: Gate>(
     ensures told { result ≡ None → held.new.lack ≤ 2097152 }
     ensures ready { D.ready setting.now.desk.now seat.new }
     ensures lane { D.lane_of seat.new ≡ D.lane_of seat.old }
+    ensures rested { result ≡ None → D.rested seat.new }
 {
     if setting.desk.is_short() {
         if held.feed.lacking() > 0 {
@@ -238,7 +242,8 @@ fn serve_read<H, W: Sink, S, D: Keeper<S, H>, C: Clock, G: Gate>(
     serve_piece(setting, held, piece, writer, seat, clock)
 }
 
-/// One read, and what it leads to. While it waits, it holds no more room for replies than it began with.
+/// One read, for which the seat rests, and what it leads to. While it waits, it holds no more room for replies than it
+/// began with.
 fn turn<H, R: Source, W: Sink, S, D: Keeper<S, H>, C: Clock, G: Gate>(
     setting: &Setting<'_, H, D, G>,
     reading: &mut Reading,
@@ -249,6 +254,7 @@ fn turn<H, R: Source, W: Sink, S, D: Keeper<S, H>, C: Clock, G: Gate>(
 ) -> Option<Ended>
     requires unfailed { fault_of reading.old.held.feed ≡ None }
     requires ready { D.ready setting.now.desk.now seat.old }
+    requires rested { D.rested seat.old }
     requires room { HaveRoom 1 (counts_of R.reads R.empties R.failures W.failures reader.old writer.old) }
     ensures served { (bytes : List ℕ) × R.gave reader.old bytes reader.new × (length bytes ≤ 4096)
         × Served D.leads C.ticked W.took (D.lane_of seat.old) seat.old seat.new clock.old clock.new
@@ -261,6 +267,7 @@ fn turn<H, R: Source, W: Sink, S, D: Keeper<S, H>, C: Clock, G: Gate>(
     ensures told { result ≡ None → reading.new.held.lack ≤ 2097152 }
     ensures ready { D.ready setting.now.desk.now seat.new }
     ensures lane { D.lane_of seat.new ≡ D.lane_of seat.old }
+    ensures rested { result ≡ None → D.rested seat.new }
 {
     reading.held.out.bytes.shrink_to(REPLY_ROOM);
     match reader.read(&mut reading.room) {
@@ -282,7 +289,7 @@ fn turn<H, R: Source, W: Sink, S, D: Keeper<S, H>, C: Clock, G: Gate>(
     }
 }
 
-/// Turns until something ends the session.
+/// Turns until something ends the session. The seat rests before the first.
 fn serve_turns<H, R: Source, W: Sink, S, D: Keeper<S, H>, C: Clock, G: Gate>(
     setting: &Setting<'_, H, D, G>,
     reading: &mut Reading,
@@ -307,6 +314,7 @@ fn serve_turns<H, R: Source, W: Sink, S, D: Keeper<S, H>, C: Clock, G: Gate>(
     ensures ready { D.ready setting.now.desk.now seat.new }
     ensures lane { D.lane_of seat.new ≡ D.lane_of seat.old }
 {
+    setting.desk.rest(seat);
     for made in 0..setting.turns {
         if let Some(ended) = turn(setting, reading, reader, writer, seat, clock) {
             return ended;
@@ -378,6 +386,7 @@ pub fn run<H, R: Source, W: Sink, S, D: Keeper<S, H>, C: Clock, G: Gate>(
     ensures not_wire { result ≢ Ended.Wire WireFault.Memory }
     ensures ready { D.ready desk.now seat.new }
     ensures lane { D.lane_of seat.new ≡ D.lane_of seat.old }
+    ensures rested { D.rested seat.new }
 {
     let setting = Setting {
         rt,

@@ -4,9 +4,9 @@ ghost use Rattle.krs_wire.specs.Reply.{reply_frame};
 ghost use Rattle.krs_session.specs.Session.{TookFront};
 ghost use Rattle.krs_session.specs.Serving.{Wrote, Pending, StopsBy};
 
-use crate::{Ended, Failed, Sink};
-use krs_store::Told;
-use krs_types::{Answer, Reply};
+use crate::asking::Setting;
+use crate::{Ended, Failed, Gate, Keeper, Sink};
+use krs_types::Reply;
 use krs_wire::append_reply;
 
 /// The replies that are held are written before the next ask from so many bytes on: docs/FORMAT.md, "A connection".
@@ -21,18 +21,14 @@ pub(crate) fn has_room(out: &Vec<u8>, body: usize) -> bool {
     size < FLUSH_SIZE && size <= out.capacity()
 }
 
-/// Whether that is so of a reply, or it is held.
-pub(crate) fn can_hold(out: &Vec<u8>, told: &Told) -> bool {
-    match told {
-        Told::Taken(_) => true,
-        Told::Reply(Ok(Answer::Bytes(bytes))) => has_room(out, bytes.as_slice().len()),
-        Told::Reply(_) => has_room(out, 4),
-    }
-}
-
-/// Writes all the bytes, or as many as the writer took before it failed.
-fn write_all<W: Sink>(writer: &mut W, bytes: &[u8]) -> Result<(), Failed>
-    requires { W.failures writer.old < u64.MAX }
+/// Writes all the bytes, or as many as the writer took before it failed. The seat rests.
+fn write_all<H, W: Sink, S, D: Keeper<S, H>>(
+    writer: &mut W,
+    bytes: &[u8],
+    _seat: &S,
+) -> Result<(), Failed>
+    requires rested { D.rested _seat.now }
+    requires failures { W.failures writer.old < u64.MAX }
     ensures ok { OnOk result (W.took writer.old bytes.now writer.new) }
     ensures good { OnOk result (W.failures writer.new ≡ W.failures writer.old) }
     ensures err { OnErr result (TookFront (λ front. W.took writer.old front writer.new) bytes.now) }
@@ -71,15 +67,27 @@ pub(crate) fn forget(out: &mut Vec<u8>)
     take_out(out);
 }
 
-/// Writes the replies that are held, and wipes them. What stops the writing is the answer.
-pub(crate) fn flush<W: Sink>(writer: &mut W, out: &mut Vec<u8>) -> Option<Ended>
-    requires { W.failures writer.old < u64.MAX }
+/// Writes the replies that are held, and wipes them. As that may block, the seat rests first. What stops the writing is
+/// the answer.
+pub(crate) fn flush<H, W: Sink, S, D: Keeper<S, H>, G: Gate>(
+    setting: &Setting<'_, H, D, G>,
+    writer: &mut W,
+    out: &mut Vec<u8>,
+    seat: &mut S,
+) -> Option<Ended>
+    requires ready { D.ready setting.now.desk.now seat.old }
+    requires failures { W.failures writer.old < u64.MAX }
     ensures wrote { Wrote W.took writer.old writer.new out.old.items result }
     ensures count { StopsBy (W.failures writer.old) (W.failures writer.new) result }
     ensures not_memory { result ≢ Some Ended.Memory }
     ensures empty { out.new.items ≡ [] }
+    ensures led { D.leads seat.old [] seat.new }
+    ensures ready { D.ready setting.now.desk.now seat.new }
+    ensures lane { D.lane_of seat.new ≡ D.lane_of seat.old }
+    ensures rested { D.rested seat.new }
 {
-    let written = write_all(writer, out);
+    setting.desk.rest(seat);
+    let written = write_all::<H, W, S, D>(writer, out, seat);
     forget(out);
     match written {
         Ok(()) => None,
@@ -89,21 +97,27 @@ pub(crate) fn flush<W: Sink>(writer: &mut W, out: &mut Vec<u8>) -> Option<Ended>
 
 /// Holds a reply to an ask with this tag, or with none, and writes what is held once that is much. Where no memory is
 /// left for the reply, what was held before it is written. What stops the writing is the answer.
-pub(crate) fn send_reply<W: Sink>(
+pub(crate) fn send_reply<H, W: Sink, S, D: Keeper<S, H>, G: Gate>(
+    setting: &Setting<'_, H, D, G>,
     writer: &mut W,
     out: &mut Vec<u8>,
+    seat: &mut S,
     tag: Option<u64>,
     reply: &Reply,
 ) -> Option<Ended>
-    requires { W.failures writer.old < u64.MAX }
+    requires ready { D.ready setting.now.desk.now seat.old }
+    requires failures { W.failures writer.old < u64.MAX }
     ensures sent { Pending W.took writer.old writer.new out.new.items
         (out.old.items ++ reply_frame tag reply.now) result }
     ensures count { StopsBy (W.failures writer.old) (W.failures writer.new) result }
     ensures memory { result ≡ Some Ended.Memory → W.took writer.old out.old.items writer.new }
     ensures bounded { vec_len out.new < 65536 }
+    ensures led { D.leads seat.old [] seat.new }
+    ensures ready { D.ready setting.now.desk.now seat.new }
+    ensures lane { D.lane_of seat.new ≡ D.lane_of seat.old }
 {
     if append_reply(out, tag, reply).is_err() {
-        return match flush(writer, out) {
+        return match flush(setting, writer, out, seat) {
             None => Some(Ended::Memory),
             Some(stop) => Some(stop),
         };
@@ -111,5 +125,5 @@ pub(crate) fn send_reply<W: Sink>(
     if out.len() < FLUSH_SIZE {
         return None;
     }
-    flush(writer, out)
+    flush(setting, writer, out, seat)
 }

@@ -29,9 +29,13 @@ frames-preserved g c =
     let event : Event =
     event_of (g.D.Keeper.lane_of c.frames.seat) c.moment_of-moment.result framed.ask (reply_of c.ask_among-told.result) in
     let one =
-    subst (λ (n : ℕ). Asked g.D.Keeper.leads g.C.Clock.ticked n c.frames.seat c.ask_among-told.new.seat
+    subst (λ (n : ℕ). Asked g.D.Keeper.leads g.C.Clock.ticked n c.frames.seat c.told_behind-stop.new.seat
     c.frames.clock c.moment_of-moment.new.clock (event ∷ [])) i.lane
-    (record { led = c.ask_among-told.ensures.led; moments = c.moment_of-moment.ensures; lanes = (refl, tt) }) in
+    (record {
+      led = g.met.D.Keeper.joins _ _ _ (event ∷ []) [] c.ask_among-told.ensures.led c.told_behind-stop.ensures.led;
+      moments = c.moment_of-moment.ensures;
+      lanes = (refl, tt);
+    }) in
     record {
       state = (
         done ++ framed ∷ [],
@@ -44,6 +48,6 @@ frames-preserved g c =
             c.ask_among-told.ensures.taken refl c.told_behind-stop.ensures.sent,
       );
       count = stops_next _ _ _ _ _ i.count c.told_behind-stop.ensures.count;
-      ready = c.ask_among-told.ensures.ready;
-      lane = c.ask_among-told.ensures.lane ∙ i.lane;
+      ready = c.told_behind-stop.ensures.ready;
+      lane = c.told_behind-stop.ensures.lane ∙ (c.ask_among-told.ensures.lane ∙ i.lane);
     }

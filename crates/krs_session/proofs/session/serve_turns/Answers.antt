@@ -8,15 +8,16 @@ pub loop-made-init : goal.loop-made-init
 loop-made-init g c = record {
   state = so_far_none g.R.Source.gave g.D.Keeper.leads g.C.Clock.ticked g.W.Sink.took g.met.R.Source.joins
       g.met.D.Keeper.joins g.met.C.Clock.joins g.met.W.Sink.joins
-      _ _ _ _ _ _ (g.met.R.Source.starts _) (g.met.D.Keeper.starts _) (g.met.C.Clock.starts _) (g.met.W.Sink.starts _)
+      _ _ _ _ _ _ _ (g.met.R.Source.starts _) c.rest.ensures.led (g.met.C.Clock.starts _) (g.met.W.Sink.starts _)
       c.requires.empty;
   unfailed = ap fault_of c.requires.nothing;
   reads = omega arith;
   empties = refl;
   read_failures = refl;
   failures = refl;
-  ready = c.requires.ready;
-  lane = refl;
+  ready = c.rest.ensures.ready;
+  rested = c.rest.ensures.rested;
+  lane = c.rest.ensures.lane;
 }
 
 pub returns-in-Some-clause-finished : goal.returns-in-Some-clause-finished
@@ -42,6 +43,7 @@ loop-made-preserved g c =
       read_failures = ap (λ (n : Counts). n.failed_reads) e.count ∙ i.read_failures;
       failures = ap (λ (n : Counts). n.failed_writes) e.count ∙ i.failures;
       ready = e.ready;
+      rested = e.rested refl;
       lane = e.lane ∙ i.lane;
     }
 

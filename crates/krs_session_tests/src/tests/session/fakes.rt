@@ -252,6 +252,8 @@ impl<R> Keeper<Chair, R> for Table {
 
     ghost leads = { λ s events t. Unit {0} };
 
+    ghost rested = { λ s. Unit {0} };
+
     fn lane(&self, seat: &Chair) -> u32 {
         seat.lane
     }
@@ -278,6 +280,8 @@ impl<R> Keeper<Chair, R> for Table {
             _ => Err(Errno::EINVAL),
         }
     }
+
+    fn rest(&self, _seat: &mut Chair) {}
 
     fn is_short(&self) -> bool {
         false

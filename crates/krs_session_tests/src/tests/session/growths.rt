@@ -159,6 +159,8 @@ impl<R> Keeper<u32, R> for Counts {
 
     ghost leads = { λ s events t. Unit {0} };
 
+    ghost rested = { λ s. Unit {0} };
+
     fn lane(&self, seat: &u32) -> u32 {
         *seat
     }
@@ -171,6 +173,8 @@ impl<R> Keeper<u32, R> for Counts {
         }
         Ok(Answer::Nothing)
     }
+
+    fn rest(&self, _seat: &mut u32) {}
 
     fn is_short(&self) -> bool {
         false
@@ -241,6 +245,8 @@ impl<R> Keeper<u32, R> for Hears {
 
     ghost leads = { λ s events t. Unit {0} };
 
+    ghost rested = { λ s. Unit {0} };
+
     fn lane(&self, seat: &u32) -> u32 {
         *seat
     }
@@ -248,6 +254,8 @@ impl<R> Keeper<u32, R> for Hears {
     fn call(&self, _rt: &R, _seat: &mut u32, _moment: u64, _ask: Ask) -> Reply {
         Ok(Answer::Nothing)
     }
+
+    fn rest(&self, _seat: &mut u32) {}
 
     fn is_short(&self) -> bool {
         false
