@@ -213,6 +213,8 @@ try_lasting_causes() {
   is 'accepts that all fail: tried for some ten seconds' yes "$( ((SECONDS - began >= 9)) && echo yes)"
   is 'accepts that all fail: the status' 3 "$status"
   is 'accepts that all fail: what is printed' "listening $path"$'\nerror: accept' "$(<"$log")"
+  is 'accepts that all fail: what is told' "keyretaind: accept: Too many open files (os error 24)
+keyretaind: it may open no more files: raise LimitNOFILE= of its unit, or ulimit -n" "$(<"$log.told")"
   is 'accepts that all fail: the path is gone' gone "$(path_state)"
   keyretaind=$dir/with-many-failing
   start --accept 2
@@ -236,6 +238,8 @@ try_failed_accept() {
   calls 'the connection that is not accepted' 3 $'error: connection\n' id @u
   until_true has_told_accept
   is 'a failed accept is told at once' "listening $path"$'\nerror: accept' "$(<"$log")"
+  until_true test -s "$log.told"
+  is 'a failed accept: why' 'keyretaind: accept: Operation not permitted (os error 1)' "$(<"$log.told")"
   is 'the path while others are served' there "$(path_state)"
   calls 'who connects then is refused' 3 $'error: connection\n' id @u
   answers first 'add user alpha a @u' 5

@@ -187,9 +187,12 @@ try_broken_pipe() {
   exec {end}>&-
 }
 
-# Words of the daemon that it does not take: status 2, and no path.
+# daemon_tells NAME LINE WORD ..: keyretaind doesn't take these words, and this is the last line on standard error
+daemon_tells() { is "daemon: $1" "$2" "$(timeout "$patience" "$keyretaind" "${@:3}" 2>&1 >/dev/null | tail -n 1)"; }
+
+# Words of the daemon that it does not take: status 2, what it wants in their place, and no path.
 try_words() {
-  local words
+  local words numbers='keyretaind: --lanes takes a number from 1 to 256, --accept one from 0 to 4294967295'
   path=$dir/words.sock
   for words in '' '--socket' "--socket $path --lanes 0" "--socket $path --lanes 257" "--socket $path --lanes x" \
     "--socket $path --accept x" "--socket $path --accept 4294967296" "--socket $path --frobnicate" \
@@ -197,6 +200,12 @@ try_words() {
     # shellcheck disable=SC2086 # these are words
     is "daemon: words '${words//$dir\//}'" 2 "$(timeout "$patience" "$keyretaind" $words >/dev/null 2>&1; echo $?)"
   done
+  daemon_tells 'no path' "keyretaind: --socket takes the path where it listens, which isn't there yet" --lanes 1
+  daemon_tells 'no number of lanes' "$numbers" --socket "$path" --lanes many
+  daemon_tells 'too many connections' "$numbers" --socket "$path" --accept 4294967296
+  daemon_tells 'a path that is no text' "keyretaind: an argument isn't UTF-8: see keyretaind --help" --socket $'\xe9'
+  is 'daemon: a path that is no text' $'usage\nstatus 2' \
+    "$(timeout "$patience" "$keyretaind" --socket $'\xe9' 2>/dev/null; echo "status $?")"
   is 'daemon: no path after bad words' gone "$(path_state)"
   is 'daemon: --version' "keyretaind $version"$'\nstatus 0' "$("$keyretaind" --version 2>/dev/null; echo "status $?")"
   is 'daemon: --help' "$(<"$top/tests/service.d/keyretaind.help")"$'\nstatus 0' \
@@ -245,28 +254,55 @@ try_remote_scripts() {
   is 'the daemon, ended by SIGTERM' 143 "$status"
   is 'the path that SIGTERM leaves' there "$(path_state)"
   calls 'a path that nobody listens at any more' 3 $'error: connection\n' print 5
-  is_refused 'a path that is left over' "$path"
+  is_refused 'a path that is left over' "$path" 'Address already in use (os error 98)' "$in_use"
 }
 
-# is_refused NAME PATH: no daemon can have this path
+in_use='another daemon may use it: remove the path if none does'
+
+# is_refused NAME PATH CAUSE [NEXT]: no daemon can have this path, and it tells why, and what to do
 is_refused() {
   is "$1" $'error: socket\nstatus 3' \
-    "$(timeout "$patience" "$keyretaind" --socket "$2" --accept 0 2>/dev/null </dev/null; echo "status $?")"
+    "$(timeout "$patience" "$keyretaind" --socket "$2" --accept 0 2>"$dir/told" </dev/null; echo "status $?")"
+  is "$1: what is told" "keyretaind: $2: $3${4:+$'\n'keyretaind: $4}" "$(<"$dir/told")"
+}
+
+# A folder in which the daemon's user may make nothing: of root another user's daemon is tried.
+try_closed_folder() {
+  local closed=$dir/closed keyretaind=$keyretaind
+  mkdir -m 500 "$closed"
+  if [ "$UID" = 0 ]; then
+    command -v setpriv >/dev/null || { skipped 'a folder that is closed to the daemon: no setpriv'; return; }
+    chmod 711 "$dir"
+    install -m 755 "$keyretaind" "$dir/anothers"
+    printf '#!%s\nexec setpriv --reuid 65533 --regid 65533 --clear-groups %q "$@"\n' "$BASH" "$dir/anothers" \
+      >"$dir/as-another"
+    chmod +x "$dir/as-another"
+    keyretaind=$dir/as-another
+  fi
+  is_refused 'a folder that is closed to it' "$closed/krs.sock" 'Permission denied (os error 13)' \
+    'this user may make nothing in its folder: ls -ld'
 }
 
 try_paths() {
+  local long
   path=$dir/nobody.sock
   calls 'a path that is not there' 3 $'error: connection\n' print 5
   runs_script 'a script on a path that is not there' 3 $'error: connection\n' 'hello 1000 1000'
   path=$dir/file
   : >"$path"
   calls 'a path that is a file' 3 $'error: connection\n' print 5
-  is_refused 'a daemon on a file' "$path"
-  is_refused 'a daemon in no folder' "$dir/none/krs.sock"
-  is_refused 'a path that is too long' "$dir/$(printf '%0120d' 0)"
-  is_refused 'an empty path' ''
+  is_refused 'a daemon on a file' "$path" 'Address already in use (os error 98)' "$in_use"
+  is_refused 'a daemon in no folder' "$dir/none/krs.sock" 'No such file or directory (os error 2)' \
+    "its folder isn't there: make it first"
+  is_refused 'a daemon below a file' "$path/krs.sock" 'Not a directory (os error 20)'
+  try_closed_folder
+  long=$dir/$(printf "%0$((106 - ${#dir}))d" 0)
+  is_refused 'a path of 108 bytes' "${long}0" 'a path has 1 to 107 bytes'
+  is_refused 'an empty path' '' 'a path has 1 to 107 bytes'
+  start_on "$long" --accept 0
+  is_served 'a path of 107 bytes' 0
   start --accept 1
-  is_refused 'a second daemon' "$path"
+  is_refused 'a second daemon' "$path" 'Address already in use (os error 98)' "$in_use"
   is 'the path after a second daemon' there "$(path_state)"
   calls 'the first daemon after a second' 0 $'3\n' id @u
   is_served 'the first daemon' 1

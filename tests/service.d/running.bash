@@ -79,18 +79,19 @@ start() {
 start_on() {
   path=$1 log=$dir/$runs.log
   shift
-  apart "$keyretaind" --socket "$path" "$@" >"$log" 2>/dev/null </dev/null &
+  apart "$keyretaind" --socket "$path" "$@" >"$log" 2>"$log.told" </dev/null &
   daemon=$!
   until_true is_up
 }
 
 is_up() { { [ -s "$log" ] && [[ $(<"$log") == "listening $path"* ]]; } || has_ended "$daemon"; }
 
-# is_served NAME N: the daemon ends by itself after N connections, says so last, and its path is gone
+# is_served NAME N: the daemon ends by itself after N connections, says so last, tells nothing, and its path is gone
 is_served() {
   finish "$daemon"
   is "$1: the daemon's status" 0 "$status"
   is "$1: what the daemon prints" "listening $path"$'\n'"served $2" "$(<"$log")"
+  is "$1: what the daemon tells" '' "$(<"$log.told")"
   is "$1: the path is gone" gone "$(path_state)"
 }
 

@@ -1,14 +1,23 @@
 -- What the daemon does, by its words: keyretaind(8), "DESCRIPTION".
-use Rattle.std.specs.Prelude.{◌≡◌, ◌≢◌, ◌⊎◌, ⊤, ℕ, List, [], Option, Some, None, string_bytes}
+use Rattle.std.specs.Prelude.{◌≡◌, ◌≢◌, ◌⊎◌, ⊤, ℕ, List, [], Option, Some, None, codes, string_bytes}
 use Rattle.std.specs.declared.io.ErrorKind as io
 use Rattle.std.specs.declared.io.ErrorKind.TheVariants as io_kind
 use Rattle.clap.specs.declared.error.kind.ErrorKind.{ErrorKind}
 use Rattle.clap.specs.declared.error.kind.ErrorKind.TheVariants.{DisplayHelp, DisplayVersion, OutOfMemory}
+use Rattle.clap.specs.declared.error.kind.ErrorKind.TheVariants.{MissingRequiredArgument, ValueValidation}
 use Rattle.krs_listen.specs.declared.choice.Choice.{Choice}
 use Rattle.krs_listen.specs.declared.choice.Choice.TheVariants.{Serve, Usage, Memory, Shown, Refused}
 use Rattle.krs_listen.specs.declared.options.Options.{Options}
 use Rattle.clap.specs.Words.{IsAmong, fault_of}
 use Rattle.krs_listen.specs.CommandLine.{Spells, daemon}
+
+-- what is told behind the text of an error of the reader of options: which numbers, and which path, are wanted
+abbrev pub wanted_text : ErrorKind → List ℕ
+wanted_text ValueValidation =
+    codes "keyretaind: --lanes takes a number from 1 to 256, --accept one from 0 to 4294967295\n"
+wanted_text MissingRequiredArgument =
+    codes "keyretaind: --socket takes the path where it listens, which isn't there yet\n"
+wanted_text kind = []
 
 -- What is told for a kind of error of the reader of options, and the error's text, where memory was there for it: help
 -- and version are shown, all others refused.

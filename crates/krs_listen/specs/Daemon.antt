@@ -2,6 +2,7 @@
 use Rattle.std.specs.Prelude.{ℕ, ◌≡◌, ◌+◌, ◌<◌, ◌⊎◌, ◌++◌, List, Option, Some, None, codes, string_bytes}
 use Rattle.std.specs.Fmt.{decimal}
 use Rattle.krs_listen.specs.Saying.{Heard, Says}
+use Rattle.krs_listen.specs.Telling.{TellsOf, not_text}
 use Rattle.krs_listen.specs.declared.choice.Choice.{Choice}
 use Rattle.krs_listen.specs.declared.choice.Choice.TheVariants.{Serve, Usage, Memory, Shown, Refused}
 use Rattle.krs_listen.specs.declared.acceptor.Accepted.{Accepted}
@@ -34,35 +35,37 @@ abbrev pub TellsAccepted : Accepted → Heard → Heard → Type 0
 TellsAccepted All old new = new ≡ old
 TellsAccepted Failed old new = Says old new (codes "error: accept\n")
 
--- what it prints at its end, and its status, by what its acceptor counted: all connections were accepted, or an accept
--- failed
-abbrev pub EndsAs : ℕ → ℕ → ℕ → Heard → Heard → ℕ → Type 0
-EndsAs connections accepted failures old new status =
-    (AcceptsBy connections 0 accepted 0 failures All × Says old new (served_line connections) × (status ≡ 0))
-    ⊎ (AcceptsBy connections 0 accepted 0 failures Failed × Says old new (codes "error: accept\n") × (status ≡ 3))
+-- What it prints and tells at its end, and its status: its last connection was served, and nothing is told, or an accept
+-- failed, and why is told.
+abbrev pub Ends : ℕ → Heard → Heard → Heard → Heard → ℕ → Type 0
+Ends connections old new old_errors new_errors status =
+    (Says old new (served_line connections) × (new_errors ≡ old_errors) × (status ≡ 0))
+    ⊎ (Says old new (codes "error: accept\n") × TellsOf (codes "accept") old_errors new_errors × (status ≡ 3))
 
--- what it prints at its end, and its status: its last connection was served, or an accept failed
-abbrev pub Ends : ℕ → Heard → Heard → ℕ → Type 0
-Ends connections old new status =
-    (Says old new (served_line connections) × (status ≡ 0))
-    ⊎ (Says old new (codes "error: accept\n") × (status ≡ 3))
+-- the same, by what its acceptor counted
+abbrev pub EndsAs : ℕ → ℕ → ℕ → Heard → Heard → Heard → Heard → ℕ → Type 0
+EndsAs connections accepted failures old new old_errors new_errors status =
+    (AcceptsBy connections 0 accepted 0 failures All
+    × Says old new (served_line connections) × (new_errors ≡ old_errors) × (status ≡ 0))
+    ⊎ (AcceptsBy connections 0 accepted 0 failures Failed
+    × Says old new (codes "error: accept\n") × TellsOf (codes "accept") old_errors new_errors × (status ≡ 3))
 
--- What a daemon prints by its options, with its status: it lacks memory or can't bind its path, or it listens and then
--- ends. Of a line that its output fails to take whole a beginning is written, and the daemon goes on.
-abbrev pub Serves : Options → Heard → Heard → ℕ → Type 0
-Serves options old new status =
-    (Says old new (codes "error 12 ENOMEM\n") × (status ≡ 1))
-    ⊎ ((Says old new (codes "error: socket\n") × (status ≡ 3))
+-- What a daemon prints and tells by its options, with its status: it lacks memory, or can't bind its path and tells why,
+-- or it listens and then ends. Of a line that an output fails to take whole a beginning is written, and it goes on.
+abbrev pub Serves : Options → Heard → Heard → Heard → Heard → ℕ → Type 0
+Serves options old new old_errors new_errors status =
+    (Says old new (codes "error 12 ENOMEM\n") × (new_errors ≡ old_errors) × (status ≡ 1))
+    ⊎ ((Says old new (codes "error: socket\n") × TellsOf (string_bytes options.path) old_errors new_errors × (status ≡ 3))
     ⊎ ((listening : Heard) × Says old listening (listening_line (string_bytes options.path))
-    × Ends (connections_of options.accept) listening new status))
+    × Ends (connections_of options.accept) listening new old_errors new_errors status))
 
--- What is printed, and the status. What is refused of the words is told on standard error, and nothing is printed;
--- nothing else is told there.
+-- What is printed, what is told on standard error, and the status. What is refused of the words is told, and nothing is
+-- printed.
 abbrev pub Answers : Choice → Heard → Heard → Heard → Heard → ℕ → Type 0
 Answers (Serve options) old new old_errors new_errors status =
-    Serves options old new status × (new_errors ≡ old_errors)
+    Serves options old new old_errors new_errors status
 Answers Usage old new old_errors new_errors status =
-    Says old new (codes "usage\n") × (status ≡ 2) × (new_errors ≡ old_errors)
+    Says old new (codes "usage\n") × (status ≡ 2) × Says old_errors new_errors not_text
 Answers Memory old new old_errors new_errors status =
     Says old new (codes "error 12 ENOMEM\n") × (status ≡ 1) × (new_errors ≡ old_errors)
 Answers (Shown text) old new old_errors new_errors status =

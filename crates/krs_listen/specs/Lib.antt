@@ -4,4 +4,5 @@ pub mod CommandLine
 pub mod Choice
 pub mod Daemon
 pub mod Saying
+pub mod Telling
 pub mod Timeline

@@ -79,6 +79,7 @@ pub struct SocketAcceptor<'a, R, F> {
     free: &'a F,
     accepted: u64,
     failures: u64,
+    cause: io::Error,
 }
 
 impl<'a, R: Wait + Clock, F: AwaitsEnd<R>> SocketAcceptor<'a, R, F> {
@@ -98,6 +99,7 @@ impl<'a, R: Wait + Clock, F: AwaitsEnd<R>> SocketAcceptor<'a, R, F> {
             free,
             accepted: 0,
             failures: 0,
+            cause: io::Error::other("no accept has failed"),
         }
     }
 
@@ -110,13 +112,22 @@ impl<'a, R: Wait + Clock, F: AwaitsEnd<R>> SocketAcceptor<'a, R, F> {
         ensures none { IfNone result (accepted_by self.new ≡ accepted_by self.old) }
         ensures failed { IfNone result (failed_at self.new ≡ failed_at self.old + 1) }
     {
-        let ends = self.next();
-        if ends.is_some() {
-            self.accepted += 1;
-        } else {
-            self.failures += 1;
+        match self.next() {
+            Ok(ends) => {
+                self.accepted += 1;
+                Some(ends)
+            }
+            Err(cause) => {
+                self.failures += 1;
+                self.cause = cause;
+                None
+            }
         }
-        ends
+    }
+
+    /// Why the last accept that failed did so.
+    pub fn cause(&self) -> io::Error {
+        self.cause
     }
 
     /// Closes the socket, so that whoever connects is refused, and gives what was counted.
@@ -131,7 +142,7 @@ impl<'a, R: Wait + Clock, F: AwaitsEnd<R>> SocketAcceptor<'a, R, F> {
     }
 
     /// The next connection, waited for through failures that pass.
-    fn next(&self) -> Option<(SocketReader, SocketWriter)> {
+    fn next(&self) -> io::Result<(SocketReader, SocketWriter)> {
         let mut idle = 0;
         for _ in self.rt.forever() {
             match self.listener.accept() {
@@ -139,18 +150,18 @@ impl<'a, R: Wait + Clock, F: AwaitsEnd<R>> SocketAcceptor<'a, R, F> {
                 Err(error) if is_tried_again(&error, idle) => {
                     idle = idle_after(idle, self.free.await_end(self.rt, pause()));
                 }
-                Err(_) => return None,
+                Err(error) => return Err(error),
             }
         }
         unreachable!()
     }
 
     /// The ends of a stream. Where there is no memory for what they share, it waits until others have given some back.
-    fn in_two(&self, stream: UnixStream) -> Option<(SocketReader, SocketWriter)> {
+    fn in_two(&self, stream: UnixStream) -> io::Result<(SocketReader, SocketWriter)> {
         let mut stream = stream;
         for _ in self.rt.forever() {
             match shared(self.alloc, stream) {
-                Ok(whole) => return ends_of(whole).ok(),
+                Ok(whole) => return Ok(ends_of(whole)?),
                 Err(refused) => {
                     stream = refused;
                     self.free.await_end(self.rt, pause());

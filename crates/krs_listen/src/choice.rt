@@ -3,7 +3,7 @@ ghost use Rattle.std.specs.IoError.{error_kind};
 ghost use Rattle.std.specs.Vec.Iter.{into_iter_items};
 ghost use Rattle.clap.specs.Words.{FailsBy, kind_of, fault_of, found_of, app_of, new_rule, rule_of};
 ghost use Rattle.krs_listen.specs.declared.choice.Choice.TheVariants.{Memory};
-ghost use Rattle.krs_listen.specs.Choice.{IsUnread, Tells, LeadsTo, choice_by};
+ghost use Rattle.krs_listen.specs.Choice.{IsUnread, Tells, LeadsTo, choice_by, wanted_text};
 ghost use Rattle.krs_listen.specs.CommandLine.{Gives, Spells, daemon, socket_rule, lanes_rule, accept_rule};
 
 use crate::options::Options;
@@ -20,21 +20,29 @@ const LANES: &str = "lanes";
 
 const ACCEPT: &str = "accept";
 
-const ABOUT: &str =
-    "A key store on a Unix socket that works as Linux's key retention service does: keyrings(7), keyctl(2).";
+const ABOUT: &str = "\
+A key store on a Unix socket that works as Linux's key retention service does:
+keyrings(7), keyctl(2).";
 
 const SOCKET_HELP: &str = "where clients connect: a path that doesn't exist yet";
 
-const LANES_HELP: &str = "how many connections are served at the same time, 1 to 256";
+const LANES_HELP: &str = "how many connections at a time, 1 to 256";
 
-const ACCEPT_HELP: &str = "how many connections are served before it ends; without it, it goes on";
+const ACCEPT_HELP: &str = "ends after so many connections; else it goes on";
 
 const STATUSES: &str = "\
-Prints `listening PATH` once clients can connect, and `served N` after its last connection. The uid, gid and groups
-that a client names are trusted: whoever may open the path may use every key.
+Prints `listening PATH` once clients can connect, and `served N` after its last
+connection. The uid, gid and groups that a client names are trusted: a client
+that may open the path may use every key.
 
-Exit status: 0; 1 if memory ran out before it listened; 2 for usage; 3 if the path could not be bound, which is
-`error: socket`, or a connection not be accepted, which is `error: accept`.";
+Exit status: 0; 1 if memory ran out before it listened; 2 for usage; 3 if the
+path could not be bound, which is `error: socket`, or a connection not be
+accepted, which is `error: accept`. Standard error says why.";
+
+const NUMBERS: &str =
+    "keyretaind: --lanes takes a number from 1 to 256, --accept one from 0 to 4294967295\n";
+
+const PATH: &str = "keyretaind: --socket takes the path where it listens, which isn't there yet\n";
 
 /// What the program does, by its words.
 #[derive(Drop)]
@@ -82,7 +90,21 @@ fn choice_of(alloc: Global, read: Result<Option<Options>, Error>) -> Choice
     match read {
         Ok(Some(options)) => Choice::Serve(options),
         Ok(None) => Choice::Usage,
-        Err(error) => told(&error, format!(in alloc; "{error}").ok()),
+        Err(error) => {
+            let next = next_for(error.kind());
+            told(&error, format!(in alloc; "{error}{next}").ok())
+        }
+    }
+}
+
+/// What to do, told behind what the reader of options tells of an error of this kind.
+fn next_for(kind: ErrorKind) -> &'static str
+    ensures { result.now ≡ wanted_text kind }
+{
+    match kind {
+        ErrorKind::ValueValidation => NUMBERS,
+        ErrorKind::MissingRequiredArgument => PATH,
+        _ => "",
     }
 }
 

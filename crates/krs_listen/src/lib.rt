@@ -10,6 +10,7 @@ mod free;
 mod free_list;
 mod options;
 mod saying;
+mod telling;
 mod timeline;
 
 pub use acceptor::{Accepted, Accepts, AwaitsEnd, SocketAcceptor};
@@ -18,5 +19,6 @@ pub use clock::{DaemonClock, Latest};
 pub use ends::{SocketReader, SocketWriter};
 pub use free::FreeSeats;
 pub use options::Options;
-pub use saying::{Lines, NOT_ACCEPTED, NOT_BOUND, OUT_OF_MEMORY, USAGE, Voice};
+pub use saying::{Lines, NOT_ACCEPTED, NOT_BOUND, OUT_OF_MEMORY, USAGE, Voice, Voices};
+pub use telling::{NOT_TEXT, tell_accepted, tell_cause};
 pub use timeline::Timeline;

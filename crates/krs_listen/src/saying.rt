@@ -16,6 +16,13 @@ pub const NOT_BOUND: &str = "error: socket\n";
 /// What is printed where a connection can't be accepted.
 pub const NOT_ACCEPTED: &str = "error: accept\n";
 
+/// Where a daemon prints, and where it tells what went wrong.
+#[derive(Drop)]
+pub struct Voices<W, E> {
+    pub output: Voice<W>,
+    pub errors: Voice<E>,
+}
+
 /// What a daemon says once clients can connect, and after its last connection. Both are made before it listens, so that
 /// neither lacks memory.
 #[derive(Drop)]

@@ -1,4 +1,4 @@
-ghost use Rattle.std.specs.Prelude.{◌≡◌, [], All, IfOk, IfErr, OnErr, map, string_bytes};
+ghost use Rattle.std.specs.Prelude.{◌≡◌, [], All, IfOk, IfErr, IsErr, OnErr, map, string_bytes};
 ghost use Rattle.std.specs.IoError.{error_kind};
 ghost use Rattle.std.specs.Vec.Iter.{into_iter_items};
 ghost use Rattle.krs_model.specs.State.{starting_at};
@@ -13,8 +13,8 @@ use crate::listening::{Hosting, accept_all};
 use crate::{AtDesk, seated};
 use krs_desk::{Desk, Refused, Seat};
 use krs_listen::{
-    Accepted, Accepts, Choice, FreeSeats, Latest, Lines, NOT_BOUND, OUT_OF_MEMORY, Options, USAGE,
-    Voice, choose,
+    Accepted, Accepts, Choice, FreeSeats, Latest, Lines, NOT_BOUND, NOT_TEXT, OUT_OF_MEMORY,
+    Options, USAGE, Voices, choose, tell_cause,
 };
 use krs_store::{Seed, Store};
 use std::alloc::Global;
@@ -36,21 +36,15 @@ pub fn run_daemon<
     R: Clock + Files + Net + RandomSource + Threads + Wait + Sync,
     W: Write,
     E: Write,
->(
-    rt: &R,
-    alloc: Global,
-    words: io::Result<Args>,
-    output: &mut Voice<W>,
-    errors: &mut Voice<E>,
-) -> u8
+>(rt: &R, alloc: Global, words: io::Result<Args>, voices: &mut Voices<W, E>) -> u8
     ensures { (choice : ChoiceIs)
         × IfOk words (λ words. LeadsTo (map string_bytes (into_iter_items words)) choice)
         × IfErr words (λ error. IsUnread (error_kind error) choice)
-        × Answers choice (heard W.contents output.old) (heard W.contents output.new)
-        (heard E.contents errors.old) (heard E.contents errors.new) result }
+        × Answers choice (heard W.contents voices.old.output) (heard W.contents voices.new.output)
+        (heard E.contents voices.old.errors) (heard E.contents voices.new.errors) result }
 {
     let choice = choose(alloc, words);
-    answer(rt, alloc, choice, output, errors)
+    answer(rt, alloc, choice, voices)
 }
 
 /// What each choice prints, and the status.
@@ -58,28 +52,28 @@ fn answer<R: Clock + Files + Net + RandomSource + Threads + Wait + Sync, W: Writ
     rt: &R,
     alloc: Global,
     choice: Choice,
-    output: &mut Voice<W>,
-    errors: &mut Voice<E>,
+    voices: &mut Voices<W, E>,
 ) -> u8
-    ensures { Answers choice (heard W.contents output.old) (heard W.contents output.new)
-        (heard E.contents errors.old) (heard E.contents errors.new) result }
+    ensures { Answers choice (heard W.contents voices.old.output) (heard W.contents voices.new.output)
+        (heard E.contents voices.old.errors) (heard E.contents voices.new.errors) result }
 {
     match choice {
-        Choice::Serve(options) => listen(rt, alloc, &options, output),
+        Choice::Serve(options) => listen(rt, alloc, &options, voices),
         Choice::Usage => {
-            output.say(USAGE);
+            voices.output.say(USAGE);
+            voices.errors.say(NOT_TEXT);
             2
         }
         Choice::Memory => {
-            output.say(OUT_OF_MEMORY);
+            voices.output.say(OUT_OF_MEMORY);
             1
         }
         Choice::Shown(text) => {
-            output.say(text.as_str());
+            voices.output.say(text.as_str());
             0
         }
         Choice::Refused(text) => {
-            errors.say(text.as_str());
+            voices.errors.say(text.as_str());
             2
         }
     }
@@ -110,34 +104,45 @@ fn connections_for(accept: Option<u32>) -> u64
     }
 }
 
+/// How many bytes a path has at most: unix(7).
+const LONGEST: usize = 107;
+
 /// Binds the path. An empty one the system would take for a name of its own choice, which no folder protects.
-fn bound(rt: &(impl Files + Net), path: &str) -> Option<UnixListener>
-    ensures { path.now ≡ [] → result ≡ None }
+fn bound(rt: &(impl Files + Net), path: &str) -> io::Result<UnixListener>
+    ensures { path.now ≡ [] → IsErr result }
 {
-    if path.is_empty() {
-        return None;
+    if path.is_empty() || path.len() > LONGEST {
+        return Err(io::Error::other("a path has 1 to 107 bytes"));
     }
-    UnixListener::bind(rt, path).ok()
+    UnixListener::bind(rt, path)
 }
 
 /// Accepts and serves so many connections, takes the path away, and tells how that ended. It gives their counts.
-fn serve_all<'s, 'd, N: AtDesk + Send + Sync, R: Clock + Files + Threads + Wait + Sync, W: Write>(
+fn serve_all<
+    's,
+    'd,
+    N: AtDesk + Send + Sync,
+    R: Clock + Files + Threads + Wait + Sync,
+    W: Write,
+    E: Write,
+>(
     hosting: &'s Hosting<'s, 'd, N, R>,
     listener: UnixListener,
     connections: u64,
     path: &str,
     lines: &Lines,
-    output: &mut Voice<W>,
+    voices: &mut Voices<W, E>,
 ) -> (u8, Accepts)
     requires { string_bytes lines.now.served ≡ served_line connections }
     ensures { EndsAs connections result.1.accepted result.1.failures
-        (heard W.contents output.old) (heard W.contents output.new) result.0 }
+        (heard W.contents voices.old.output) (heard W.contents voices.new.output)
+        (heard E.contents voices.old.errors) (heard E.contents voices.new.errors) result.0 }
 {
-    let (accepted, counts) = accept_all(hosting, listener, connections, output);
+    let (accepted, counts) = accept_all(hosting, listener, connections, voices);
     let _ = fs::remove_file(hosting.rt, path);
     match accepted {
         Accepted::All => {
-            output.say(lines.served.as_str());
+            voices.output.say(lines.served.as_str());
             (0, counts)
         }
         Accepted::Failed => (3, counts),
@@ -146,56 +151,67 @@ fn serve_all<'s, 'd, N: AtDesk + Send + Sync, R: Clock + Files + Threads + Wait 
 
 /// Serves connections on a new store as the options say, and answers the status: keyretaind(8),
 /// "DESCRIPTION" and "EXIT STATUS". The memory for its seats and its lines is had before the path is bound.
-pub fn listen<R: Clock + Files + Net + RandomSource + Threads + Wait + Sync, W: Write>(
+pub fn listen<R: Clock + Files + Net + RandomSource + Threads + Wait + Sync, W: Write, E: Write>(
     rt: &R,
     alloc: Global,
     options: &Options,
-    output: &mut Voice<W>,
+    voices: &mut Voices<W, E>,
 ) -> u8
-    ensures { Serves options.now (heard W.contents output.old) (heard W.contents output.new) result }
+    ensures { Serves options.now (heard W.contents voices.old.output) (heard W.contents voices.new.output)
+        (heard E.contents voices.old.errors) (heard E.contents voices.new.errors) result }
 {
     let Ok((desk, seats)) = opened(rt, alloc, options) else {
-        output.say(OUT_OF_MEMORY);
+        voices.output.say(OUT_OF_MEMORY);
         return 1;
     };
-    listen_at::<Brand, R, W>(rt, alloc, options, &desk, seats, output)
+    listen_at::<Brand, R, W, E>(rt, alloc, options, &desk, seats, voices)
 }
 
 /// The same, with all connections at this desk.
-fn listen_at<N: AtDesk + Send + Sync, R: Clock + Files + Net + Threads + Wait + Sync, W: Write>(
+fn listen_at<
+    N: AtDesk + Send + Sync,
+    R: Clock + Files + Net + Threads + Wait + Sync,
+    W: Write,
+    E: Write,
+>(
     rt: &R,
     alloc: Global,
     options: &Options,
     desk: &Desk,
     seats: Vec<Seat>,
-    output: &mut Voice<W>,
+    voices: &mut Voices<W, E>,
 ) -> u8
     requires here { desk.now ≡ N.desk }
     requires own { All (IsIdleAt desk.now) seats.items }
     requires empty { All (λ seat. seat.opening ≡ starting_at 3) seats.items }
     requires unasked { All (λ seat. seat.part.mine ≡ []) seats.items }
-    ensures { Serves options.now (heard W.contents output.old) (heard W.contents output.new) result }
+    ensures { Serves options.now (heard W.contents voices.old.output) (heard W.contents voices.new.output)
+        (heard E.contents voices.old.errors) (heard E.contents voices.new.errors) result }
 {
     let path = options.path.as_str();
     let connections = connections_for(options.accept);
     let made = seated::<N>(alloc, desk, seats);
     let (Ok(sittings), Ok(lines)) = (made, Lines::new(alloc, path, connections)) else {
-        output.say(OUT_OF_MEMORY);
+        voices.output.say(OUT_OF_MEMORY);
         return 1;
     };
-    let Some(listener) = bound(rt, path) else {
-        output.say(NOT_BOUND);
-        return 3;
+    let listener = match bound(rt, path) {
+        Ok(listener) => listener,
+        Err(cause) => {
+            voices.output.say(NOT_BOUND);
+            tell_cause(alloc, &mut voices.errors, path, &cause);
+            return 3;
+        }
     };
     let (free, latest) = (FreeSeats::new(sittings), Latest::new());
-    output.say(lines.listening.as_str());
+    voices.output.say(lines.listening.as_str());
     let hosting = Hosting {
         rt,
         alloc,
         free: &free,
         latest: &latest,
     };
-    let (status, _counts) = serve_all(&hosting, listener, connections, path, &lines, output);
+    let (status, _counts) = serve_all(&hosting, listener, connections, path, &lines, voices);
     status
 }
 

@@ -17,5 +17,5 @@ pub use connection::{AtDesk, Guest, Sitting, SocketGuest, seated, serve_connecti
 pub use daemon::{listen, run_daemon};
 pub use entry::{Entry, serve_entry};
 pub use gate::OpenGate;
-pub use krs_listen::{Latest, Voice};
+pub use krs_listen::{Latest, Voice, Voices};
 pub use sessions::{run_sessions, serve_at_one_desk, serve_sessions};

@@ -1,9 +1,13 @@
 ghost use Rattle.std.specs.Prelude.{◌≡◌, ◌<◌, ◌+◌, ◌^◌};
 ghost use Rattle.krs_listen.specs.Daemon.{AcceptsBy, TellsAccepted};
 ghost use Rattle.krs_listen.specs.Saying.{heard};
+ghost use Rattle.krs_listen.specs.Telling.{TellsFailure};
 
 use crate::{Acceptor, AtDesk, Guest, Sitting, SocketGuest, SystemClock, serve_connection};
-use krs_listen::{Accepted, Accepts, FreeSeats, Latest, NOT_ACCEPTED, SocketAcceptor, Voice};
+use krs_listen::{
+    Accepted, Accepts, FreeSeats, Latest, NOT_ACCEPTED, SocketAcceptor, Voice, Voices,
+    tell_accepted,
+};
 use krs_session::{Sink, Source};
 use std::alloc::Global;
 use std::io::Write;
@@ -81,39 +85,65 @@ fn accept_each<
     Accepted::All
 }
 
-/// The same over a socket, which is closed then, so that whoever connects is refused. It gives the counts.
-fn accept_over<'s, 'd, E, N: AtDesk + Send + Sync, R: Threads + Wait + Clock + Sync, W: Write>(
+/// The same over a socket, which is closed then, so that a client that connects is refused. It tells why an accept
+/// failed, and gives the counts.
+fn accept_over<
+    's,
+    'd,
+    B,
+    N: AtDesk + Send + Sync,
+    R: Threads + Wait + Clock + Sync,
+    W: Write,
+    E: Write,
+>(
     hosting: &'s Hosting<'s, 'd, N, R>,
     listener: UnixListener,
     connections: u64,
-    output: &mut Voice<W>,
-    scope: &'s Scope<'s, E>,
+    voices: &mut Voices<W, E>,
+    scope: &'s Scope<'s, B>,
 ) -> (Accepted, Accepts)
     ensures count { AcceptsBy connections 0 result.1.accepted 0 result.1.failures result.0 }
-    ensures told { TellsAccepted result.0 (heard W.contents output.old) (heard W.contents output.new) }
+    ensures told { TellsAccepted result.0 (heard W.contents voices.old.output) (heard W.contents voices.new.output) }
+    ensures cause { TellsFailure result.0 (heard E.contents voices.old.errors) (heard E.contents voices.new.errors) }
 {
     let mut acceptor = SocketAcceptor::new(hosting.rt, hosting.alloc, listener, hosting.free);
-    let accepted = accept_each(hosting, &mut acceptor, connections, output, scope);
+    let accepted = accept_each(
+        hosting,
+        &mut acceptor,
+        connections,
+        &mut voices.output,
+        scope,
+    );
+    let cause = acceptor.cause();
+    tell_accepted(hosting.alloc, &mut voices.errors, accepted, &cause);
     (accepted, acceptor.close())
 }
 
 /// Accepts so many connections, and gives their counts. A failed accept is told at once. Then the socket is closed, and
 /// what was accepted is served to its end.
-pub fn accept_all<'s, 'd, N: AtDesk + Send + Sync, R: Threads + Wait + Clock + Sync, W: Write>(
+pub fn accept_all<
+    's,
+    'd,
+    N: AtDesk + Send + Sync,
+    R: Threads + Wait + Clock + Sync,
+    W: Write,
+    E: Write,
+>(
     hosting: &'s Hosting<'s, 'd, N, R>,
     listener: UnixListener,
     connections: u64,
-    output: &mut Voice<W>,
+    voices: &mut Voices<W, E>,
 ) -> (Accepted, Accepts)
     ensures count { AcceptsBy connections 0 result.1.accepted 0 result.1.failures result.0 }
-    ensures told { TellsAccepted result.0 (heard W.contents output.old) (heard W.contents output.new) }
+    ensures told { TellsAccepted result.0 (heard W.contents voices.old.output) (heard W.contents voices.new.output) }
+    ensures cause { TellsFailure result.0 (heard E.contents voices.old.errors) (heard E.contents voices.new.errors) }
 {
-    let (accepted, counts, _output) = thread::scope(
+    let (accepted, counts, _voices) = thread::scope(
         thread::scope_env(),
         hosting.rt,
         move |scope| {
-            let (accepted, counts) = accept_over(hosting, listener, connections, output, scope);
-            (accepted, counts, output)
+            let (accepted, counts) = accept_over(hosting, listener, connections, voices, scope);
+            (accepted, counts, voices)
         },
     );
     (accepted, counts)

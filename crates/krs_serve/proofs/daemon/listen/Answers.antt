@@ -3,4 +3,4 @@ use Rattle.std.proofs.Common.{refl, inl}
 use Rattle.krs_serve.proofs.daemon.listen.Goals as goal
 
 pub returns-in_default : goal.returns-in_default
-returns-in_default g c = inl (c.say.ensures, refl)
+returns-in_default g c = inl (c.say.ensures, refl, refl)

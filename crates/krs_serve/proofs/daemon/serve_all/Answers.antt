@@ -2,4 +2,4 @@ use Rattle.std.proofs.Common.{rules, refl, inl}
 use Rattle.krs_serve.proofs.daemon.serve_all.Goals as goal
 
 pub returns-in-All : goal.returns-in-All
-returns-in-All g c = inl (search rules, search rules, refl)
+returns-in-All g c = inl (search rules, search rules, search rules, refl)
