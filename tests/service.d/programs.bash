@@ -26,7 +26,8 @@ try_script() {
     skipped 'output that can not be written: no /dev/full'
   fi
   is 'script: --version' "keyretain $version"$'\nstatus 0' "$("$keyretain" --version 2>/dev/null; echo "status $?")"
-  is 'script: --help' 0 "$("$keyretain" --help >/dev/null 2>&1; echo $?)"
+  is 'script: --help' 'status 0, longest 80' \
+    "$("$keyretain" --help 2>/dev/null >"$dir/help"; echo "status $?, longest $(wc -L <"$dir/help")")"
 }
 
 # two FIRST NEXT: two lines that keyretain tells

@@ -11,8 +11,8 @@ const NONE: Line = ("", "-");
 #[derive(Clone, Copy)]
 pub struct Operation(&'static str, u32, u32, Line, Line);
 
-/// The operations. A uid of 4294967295 leaves the owner, and the mask leaves the possessor all rights and the user VIEW.
-/// All notes of keys pass the filter. Of `session` the keyring of the round before drops.
+/// The operations. A uid of 4294967295 leaves the owner, and the mask leaves the possessor all rights and the user
+/// VIEW. All notes of keys pass the filter. Of `session` the keyring of the round before drops.
 #[rattlefmt::skip]
 static OPERATIONS: [Operation; 30] = [
     Operation("read", 0, 1, ("print KEY", "READ of a key"), NONE),

@@ -1,6 +1,7 @@
-/// Gives all commands to a macro, behind its arguments, in groups, and in these a row each: the first word; the words behind
-/// it, in the width that help has for them; what an accepted one prints; and what reads the words behind the first, with
-/// memory or without, or the ask of a command that takes no words.
+/// Gives all commands to a macro, behind its arguments, in groups, and in these a row each: the first word; the words
+/// behind it, in the width that help has for them; what an accepted one prints, in at most 48 letters, so that a row of
+/// help has 80; and what reads the words behind the first, with memory or without, or the ask of a command that takes no
+/// words.
 #[macro_export]
 macro_rules! commands {
     ($use:ident $(, $arg:tt)*) => {
@@ -8,35 +9,35 @@ macro_rules! commands {
             $($arg),*;
             contexts {
                 "hello" " UID GID [GROUP ..]      "
-                    "a new context of this caller, from here on the current one: its number" memory contexts::hello;
+                    "a new context, the current one: its number" memory contexts::hello;
                 "context" " N                     "
                     "makes another context the current one: ok" words contexts::context;
                 "moment" " N                      "
-                    "sets the time in seconds of the lines that follow: ok" words contexts::moment;
+                    "the time of the next lines, in seconds: ok" words contexts::moment;
                 "thread" "                        "
-                    "a new context in the process of the current one: its number" alone Op::Thread;
+                    "a context in the current process: its number" alone Op::Thread;
                 "fork" "                          "
-                    "a new context of the same caller in a new process: its number" alone Op::Fork;
+                    "a context in a new process: its number" alone Op::Fork;
                 "exec" "                          "
                     "ends the other contexts of the process: ok" alone Op::Exec;
                 "exit" "                          "
-                    "ends the current context, which stays the current one: ok" alone Op::Exit;
+                    "ends the current context: ok" alone Op::Exit;
             }
             keys {
                 "add" " TYPE DESC DATA RING       "
-                    "a key in a keyring, new or with a new payload: its serial" memory keys::add;
+                    "a key, new or with a new payload: its serial" memory keys::add;
                 "newring" " DESC RING             "
                     "a new keyring in a keyring: its serial" memory keyrings::newring;
                 "id" " KEY [create]               "
-                    "what an id stands for; create makes a missing keyring: its serial" words contexts::get_id;
+                    "what an id names, or create makes: its serial" words contexts::get_id;
                 "join" " [NAME]                   "
-                    "another session keyring, of that name or of none: its serial" memory contexts::join;
+                    "another session keyring: its serial" memory contexts::join;
                 "update" " KEY DATA               "
                     "another payload for a key: ok" memory keys::update;
                 "print" " KEY                     "
                     "the payload of a key" words keys::print;
                 "rlist" " KEY                     "
-                    "the serials that a keyring links, or the payload of another key" words keys::rlist;
+                    "the serials that a keyring links, or a payload" words keys::rlist;
                 "rdescribe" " KEY                 "
                     "a key as text: type;uid;gid;perm;description" words keys::rdescribe;
             }
@@ -44,7 +45,7 @@ macro_rules! commands {
                 "revoke" " KEY                    "
                     "ends a key for good: ok" words keys::revoke;
                 "invalidate" " KEY                "
-                    "takes a key out of every keyring and every attachment: ok" words keys::invalidate;
+                    "takes a key out of all keyrings, for good: ok" words keys::invalidate;
                 "clear" " RING                    "
                     "takes all links out of a keyring: ok" words keyrings::clear;
                 "chown" " KEY UID                 "
@@ -52,9 +53,9 @@ macro_rules! commands {
                 "chgrp" " KEY GID                 "
                     "another group of a key: ok" words keys::chgrp;
                 "setperm" " KEY MASK              "
-                    "another permission mask of a key, in hexadecimal: ok" words keys::setperm;
+                    "another mask of a key, in hexadecimal: ok" words keys::setperm;
                 "timeout" " KEY SECONDS           "
-                    "lets a key expire after so many seconds, never for 0: ok" words keys::timeout;
+                    "lets a key expire; 0 seconds is never: ok" words keys::timeout;
             }
             links {
                 "link" " KEY RING                 "
@@ -62,13 +63,13 @@ macro_rules! commands {
                 "unlink" " KEY RING               "
                     "one link less in a keyring: ok" words keyrings::unlink;
                 "move" " KEY FROM TO [excl]       "
-                    "a link out of one keyring and into another; excl displaces none: ok" words keyrings::move_link;
+                    "moves a link; excl displaces none: ok" words keyrings::move_link;
                 "restrict" " RING                 "
-                    "closes a keyring against further links, for good: ok" memory keyrings::restrict;
+                    "closes a keyring to further links for good: ok" memory keyrings::restrict;
                 "search" " RING TYPE DESC [RING]  "
-                    "a key found from a keyring on, and linked to the other one: its serial" memory keyrings::search_from;
+                    "a key found from RING on, and linked: its serial" memory keyrings::search_from;
                 "request" " TYPE DESC [RING]      "
-                    "the same from the thread, process and session keyring on: its serial" memory keyrings::request;
+                    "the same from @t, @p and @s on: its serial" memory keyrings::request;
             }
             queues {
                 "open" " CAPACITY                 "
@@ -76,11 +77,11 @@ macro_rules! commands {
                 "closeq" " QUEUE                  "
                     "ends a queue and its watches: ok" words queues::closeq;
                 "watch" " KEY QUEUE ID            "
-                    "a queue's watch of a key, with an id of 0 to 255; off ends it: ok" words queues::watch;
+                    "watches a key, as ID 0 to 255; off ends it: ok" words queues::watch;
                 "filter" " QUEUE ENTRY ..         "
                     "which notes a queue takes in from now on: ok" memory queues::filter;
                 "readq" " QUEUE ROOM              "
-                    "the records of a queue that fit into so many bytes, in hexadecimal" words queues::readq;
+                    "records of at most so many bytes, in hexadecimal" words queues::readq;
                 "leave" "                         "
                     "closes all queues and ends all contexts: ok" alone Op::Leave;
             }

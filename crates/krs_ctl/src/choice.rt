@@ -26,8 +26,9 @@ const UID: &str = "uid";
 
 const GID: &str = "gid";
 
-const ABOUT: &str =
-    "A client of a key store that works as Linux's key retention service does: keyrings(7), keyctl(2).";
+const ABOUT: &str = "\
+A client of a key store that works as Linux's key retention service does:
+keyrings(7), keyctl(2).";
 
 const USES: &str = "keyretain script
        keyretain --socket PATH script
@@ -36,9 +37,7 @@ const USES: &str = "keyretain script
 const NUMBERS: &str =
     "keyretain: options stand before the command; --uid and --gid take a number, as id -u and id -g print it\n";
 
-const WORDS_HELP: &str =
-    "script: runs the lines of standard input, one command each, on a store of their own or over the socket; or, over \
-the socket, a single command";
+const WORDS_HELP: &str = "script, for lines of standard input; or a single command";
 
 macro_rules! help {
     (; $($group:ident { $($name:literal $usage:literal $prints:literal $how:ident $reader:path;)* })*) => {
@@ -46,21 +45,24 @@ macro_rules! help {
             "Commands of a script, with what an accepted one prints:\n",
             $($("  ", $name, $usage, $prints, "\n",)*)*
             "
-KEY and RING are a serial, or @t, @p, @s, @u, @us for the thread, process, session, user and user-session
-keyring. DATA is the word's bytes or, after `hex:`, the bytes that pairs of hexadecimal digits spell. Bytes
-that aren't all printable are shown as `:hex:` and digits. ENTRY is `type:info_filter:info_mask:subtypes`, four
-hexadecimal numbers. Empty lines and lines that begin with `#` are skipped. Over a socket there is no `moment`, as
-the server has its own clock; a single command is none of `hello`, `context` and `moment`, and has a new context of
---uid and --gid, which ends with it.
-A refused command prints its error, as `error 126 ENOKEY`; a line that is no command prints `usage` and ends the
-script.
+A script has a store of its own, or a server's over a socket. KEY and RING are a
+serial, or @t, @p, @s, @u, @us for the thread, process, session, user and
+user-session keyring. DATA is the word's bytes or, after `hex:`, the bytes that
+pairs of hexadecimal digits spell. Bytes that aren't all printable are shown as
+`:hex:` and digits. ENTRY is `type:info_filter:info_mask:subtypes`, four
+hexadecimal numbers. Empty lines and lines that begin with `#` are skipped. Over
+a socket there is no `moment`, as the server has its own clock; a single command
+is none of `hello`, `context` and `moment`, and has a new context of --uid and
+--gid, which ends with it.
+A refused command prints its error, as `error 126 ENOKEY`; a line that is no
+command prints `usage` and ends the script.
 
 Example, a key that is made and read back:
   printf 'hello 1000 1000\nadd user alpha s3 @u\nprint 5\n' | keyretain script
 prints 1, 5 and s3, a line each.
 
-Exit status: 0; 1 if something was refused or memory ran out; 2 for usage; 3 if the connection, reading or
-printing failed."
+Exit status: 0; 1 if something was refused or memory ran out; 2 for usage; 3 if
+the connection, reading or printing failed."
         )
     };
 }
