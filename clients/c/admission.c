@@ -34,13 +34,14 @@ void admission_set(struct admission_process *process, uint32_t uid) {
     process->has_auxv = true;
 }
 
+/* Groups that have no number there are left out: what stands for them is another group's number. */
 void admission_put_identity(struct kr_identity *identity, const struct proc_status *status, bool is_of_user) {
     const struct admission_ids uids = to_inside(&status->uids, maps_uid), gids = to_inside(&status->gids, maps_gid);
     memset(identity, 0, sizeof *identity);
     identity->uid = krs_admission_c_asks_as(&uids, is_of_user);
     identity->gid = krs_admission_c_asks_as(&gids, is_of_user);
-    identity->count = status->count;
-    for (uint32_t i = 0; i < status->count; i++) identity->groups[i] = maps_gid(status->groups[i]);
+    for (uint32_t i = 0; i < status->count; i++)
+        if (maps_have_gid(status->groups[i])) identity->groups[identity->count++] = maps_gid(status->groups[i]);
 }
 
 bool admission_has_ids(const struct proc_status *status) {

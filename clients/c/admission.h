@@ -54,8 +54,9 @@ void maps_begin(pid_t first);
 /* 65534, or what the system has in its place, for an id that isn't mapped. */
 unsigned map_to_inside(const struct map *map, unsigned id, unsigned unknown);
 
-/* Whether a uid that is read here has a number there. */
+/* Whether an id that is read here has a number there. */
 bool maps_have_uid(unsigned uid);
+bool maps_have_gid(unsigned gid);
 
 unsigned maps_uid(unsigned uid);
 unsigned maps_gid(unsigned gid);

@@ -103,11 +103,14 @@ void maps_begin(pid_t first) {
     close(outermost);
 }
 
-bool maps_have_uid(unsigned uid) {
-    for (unsigned i = 0; i < all.uids.count; i++)
-        if (uid - all.uids.ranges[i].outside < all.uids.ranges[i].length) return true;
+static bool have(const struct map *map, unsigned id) {
+    for (unsigned i = 0; i < map->count; i++)
+        if (id - map->ranges[i].outside < map->ranges[i].length) return true;
     return all.is_ours;
 }
+
+bool maps_have_uid(unsigned uid) { return have(&all.uids, uid); }
+bool maps_have_gid(unsigned gid) { return have(&all.gids, gid); }
 
 unsigned map_to_inside(const struct map *map, unsigned id, unsigned unknown) {
     for (unsigned i = 0; i < map->count; i++)

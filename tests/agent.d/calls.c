@@ -12,6 +12,7 @@
  *   to-parent             gives the session to the parent: `ok`
  *   become UID            takes this uid and gid, and no groups
  *   belong UID GID        the same with this group
+ *   keep UID              takes this uid and gid, and keeps its groups
  *   exec CMD ..           executes the rest */
 #define _GNU_SOURCE
 #include <errno.h>
@@ -97,7 +98,7 @@ static void read_added(void) {
 }
 
 static void become(unsigned id, int count, gid_t group) {
-    setgroups((size_t)count, &group);
+    if (count >= 0) setgroups((size_t)count, &group);
     if (setgid(id) < 0 || setuid(id) < 0) perror("setuid");
 }
 
@@ -120,6 +121,7 @@ int main(int count, char **words) {
         else if (IS("mode")) say(call(KEYCTL_SETPERM, added, strtol(*++at, NULL, 16), 0));
         else if (IS("read")) read_added();
         else if (IS("to-parent")) say(call(KEYCTL_SESSION_TO_PARENT, 0, 0, 0));
+        else if (IS("keep")) become((unsigned)atoi(*++at), -1, 0);
         else if (IS("become")) become((unsigned)atoi(*++at), 0, 0);
         else if (IS("belong") && end - at > 2) become((unsigned)atoi(at[1]), 1, (gid_t)atoi(at[2])), at += 2;
         else if (IS("exec")) return execvp(at[1], at + 1);

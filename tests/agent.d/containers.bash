@@ -268,6 +268,9 @@ try_other_ids() {
     contain n --uids 100000 -- "$dir/calls" add k v @s chgrp 7 mode 013f0200 belong 33 7 read
   says 'another group of it' 'ok ok ok EACCES ' \
     contain n --uids 100000 -- "$dir/calls" add k v @s chgrp 7 mode 013f0200 belong 33 8 read
+  says 'one of the host that the runtime has left it, which has no number there' 'ok ok ok EACCES ' \
+    setpriv --groups 4005 "$dir/runtime" "$socket" n --uids 100000 -- \
+    "$dir/calls" add k v @s chgrp "$(</proc/sys/kernel/overflowgid)" mode 013f0200 keep 33 read
   says 'the last uid of those that it has' 'keyring;999;999;1f3f0000;_uid.999 ' \
     contain n --uids 100000 -- "$dir/calls" become 999 describe @u
   try_nested
