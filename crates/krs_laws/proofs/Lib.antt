@@ -4,6 +4,7 @@ pub mod Rightly
 pub mod RightlyAsked
 pub mod ByRight
 pub mod Watchers
+pub mod Callers
 pub mod Leftovers
 pub mod KeyLimits
 pub mod KeyLimitsByAsk

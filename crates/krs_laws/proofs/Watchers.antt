@@ -1,17 +1,19 @@
 -- Queues are their owners', and watches are set by right.
-use Rattle.std.proofs.Common.{◌≡◌, ℕ, ℤ, ◌==◌, not, List, [], ◌∷◌, Option, Some, None, true, false, cond}
-use Rattle.std.proofs.Common.{Result, Ok, Err, refl, ap, ◌∙◌, sym, subst, ◌⊎◌, inl, inr, arith}
-use Rattle.std.specs.Prelude.{IsOk, is_some}
+use Rattle.std.proofs.Common.{◌≡◌, ℕ, zero, suc, ℤ, ◌==◌, not, List, [], ◌∷◌, Option, Some, None, true, false, cond}
+use Rattle.std.proofs.Common.{Result, Ok, Err, refl, ap, ◌∙◌, sym, subst, ◌⊎◌, inl, inr, arith, nat_le}
+use Rattle.std.specs.Prelude.{IsOk, is_some, pos, negsuc}
+use Rattle.std.specs.Ordering.{nat_cmp, ordering_then, match_ordering, is_eq}
+use Rattle.std.specs.declared.cmp.Ordering.TheVariants.{Less, Equal, Greater}
 use Rattle.std.proofs.lemmas.Bool.{true≢false}
 use Rattle.std.proofs.lemmas.Bool.Decides.{nat_tests}
 use Rattle.std.proofs.lemmas.Option.{none-some, same_Some}
 use Rattle.krs_types.specs.declared.errno.Errno.{Errno}
-use Rattle.krs_types.specs.declared.errno.Errno.TheVariants.{EBADF, EBUSY}
+use Rattle.krs_types.specs.declared.errno.Errno.TheVariants.{EINVAL, EBADF, EBUSY}
 use Rattle.krs_types.specs.declared.note.FilterEntry.{FilterEntry}
 use Rattle.krs_types.specs.declared.ask.Answer.{Answer}
 use Rattle.krs_types.specs.declared.ask.Op.{Op}
 use Rattle.krs_types.specs.declared.ask.Op.TheVariants as asks
-use Rattle.krs_types.specs.declared.ask.Op.TheVariants.{SetFilter, ReadQueue, CloseQueue, Leave}
+use Rattle.krs_types.specs.declared.ask.Op.TheVariants.{OpenQueue, SetFilter, ReadQueue, CloseQueue, Leave}
 use Rattle.krs_types.specs.declared.event.Event.{Event}
 use Rattle.krs_types.specs.declared.rights.Want.TheVariants.{Granted}
 use Rattle.krs_types.specs.Refusing.{or_refuse}
@@ -20,7 +22,8 @@ use Rattle.krs_model.specs.Table.{at}
 use Rattle.krs_model.specs.State.{State, Queue, raised}
 use Rattle.krs_model.specs.Lookup.{context_of, look_up}
 use Rattle.krs_model.specs.Queues.{Queues, Watch, queues_of, if_own_queue, queue_of, watch_at, with_watch}
-use Rattle.krs_model.specs.Queues.{without_watch}
+use Rattle.krs_model.specs.Queues.{without_watch, place_cmp}
+use Rattle.krs_model.specs.Revocation.{Names}
 use Rattle.krs_model.specs.Orderly.{Each}
 use Rattle.krs_model.specs.Sound.{IsSound}
 use Rattle.krs_model.specs.Sweep.{live_watches}
@@ -35,9 +38,12 @@ use Rattle.krs_model.proofs.Asks.Effects.{effect_of}
 use Rattle.krs_model.proofs.Asks.Later.{bind_ok, same_ok}
 use Rattle.krs_model.proofs.Asks.Outcomes.{Meets, meets_after, meets_ok}
 use Rattle.krs_model.proofs.Notes.Fitting.{each_filter, each_on}
-use Rattle.krs_model.proofs.Sound.Watches.{each_with, each_without}
+use Rattle.krs_model.proofs.Sound.Watches.{each_without}
+use Rattle.krs_model.proofs.Lookups.Serials.{found_serial}
+use Rattle.krs_model.proofs.Tables.Changes.{same_at}
 use Rattle.krs_laws.specs.Integrity.{HasRight}
-use Rattle.krs_laws.specs.Noting.{OwnsQueue, queue_asked, QueuesAreTheirOwners, IsWatched, WatchesByRight, AllWatchesAreByRight}
+use Rattle.krs_laws.specs.Noting.{OwnsQueue, queue_asked, QueuesAreTheirOwners, IsWatched, IsSetBy, WatchesByRight}
+use Rattle.krs_laws.specs.Noting.{AllWatchesAreByRight}
 use Rattle.krs_laws.proofs.Rightly.{right_found}
 
 -- ---- queues are their owners'
@@ -147,74 +153,121 @@ owners_ask old new event number step accepted is =
 
 -- ---- watches are set by right
 
-abbrev IsSetRightly : State → ℕ → ℕ → Watch → Type 0
-IsSetRightly s client context w =
-    IsWatched w.0 s.watches ⊎ (HasRight s client context (Granted VIEW) w.0.0 × OwnsQueue s client w.0.1)
+abbrev IsSetRightly : State → ℕ → ℕ → Op → Watch → Type 0
+IsSetRightly s client context op w = IsWatched w s.watches ⊎ IsSetBy s client context op w
 
--- each watch is at its place
-at_place : (ws : List Watch) → Each (λ w. IsWatched w.0 ws) ws
-at_place [] = tt
-at_place (w ∷ ws) =
-    (inl refl, each_on (λ v. IsWatched v.0 ws) (λ v. IsWatched v.0 (w ∷ ws)) ws (λ v there. inr there) (at_place ws))
+-- each watch is one of them
+pub all_watched : (ws : List Watch) → Each (λ w. IsWatched w ws) ws
+all_watched [] = tt
+all_watched (w ∷ ws) =
+    (inl refl, each_on (λ v. IsWatched v ws) (λ v. IsWatched v (w ∷ ws)) ws (λ v there. inr there) (all_watched ws))
 
-were_set : (s : State) (client context : ℕ) → Each (IsSetRightly s client context) s.watches
-were_set s client context =
-    each_on (λ w. IsWatched w.0 s.watches) (IsSetRightly s client context) s.watches (λ w there. inl there)
-    (at_place s.watches)
+were_set : (s : State) (client context : ℕ) (op : Op) → Each (IsSetRightly s client context op) s.watches
+were_set s client context op =
+    each_on (λ w. IsWatched w s.watches) (IsSetRightly s client context op) s.watches (λ w there. inl there)
+    (all_watched s.watches)
+
+-- the order of places is of both numbers
+pub same_place : (x y : ℕ × ℕ) → place_cmp x y ≡ Equal → x ≡ y
+same_place x y h =
+    elim (nat_cmp x.0 y.0) as (λ r. nat_cmp x.0 y.0 ≡ r → ordering_then r (nat_cmp x.1 y.1) ≡ Equal → x ≡ y) [
+      | Less ↦ λ t i. cc
+      | Equal ↦ λ t i. λ j. (same_at x.0 y.0 (ap is_eq t) j, same_at x.1 y.1 (ap is_eq i) j)
+      | Greater ↦ λ t i. cc
+    ] refl h
+
+-- with one more watch, in the place of one that stands there
+each_set :
+    (P : Watch → Type 0) (ws : List Watch) (key number n : ℕ) → P ((key, number), n) → Each P ws
+    → Each P (with_watch ws key number n)
+each_set P [] key number n new h = (new, tt)
+each_set P (w ∷ ws) key number n new h =
+    elim (place_cmp (key, number) w.0) as (λ r. place_cmp (key, number) w.0 ≡ r
+    → Each P (match_ordering r (((key, number), n) ∷ w ∷ ws) ((w.0, n) ∷ ws) (w ∷ with_watch ws key number n))) [
+      | Less ↦ λ t. (new, h)
+      | Equal ↦ λ t. (subst (λ (place : ℕ × ℕ). P (place, n)) (same_place (key, number) w.0 t) new, h.1)
+      | Greater ↦ λ t. (h.0, each_set P ws key number n new h.1)
+    ] refl
+
+-- an id that sets a watch is a number
+id_is : (watch_id : ℤ) (n : ℕ) → watch_id_of watch_id ≡ Ok (Some n) → watch_id ≡ pos n
+id_is (pos m) n h =
+    elim (nat_le m 255) as (λ b. cond b (Ok (Some m)) (Err EINVAL) ≡ Ok (Some n) → pos m ≡ pos n) [
+      | true ↦ λ i. cc
+      | false ↦ λ i. cc
+    ] h
+id_is (negsuc zero) n h = cc
+id_is (negsuc (suc m)) n h = cc
 
 watching_set :
-    (s : State) (client context number key : ℕ) (asked : Option ℕ) (queues : Queues)
-    → HasRight s client context (Granted VIEW) key → with_watching (queues_of s) client number key asked ≡ Ok queues
-    → Each (IsSetRightly s client context) queues.watches
+    (s : State) (client context number key : ℕ) (id watch_id : ℤ) (asked : Option ℕ) (queues : Queues)
+    → watch_id_of watch_id ≡ Ok asked → Names s client context id key → HasRight s client context (Granted VIEW) key
+    → with_watching (queues_of s) client number key asked ≡ Ok queues
+    → Each (IsSetRightly s client context (asks.Watch id number watch_id)) queues.watches
 unfolding watched
-watching_set s client context number key (Some id) queues right h =
-    let set = bind_ok (watched (queues_of s) client number key id) _ queues h in
+watching_set s client context number key id watch_id (Some n) queues is names right h =
+    let op = asks.Watch id number watch_id in
+    let set = bind_ok (watched (queues_of s) client number key n) _ queues h in
     let own = bind_ok (queue_of s.queues client number) _ set.0 set.1 in
     let free = bind_ok (unless (is_some (watch_at s.watches key number)) EBUSY) _ set.0 own.2 in
-    let more : Queues = record (queues_of s) { watches = with_watch s.watches key number id } in
-    let is : more ≡ queues =
+    let more : Queues = record (queues_of s) { watches = with_watch s.watches key number n } in
+    let same : more ≡ queues =
     ap (λ (x : Queues × Unit {0}). x.0) (same_ok (Ok (more, tt)) (more, tt) set.0 refl free.2)
     ∙ same_ok (Ok set.0.0) set.0.0 queues refl set.2 in
-    subst (λ (q : Queues). Each (IsSetRightly s client context) q.watches) is
-    (each_with (IsSetRightly s client context) s.watches key number id
-    (inr (right, owner_of s client number own.0 own.1)) (λ w was. was) (were_set s client context))
-watching_set s client context number key None queues right h =
+    let new : IsSetBy s client context op ((key, number), n) = record {
+      id = id;
+      asked = ap (asks.Watch id number) (id_is watch_id n is);
+      names = names;
+      right = right;
+      own = owner_of s client number own.0 own.1;
+    } in
+    subst (λ (q : Queues). Each (IsSetRightly s client context op) q.watches) same
+    (each_set (IsSetRightly s client context op) s.watches key number n (inr new) (were_set s client context op))
+watching_set s client context number key id watch_id None queues is names right h =
+    let op = asks.Watch id number watch_id in
     let ended = bind_ok (unwatched (queues_of s) client number key) _ queues h in
-    let is = unwatched_is (queues_of s) client number key ended.0 ended.1 in
+    let gone = unwatched_is (queues_of s) client number key ended.0 ended.1 in
     let less : Queues = record (queues_of s) { watches = without_watch s.watches key number } in
-    let same : less ≡ queues = is.3 ∙ same_ok (Ok ended.0.0) ended.0.0 queues refl ended.2 in
-    subst (λ (q : Queues). Each (IsSetRightly s client context) q.watches) same
-    (each_without (IsSetRightly s client context) s.watches key number (were_set s client context))
+    let same : less ≡ queues = gone.3 ∙ same_ok (Ok ended.0.0) ended.0.0 queues refl ended.2 in
+    subst (λ (q : Queues). Each (IsSetRightly s client context op) q.watches) same
+    (each_without (IsSetRightly s client context op) s.watches key number (were_set s client context op))
 
 watch_set :
     (s : State) (client context number : ℕ) (id watch_id : ℤ)
-    → Meets (λ (new : State). Each (IsSetRightly s client context) new.watches) (watch s client context id number watch_id)
+    → Meets (λ (new : State). Each (IsSetRightly s client context (asks.Watch id number watch_id)) new.watches)
+    (watch s client context id number watch_id)
 unfolding watch
 watch_set s client context number id watch_id =
     meets_after (context_of s client context) _ (λ c own.
-    meets_after (watch_id_of watch_id) _ (λ asked _.
+    meets_after (watch_id_of watch_id) _ (λ asked known.
     meets_after (look_up s c id (Granted VIEW)) _ (λ there is.
     meets_after (with_watching (queues_of s) client number there.0 asked) _ (λ queues set.
-    meets_ok (watching_set s client context number there.0 asked queues
+    meets_ok (watching_set s client context number there.0 id watch_id asked queues known
+    (record { whose = c; own = own; named = found_serial s c id (Granted VIEW) there is })
     (right_found s client context c id (Granted VIEW) there own is) set)))))
 
 effect_set :
     (s : State) (client context : ℕ) (op : Op) (mid : State) (answer : Answer) → outcome_of s client context op ≡ Ok (mid, answer)
-    → Effect s client context op mid answer → Each (IsSetRightly s client context) mid.watches
+    → Effect s client context op mid answer → Each (IsSetRightly s client context op) mid.watches
 unfolding left
 effect_set s client context _ _ _ h (OfKeys op mid answer other comes none) =
-    subst (Each (IsSetRightly s client context)) (sym (ap (λ (q : Queues). q.watches) comes.queues)) (were_set s client context)
-effect_set s client context _ _ _ h (Opens capacity held) = were_set s client context
-effect_set s client context _ _ _ h (Filters number entries queue there) = were_set s client context
-effect_set s client context _ _ _ h (Reads number room queue there) = were_set s client context
+    subst (Each (IsSetRightly s client context op)) (sym (ap (λ (q : Queues). q.watches) comes.queues))
+    (were_set s client context op)
+effect_set s client context _ _ _ h (Opens capacity held) = were_set s client context (OpenQueue capacity)
+effect_set s client context _ _ _ h (Filters number entries queue there) =
+    were_set s client context (SetFilter number entries)
+effect_set s client context _ _ _ h (Reads number room queue there) =
+    were_set s client context (ReadQueue number room)
 effect_set s client context _ _ _ h (Closes number queue there) =
-    each_filter (IsSetRightly s client context) (λ w. not (w.0.1 == number)) s.watches (were_set s client context)
+    let op = CloseQueue number in
+    each_filter (IsSetRightly s client context op) (λ w. not (w.0.1 == number)) s.watches (were_set s client context op)
 effect_set s client context _ _ _ h (Watches id watch_id number key n queue known there asked fits) =
     (watch_set s client context number id watch_id).meets _ _ h
 effect_set s client context _ _ _ h (Unwatches id watch_id number key n queue known named there asked was) =
-    each_without (IsSetRightly s client context) s.watches key number (were_set s client context)
+    let op = asks.Watch id number watch_id in
+    each_without (IsSetRightly s client context op) s.watches key number (were_set s client context op)
 effect_set s client context _ _ _ h Leaves =
-    each_filter (IsSetRightly s client context) _ s.watches (were_set s client context)
+    each_filter (IsSetRightly s client context Leave) _ s.watches (were_set s client context Leave)
 
 ended_set :
     (s new : State) (event : Event) (reply : Result Answer Errno)
@@ -223,15 +276,15 @@ ended_set s new event (Ok answer) ends =
     let client = event.lane in
     let context = event.ask.context in
     let mid = ends.mid in
-    let set = effect_set s client context event.ask.op mid answer ends.meant
-    (effect_of s client context event.ask.op mid answer ends.meant) in
+    let op = event.ask.op in
+    let set = effect_set s client context op mid answer ends.meant (effect_of s client context op mid answer ends.meant) in
     let is : new.watches ≡ live_watches ends.swept.keys mid.watches =
     ap (λ (t : State). t.watches) ends.posted ∙ ap (λ (t : State). t.watches) ends.sweep.rest in
-    subst (Each (IsSetRightly s client context)) (sym is)
-    (each_filter (IsSetRightly s client context) (λ w. is_some (at ends.swept.keys w.0.0)) mid.watches set)
+    subst (Each (IsSetRightly s client context op)) (sym is)
+    (each_filter (IsSetRightly s client context op) (λ w. is_some (at ends.swept.keys w.0.0)) mid.watches set)
 ended_set s new event (Err e) ends =
-    subst (λ (t : State). Each (IsSetRightly s event.lane event.ask.context) t.watches) (sym ends.1)
-    (were_set s event.lane event.ask.context)
+    subst (λ (t : State). Each (IsSetRightly s event.lane event.ask.context event.ask.op) t.watches) (sym ends.1)
+    (were_set s event.lane event.ask.context event.ask.op)
 
 step_set : (old new : State) (event : Event) → Step old event new → WatchesByRight (raised old event.moment) event new
 unfolding Step

@@ -1,9 +1,12 @@
 -- Who is told of what, by right: core-api/watch_queue.rst; uapi linux/keyctl.h, KEYCTL_WATCH_KEY. The form is this
 -- project's own.
-use Rattle.std.specs.Prelude.{◌≡◌, ◌⊎◌, ℕ, List, [], ◌∷◌, Option, None, Some, IsOk}
+use Rattle.std.specs.Prelude.{◌≡◌, ◌⊎◌, ℕ, ℤ, pos, List, [], ◌∷◌, Option, None, Some, IsOk}
+use Rattle.std.specs.List.{AllByRecursion}
 use Rattle.krs_types.specs.declared.ask.Op.{Op}
 use Rattle.krs_types.specs.declared.ask.Op.TheVariants.{SetFilter, ReadQueue, CloseQueue, Watch}
 use Rattle.krs_types.specs.declared.event.Event.{Event}
+use Rattle.krs_types.specs.declared.note.Record.{Record}
+use Rattle.krs_types.specs.declared.note.Record.TheVariants.{Key, Removal, Loss}
 use Rattle.krs_types.specs.declared.rights.Want.TheVariants.{Granted}
 use Rattle.krs_types.specs.Rights.{VIEW}
 use Rattle.krs_model.specs.Table.{at}
@@ -12,6 +15,8 @@ use Rattle.krs_model.specs.Queues as queues
 use Rattle.krs_model.specs.Orderly.{Each}
 use Rattle.krs_model.specs.Step.{Step}
 use Rattle.krs_model.specs.History.{IsLegal}
+use Rattle.krs_model.specs.Receiving.{called_for}
+use Rattle.krs_model.specs.Revocation.{Names}
 use Rattle.krs_laws.specs.Integrity.{HasRight}
 
 -- the queue of this number is there, and it is the client's
@@ -34,20 +39,43 @@ QueuesAreTheirOwners =
     (old new : State) (event : Event) (number : ℕ) → Step old event new → IsOk event.reply
     → queue_asked event.ask.op ≡ Some number → OwnsQueue old event.lane number
 
--- one of these watches is at this key and queue
-abbrev pub IsWatched : ℕ × ℕ → List queues.Watch → Type 0
-IsWatched place [] = ⊥
-IsWatched place (w ∷ ws) = (w.0 ≡ place) ⊎ IsWatched place ws
+-- these watches have this one among them
+abbrev pub IsWatched : queues.Watch → List queues.Watch → Type 0
+IsWatched watch [] = ⊥
+IsWatched watch (w ∷ ws) = (w ≡ watch) ⊎ IsWatched watch ws
 
--- Each watch was there before the ask, at the same key and queue; or the ask set it, in a context that has VIEW on the
--- key then, for a queue of its client. A watch stays though VIEW is taken away later, as in the kernel
+-- the ask sets the watch, with its id, at the key that it names, and may VIEW that key then; the queue is its client's
+pub record IsSetBy (s : State) (client context : ℕ) (op : Op) (w : queues.Watch) : Type 0 where
+  pub id : ℤ
+  pub asked : op ≡ Watch id w.0.1 (pos w.1)
+  pub names : Names s client context id w.0.0
+  pub right : HasRight s client context (Granted VIEW) w.0.0
+  pub own : OwnsQueue s client w.0.1
+
+-- Each watch was there before the ask, at the same key and queue and with the same id; or the ask set it by right. A
+-- watch stays though VIEW is taken away later, as in the kernel
 abbrev pub WatchesByRight : State → Event → State → Type 0
 WatchesByRight s event new =
-    Each (λ w. IsWatched w.0 s.watches
-    ⊎ (HasRight s event.lane event.ask.context (Granted VIEW) w.0.0 × OwnsQueue s event.lane w.0.1)) new.watches
+    Each (λ w. IsWatched w s.watches ⊎ IsSetBy s event.lane event.ask.context event.ask.op w) new.watches
 
 -- so it is of each event in each history from this state on, at the moment of the event
 abbrev pub AllWatchesAreByRight : State → Type 0
 AllWatchesAreByRight start =
     (before : List Event) (old : State) → IsLegal start before old
     → (event : Event) (new : State) → Step old event new → WatchesByRight (raised old event.moment) event new
+
+-- One of these watches calls for the record: it is at this queue, and the record tells of its key, and has its id. No
+-- watch calls for a loss
+abbrev pub IsCalledFor : List queues.Watch → ℕ → Record → Type 0
+IsCalledFor watches number (Key event id key aux) = IsWatched ((key, number), id) watches
+IsCalledFor watches number (Removal id key) = IsWatched ((key, number), id) watches
+IsCalledFor watches number Loss = ⊥
+
+-- Each record that an event posts to a queue is called for by a watch that stood as the ask came. So what a queue gives,
+-- which is the stream of these records and losses, is of watches alone that were set by right: krs_model,
+-- specs/Receiving.antt
+abbrev pub AllNotesAreCalledFor : State → Type 0
+AllNotesAreCalledFor start =
+    (before : List Event) (old : State) → IsLegal start before old
+    → (event : Event) (new : State) → Step old event new
+    → (number : ℕ) → AllByRecursion (IsCalledFor old.watches number) (called_for number old event new)

@@ -13,5 +13,7 @@ pub use emptied::nothing_is_left_when_all_have_left;
 pub use expired::expired_keys_stay_unread;
 pub use integrity::each_change_is_by_right;
 pub use limits::limits_hold_in_every_history;
-pub use noting::{queues_are_their_owners, watches_are_set_by_right};
+pub use noting::{
+    queues_are_their_owners, records_are_called_for_by_watches, watches_are_set_by_right,
+};
 pub use overwritten::{adds_forget_what_they_overwrite, updates_forget_what_they_overwrite};

@@ -1,14 +1,20 @@
-//! That queues are their owners', and watches are set by right.
+//! That queues are their owners', that watches are set by right, and that records are called for by watches.
 ghost use Rattle.krs_model.specs.State.{State};
 ghost use Rattle.krs_model.specs.Sound.{IsSound};
-ghost use Rattle.krs_laws.specs.Noting.{QueuesAreTheirOwners, AllWatchesAreByRight};
+ghost use Rattle.krs_laws.specs.Noting.{QueuesAreTheirOwners, AllWatchesAreByRight, AllNotesAreCalledFor};
 
 /// A queue is read, given a filter, closed and set to watch by its owner alone.
 pub fn queues_are_their_owners()
     ensures { QueuesAreTheirOwners }
 {}
 
-/// Each watch was set in a context that had VIEW on the key then, for a queue of its own client.
+/// Each watch was set, with its id, in a context that had VIEW on the key then, for a queue of its own client.
 pub fn watches_are_set_by_right()
     ensures { (start : State) → IsSound start → AllWatchesAreByRight start }
+{}
+
+/// Each record that an ask posts to a queue tells of the key of a watch at that queue, and has its id. The watch stood
+/// as the ask came.
+pub fn records_are_called_for_by_watches()
+    ensures { (start : State) → IsSound start → AllNotesAreCalledFor start }
 {}
