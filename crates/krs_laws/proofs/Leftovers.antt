@@ -37,7 +37,7 @@ none_watched queues [] none each = refl
 none_watched queues (w ∷ ws) none each =
     absurd (true≢false (sym each.0.queue ∙ ap (λ (es : Table Queue). is_some (at es w.0.1)) none))
 
-all_gone : (s : State) → IsSound s → ((client : ℕ) → HasNothing client s) → IsEmpty s
+pub all_gone : (s : State) → IsSound s → ((client : ℕ) → HasNothing client s) → IsEmpty s
 all_gone s sound nothing =
     let contexts : s.contexts ≡ [] =
     none_there s.contexts (λ k c there. (nothing c.client).contexts k c there refl) in

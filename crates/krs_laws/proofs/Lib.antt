@@ -6,6 +6,7 @@ pub mod ByRight
 pub mod Watchers
 pub mod Callers
 pub mod Leftovers
+pub mod Opened
 pub mod KeyLimits
 pub mod KeyLimitsByAsk
 pub mod QueueLimits

@@ -1,17 +1,18 @@
--- Whose contexts are in each history of a store that began empty: profile, believed caller; profile, leaving. The laws
--- of krs_model (specs/Belonging.antt), told of one store.
-use Rattle.std.specs.Prelude.{◌≡◌, ℕ, List, Bool, true, false, Some}
+-- Whose contexts and queues are in each history of a store that began empty: profile, believed caller; profile,
+-- leaving; profile, queues by number. The laws of contexts are krs_model's (specs/Belonging.antt), told of one store.
+use Rattle.std.specs.Prelude.{◌≡◌, ℕ, List, ◌∷◌, ◌++◌, Bool, true, false, Some, Ok}
 use Rattle.krs_types.specs.declared.caller.Caller.{Caller}
 use Rattle.krs_types.specs.declared.context.Context.{Context}
-use Rattle.krs_types.specs.declared.ask.Op.TheVariants.{Leave}
+use Rattle.krs_types.specs.declared.ask.Answer.TheVariants.{Number}
+use Rattle.krs_types.specs.declared.ask.Op.TheVariants.{OpenQueue, Leave}
 use Rattle.krs_types.specs.declared.event.Event.{Event}
 use Rattle.krs_model.specs.Table.{at}
-use Rattle.krs_model.specs.State.{State, starting_at}
+use Rattle.krs_model.specs.State.{State, Queue, starting_at}
 use Rattle.krs_model.specs.Step.{Step}
 use Rattle.krs_model.specs.History.{IsLegal}
 use Rattle.krs_model.specs.Revocation.{Reads}
 use Rattle.krs_model.specs.Confidentiality.{KeepsPrivate}
-use Rattle.krs_model.specs.Belonging.{HasNothing, HasGreeted}
+use Rattle.krs_model.specs.Belonging.{HasNothing, HasStayed, HasGreeted}
 
 -- once a client has left, no context and no queue is its
 abbrev pub LeavesNothing : Type 0
@@ -34,3 +35,22 @@ ReadersHaveNamedThemselves start =
     → KeepsPrivate uid (λ k. false) start before old last
     → (reading : Event) (end : State) (serial : ℕ) → last serial ≡ true → Step old reading end
     → Reads old reading serial → (caller : Caller) × (caller.uid ≡ uid) × HasGreeted reading.lane caller before
+
+-- an OPEN_QUEUE of the client was accepted, and gave the queue this number
+pub record OpensQueue (client number : ℕ) (event : Event) : Type 0 where
+  pub by : event.lane ≡ client
+  pub capacity : ℕ
+  pub asked : event.ask.op ≡ OpenQueue capacity
+  pub gave : event.reply ≡ Ok (Number number)
+
+-- the client opened the queue in these events, and has not left since
+abbrev pub HasOpened : ℕ → ℕ → List Event → Type 0
+HasOpened client number events =
+    (before : List Event) × (event : Event) × (later : List Event) × (events ≡ before ++ event ∷ later)
+    × OpensQueue client number event × HasStayed client later
+
+-- each queue is of the client that opened it, since it last left
+abbrev pub QueuesAreTheirClients : State → Type 0
+QueuesAreTheirClients start =
+    BeganEmpty start → (events : List Event) (end : State) → IsLegal start events end
+    → (number : ℕ) (queue : Queue) → at end.queues number ≡ Some queue → HasOpened queue.client number events

@@ -71,9 +71,8 @@ IsCalledFor watches number (Key event id key aux) = IsWatched ((key, number), id
 IsCalledFor watches number (Removal id key) = IsWatched ((key, number), id) watches
 IsCalledFor watches number Loss = ⊥
 
--- Each record that an event posts to a queue is called for by a watch that stood as the ask came. So what a queue gives,
--- which is the stream of these records and losses, is of watches alone that were set by right: krs_model,
--- specs/Receiving.antt
+-- Each record that an event posts to a queue is called for by a watch that stood as the ask came. What a queue gives is
+-- the stream of these records and losses (krs_model, specs/Receiving.antt), so it is of watches that were set by right.
 abbrev pub AllNotesAreCalledFor : State → Type 0
 AllNotesAreCalledFor start =
     (before : List Event) (old : State) → IsLegal start before old

@@ -1,11 +1,17 @@
 //! That queues are their owners', that watches are set by right, and that records are called for by watches.
 ghost use Rattle.krs_model.specs.State.{State};
 ghost use Rattle.krs_model.specs.Sound.{IsSound};
+ghost use Rattle.krs_laws.specs.Belonging.{QueuesAreTheirClients};
 ghost use Rattle.krs_laws.specs.Noting.{QueuesAreTheirOwners, AllWatchesAreByRight, AllNotesAreCalledFor};
 
 /// A queue is read, given a filter, closed and set to watch by its owner alone.
 pub fn queues_are_their_owners()
     ensures { QueuesAreTheirOwners }
+{}
+
+/// In each history of a store that began empty, a queue is of the client that opened it, and that has not left since.
+pub fn queues_are_their_clients()
+    ensures { (start : State) → QueuesAreTheirClients start }
 {}
 
 /// Each watch was set, with its id, in a context that had VIEW on the key then, for a queue of its own client.
