@@ -5,6 +5,7 @@ pub mod RightlyAsked
 pub mod ByRight
 pub mod Watchers
 pub mod Callers
+pub mod WatchesSet
 pub mod Leftovers
 pub mod Opened
 pub mod KeyLimits

@@ -286,7 +286,7 @@ ended_set s new event (Err e) ends =
     subst (λ (t : State). Each (IsSetRightly s event.lane event.ask.context event.ask.op) t.watches) (sym ends.1)
     (were_set s event.lane event.ask.context event.ask.op)
 
-step_set : (old new : State) (event : Event) → Step old event new → WatchesByRight (raised old event.moment) event new
+pub step_set : (old new : State) (event : Event) → Step old event new → WatchesByRight (raised old event.moment) event new
 unfolding Step
 step_set old new event step = ended_set (raised old event.moment) new event event.reply step
 

@@ -1,6 +1,6 @@
 -- Who is told of what, by right: core-api/watch_queue.rst; uapi linux/keyctl.h, KEYCTL_WATCH_KEY. The form is this
 -- project's own.
-use Rattle.std.specs.Prelude.{◌≡◌, ◌⊎◌, ℕ, ℤ, pos, List, [], ◌∷◌, Option, None, Some, IsOk}
+use Rattle.std.specs.Prelude.{◌≡◌, ◌⊎◌, ℕ, ℤ, pos, List, [], ◌∷◌, ◌++◌, Option, None, Some, IsOk}
 use Rattle.std.specs.List.{AllByRecursion}
 use Rattle.krs_types.specs.declared.ask.Op.{Op}
 use Rattle.krs_types.specs.declared.ask.Op.TheVariants.{SetFilter, ReadQueue, CloseQueue, Watch}
@@ -17,6 +17,7 @@ use Rattle.krs_model.specs.Step.{Step}
 use Rattle.krs_model.specs.History.{IsLegal}
 use Rattle.krs_model.specs.Receiving.{called_for}
 use Rattle.krs_model.specs.Revocation.{Names}
+use Rattle.krs_laws.specs.Belonging.{BeganEmpty}
 use Rattle.krs_laws.specs.Integrity.{HasRight}
 
 -- the queue of this number is there, and it is the client's
@@ -78,3 +79,24 @@ AllNotesAreCalledFor start =
     (before : List Event) (old : State) → IsLegal start before old
     → (event : Event) (new : State) → Step old event new
     → (number : ℕ) → AllByRecursion (IsCalledFor old.watches number) (called_for number old event new)
+
+-- one of these events from this state set the watch, by right
+abbrev pub WasSet : State → List Event → queues.Watch → Type 0
+WasSet start events w =
+    (before : List Event) × (event : Event) × (later : List Event) × (events ≡ before ++ event ∷ later)
+    × (old : State) × IsLegal start before old
+    × IsSetBy (raised old event.moment) event.lane event.ask.context event.ask.op w
+
+-- one of these events set the watch that the record of this queue is of
+abbrev pub IsToldByRight : State → List Event → ℕ → Record → Type 0
+IsToldByRight start events number (Key event id key aux) = WasSet start events ((key, number), id)
+IsToldByRight start events number (Removal id key) = WasSet start events ((key, number), id)
+IsToldByRight start events number Loss = ⊥
+
+-- In each history of a store that began empty, each record that is posted to a queue is of a watch that was set in it, by
+-- right: in a context that had VIEW on the key then, of the client whose queue it was
+abbrev pub AllNotesAreByRight : State → Type 0
+AllNotesAreByRight start =
+    BeganEmpty start → (before : List Event) (old : State) → IsLegal start before old
+    → (event : Event) (new : State) → Step old event new
+    → (number : ℕ) → AllByRecursion (IsToldByRight start before number) (called_for number old event new)

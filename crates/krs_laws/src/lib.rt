@@ -14,7 +14,7 @@ pub use expired::expired_keys_stay_unread;
 pub use integrity::each_change_is_by_right;
 pub use limits::limits_hold_in_every_history;
 pub use noting::{
-    queues_are_their_clients, queues_are_their_owners, records_are_called_for_by_watches,
-    watches_are_set_by_right,
+    notes_are_by_right, queues_are_their_clients, queues_are_their_owners,
+    records_are_called_for_by_watches, watches_are_set_by_right,
 };
 pub use overwritten::{adds_forget_what_they_overwrite, updates_forget_what_they_overwrite};

@@ -3,6 +3,7 @@ ghost use Rattle.krs_model.specs.State.{State};
 ghost use Rattle.krs_model.specs.Sound.{IsSound};
 ghost use Rattle.krs_laws.specs.Belonging.{QueuesAreTheirClients};
 ghost use Rattle.krs_laws.specs.Noting.{QueuesAreTheirOwners, AllWatchesAreByRight, AllNotesAreCalledFor};
+ghost use Rattle.krs_laws.specs.Noting.{AllNotesAreByRight};
 
 /// A queue is read, given a filter, closed and set to watch by its owner alone.
 pub fn queues_are_their_owners()
@@ -23,4 +24,10 @@ pub fn watches_are_set_by_right()
 /// as the ask came.
 pub fn records_are_called_for_by_watches()
     ensures { (start : State) → IsSound start → AllNotesAreCalledFor start }
+{}
+
+/// In each history of a store that began empty, each record that is posted to a queue is of a watch that was set in it:
+/// in a context that had VIEW on the key then, by the client whose queue it was.
+pub fn notes_are_by_right()
+    ensures { (start : State) → AllNotesAreByRight start }
 {}

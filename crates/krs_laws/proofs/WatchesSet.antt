@@ -1,0 +1,91 @@
+-- Each watch was set by right in a history that began empty.
+use Rattle.std.proofs.Common.{◌≡◌, ℕ, List, [], ◌∷◌, ◌++◌, refl, ap, ◌∙◌, sym, subst, ◌⊎◌, ⊎_elim, append_assoc}
+use Rattle.std.specs.List.{AllByRecursion}
+use Rattle.std.proofs.lemmas.List.{append-nil}
+use Rattle.krs_types.specs.declared.note.Record.{Record}
+use Rattle.krs_types.specs.declared.note.Record.TheVariants.{Key, Removal, Loss}
+use Rattle.krs_types.specs.declared.event.Event.{Event}
+use Rattle.krs_model.specs.State.{State, raised}
+use Rattle.krs_model.specs.Queues.{Watch}
+use Rattle.krs_model.specs.Orderly.{Each}
+use Rattle.krs_model.specs.Sound.{IsSound}
+use Rattle.krs_model.specs.Step.{Step}
+use Rattle.krs_model.specs.History.{IsLegal}
+use Rattle.krs_model.specs.Receiving.{called_for}
+use Rattle.krs_model.proofs.History.Legal.{legal_none, legal_more}
+use Rattle.krs_model.proofs.Notes.Fitting.{each_on}
+use Rattle.krs_model.proofs.Sound.Steps.{start_sound}
+use Rattle.krs_laws.specs.Noting.{IsWatched, IsSetBy, IsCalledFor, WasSet, IsToldByRight, AllNotesAreByRight}
+use Rattle.krs_laws.proofs.Callers.{all_called}
+use Rattle.krs_laws.proofs.Watchers.{step_set}
+
+-- what holds of each watch holds of one of them
+of_watched : (P : Watch → Type 0) (ws : List Watch) (w : Watch) → Each P ws → IsWatched w ws → P w
+of_watched P [] w each is = absurd is
+of_watched P (v ∷ ws) w each is =
+    ⊎_elim (λ (same : v ≡ w). subst P same each.0) (λ later. of_watched P ws w each.1 later) is
+
+set_more : (start : State) (past : List Event) (event : Event) (w : Watch) → WasSet start past w
+    → WasSet start (past ++ event ∷ []) w
+set_more start past event w h = (
+  h.0,
+  h.1,
+  h.2 ++ event ∷ [],
+  ap (λ (l : List Event). l ++ event ∷ []) h.3 ∙ append_assoc h.0 (h.1 ∷ h.2) (event ∷ []),
+  h.4,
+  h.5,
+  h.6,
+)
+
+set_on :
+    (start old new : State) (past : List Event) (event : Event) → IsLegal start past old
+    → Each (WasSet start past) old.watches → Step old event new → Each (WasSet start (past ++ event ∷ [])) new.watches
+set_on start old new past event legal known step =
+    let up = raised old event.moment in
+    each_on (λ w. IsWatched w old.watches ⊎ IsSetBy up event.lane event.ask.context event.ask.op w)
+    (WasSet start (past ++ event ∷ [])) new.watches
+    (λ w h. ⊎_elim
+    (λ (was : IsWatched w old.watches).
+    set_more start past event w (of_watched (WasSet start past) old.watches w known was))
+    (λ (set : IsSetBy up event.lane event.ask.context event.ask.op w). (past, event, [], refl, old, legal, set)) h)
+    (step_set old new event step)
+
+legal_set :
+    (start s end : State) (past events : List Event) → IsLegal start past s → Each (WasSet start past) s.watches
+    → IsLegal s events end → Each (WasSet start (past ++ events)) end.watches
+unfolding IsLegal
+legal_set start s end past [] before known legal =
+    subst (λ (l : List Event). Each (WasSet start l) end.watches) (sym (append-nil past))
+    (subst (λ (t : State). Each (WasSet start past) t.watches) legal known)
+legal_set start s end past (event ∷ events) before known legal =
+    subst (λ (l : List Event). Each (WasSet start l) end.watches) (append_assoc past (event ∷ []) events)
+    (legal_set start legal.0 end (past ++ event ∷ []) events (legal_more start s legal.0 past event before legal.1)
+    (set_on start s legal.0 past event before known legal.1) legal.2)
+
+-- ---- records
+
+told_by_set :
+    (start old : State) (before : List Event) (number : ℕ) (note : Record) → Each (WasSet start before) old.watches
+    → IsCalledFor old.watches number note → IsToldByRight start before number note
+told_by_set start old before number (Key event id key aux) each is =
+    of_watched (WasSet start before) old.watches ((key, number), id) each is
+told_by_set start old before number (Removal id key) each is =
+    of_watched (WasSet start before) old.watches ((key, number), id) each is
+told_by_set start old before number Loss each is = is
+
+all_told :
+    (start old : State) (before : List Event) (number : ℕ) (notes : List Record)
+    → Each (WasSet start before) old.watches → AllByRecursion (IsCalledFor old.watches number) notes
+    → AllByRecursion (IsToldByRight start before number) notes
+all_told start old before number [] each all = tt
+all_told start old before number (note ∷ notes) each all =
+    (told_by_set start old before number note each all.0, all_told start old before number notes each all.1)
+
+pub all_by_right : (start : State) → AllNotesAreByRight start
+all_by_right start empty before old legal event new step number =
+    let sound = subst IsSound (sym empty.1) (start_sound empty.0) in
+    let none : Each (WasSet start []) start.watches =
+    subst (λ (t : State). Each (WasSet start []) t.watches) (sym empty.1) tt in
+    all_told start old before number (called_for number old event new)
+    (legal_set start start old [] before (legal_none start) none legal)
+    (all_called start sound before old legal event new step number)
