@@ -124,8 +124,8 @@ pub(crate) fn guest_of<'d, N: AtDesk>(
 }
 
 /// Serves a connection to its end, which closes it: docs/FORMAT.md, "A connection". Its asks are those of the bytes that
-/// it sent, and what was written to it is the text of their replies. The seat has gained these calls, and one LEAVE. A
-/// connection makes 16777216 reads at most.
+/// it sent, and what was written to it is the text of their replies. The seat has gained these calls, and one LEAVE, and
+/// keeps no turn. A connection makes 16777216 reads at most.
 pub fn serve_connection<'d, N: AtDesk, H: Wait, R: Source + Drop, W: Sink + Drop, C: Clock + Drop>(
     rt: &H,
     alloc: Global,
@@ -137,6 +137,7 @@ pub fn serve_connection<'d, N: AtDesk, H: Wait, R: Source + Drop, W: Sink + Drop
         (entry guest.entry.reader guest.entry.writer clock) guest.entry.sitting.seat result.seat ended }
     ensures gains { (frames : List Framed) × (calls : List Event)
         × GainsSession guest.entry.sitting.seat frames calls result.seat }
+    ensures rested { result.seat.kept ≡ 0 }
 {
     let Guest {
         sitting,

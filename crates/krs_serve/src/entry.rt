@@ -38,6 +38,7 @@ pub fn serve_entry<
     ensures session { ServesEntry R.Source C.Clock W.Sink D.leads D.lane_of turns connection seat result.0 result.1 }
     ensures ready { D.ready desk.now result.0 }
     ensures lane { D.lane_of result.0 ≡ D.lane_of seat }
+    ensures rested { D.rested result.0 }
 {
     let Entry {
         mut reader,

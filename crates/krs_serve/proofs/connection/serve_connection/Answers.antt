@@ -27,3 +27,6 @@ sitting_of-requires-clause-empty g c =
     c.args.guest.reader e.last.reader c.args.guest.writer e.last.writer c.args.clock e.last.clock _ _
     c.serve_entry-seat.result.1 e.session in
     gained.gains.opening ∙ c.args.guest.sitting.empty
+
+pub returns-clause-rested : goal.returns-clause-rested
+returns-clause-rested g c = rw c.sitting_of.ensures.seat c.serve_entry-seat.ensures.rested
