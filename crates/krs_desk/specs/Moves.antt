@@ -2,6 +2,9 @@
 -- at which a call is found posted and nothing else is known by it. So what a lane knows of its turns is what they say of
 -- it: how often it took the turn, the history that it took it with, how often it found the turn taken, and which cells
 -- it looked at. The form is this project's own.
+-- The words of a step are those of atomic_table: `word` is the number of the word that it is made on. A store writes
+-- `first`; any other step writes `second` where it finds `first`, and else changes nothing. `found` is what was there:
+-- Some of that number, and None at a store, which doesn't look.
 use Rattle.std.specs.Prelude.{◌≡◌, ◌≢◌, ℕ, ◌==◌, ◌&&◌, Bool, List, [], ◌∷◌, ◌++◌, Option, Some, None}
 use Rattle.atomic_table.specs.Seated.{TableId}
 use Rattle.atomic_table.specs.Table.{Step}

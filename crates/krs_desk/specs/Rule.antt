@@ -1,4 +1,7 @@
 -- The rule of the table: the one history, read on its words, its slots and the views. The form is this project's own.
+-- Words, slots and views are those of atomic_table. A word is a number that changes in single steps. A slot is a place
+-- for one value: `homes` has `some (some v)` where the value v lies in it, `some none` while a seat has it, and `none`
+-- where there is no such slot. Word 0 is the turn, and slot 0 the store's. Those of a lane are at `cell_of lane`.
 use Rattle.std.specs.Prelude.{◌≡◌, ℕ, ◌<◌, false, List, Option, Some, None, length, slice_index}
 use mathlib.Core.Option.{none, some}
 use mathlib.Core.Option as maybe

@@ -179,6 +179,8 @@ SeesOneOrder opening =
 -- Real-time order. At a moment some token had seen a list, the reply to some call in it, and the call of a lane wasn't
 -- answered, as where it wasn't asked yet: however much happened since, once the lane has its reply, its call stands
 -- behind all of that list, in the history and in what its own token has seen, whether or not the two ever met.
+-- Of two calls: once the first has its reply, its token has seen it, so it is in `front`. While the second isn't asked,
+-- its lane has none in flight; it is `e`, the next of that lane's calls. So it stands behind the first.
 abbrev pub KeepsRealTime : State → Type 0
 KeepsRealTime opening =
     (s end : Board) (more : List Board) (front : List Event) (q q' : Part) (e : Event) (rest : List Event)

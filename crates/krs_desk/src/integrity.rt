@@ -1,11 +1,13 @@
 //! Who changes what in a desk, whose its contexts and queues are, and what it never holds more of.
-ghost use Rattle.krs_laws.specs.Belonging.{LeavesNothing, ContextsAreTheirClients, ReadersHaveNamedThemselves};
-ghost use Rattle.krs_laws.specs.Emptied.{AreEmptiedInTheEnd};
+ghost use Rattle.krs_laws.specs.Belonging.{LeavesNothing, ContextsAreTheirClients, QueuesAreTheirClients};
+ghost use Rattle.krs_laws.specs.Belonging.{ReadersHaveNamedThemselves};
+ghost use Rattle.krs_laws.specs.Emptied.{AreEmptiedInTheEnd, AreEmptiedByLeaving};
 ghost use Rattle.krs_laws.specs.Expired.{ExpiredStaysUnread};
 ghost use Rattle.krs_laws.specs.Integrity.{AllChangesAreByRight};
 ghost use Rattle.krs_laws.specs.Limits.{IsWithinLimits, StaysWithinLimits};
-ghost use Rattle.krs_laws.specs.Noting.{QueuesAreTheirOwners, AllWatchesAreByRight};
-ghost use Rattle.krs_laws.specs.Overwritten.{UpdatesForget};
+ghost use Rattle.krs_laws.specs.Noting.{QueuesAreTheirOwners, AllWatchesAreByRight, AllNotesAreCalledFor};
+ghost use Rattle.krs_laws.specs.Noting.{AllNotesAreByRight};
+ghost use Rattle.krs_laws.specs.Overwritten.{UpdatesForget, AddsForget};
 
 use crate::seat::Seat;
 
@@ -20,39 +22,46 @@ impl Seat {
     }
 
     /// Once a client has left, no context and no queue is its. In every history of a desk that was opened empty, each
-    /// context acts as a caller that its own client has named, since it last left; and whoever reads a key that a uid
-    /// has to itself has named itself as that uid.
+    /// context acts as a caller that its own client has named, since it last left, and each queue is of the client that
+    /// opened it, since it last left. Whoever reads a key that a uid has to itself has named itself as that uid.
     pub fn contexts_are_their_clients(&self)
         ensures left { LeavesNothing }
         ensures contexts { ContextsAreTheirClients self.now.opening }
+        ensures queues { QueuesAreTheirClients self.now.opening }
         ensures readers { ReadersHaveNamedThemselves self.now.opening }
     {
         let _token = &self.token;
     }
 
     /// A queue is read, given a filter, closed and set to watch by its owner alone, and each watch was set in a context
-    /// that had VIEW on the key then. core-api/watch_queue.rst.
+    /// that had VIEW on the key then. Each record that is posted tells of the key of a watch at that queue, and has its
+    /// id; so in every history of a desk that was opened empty that watch was set by right. core-api/watch_queue.rst.
     pub fn notes_are_by_right(&self)
         ensures owners { QueuesAreTheirOwners }
         ensures watches { AllWatchesAreByRight self.now.opening }
+        ensures records { AllNotesAreCalledFor self.now.opening }
+        ensures set { AllNotesAreByRight self.now.opening }
     {
         let _token = &self.token;
     }
 
-    /// What an accepted UPDATE overwrote leaves no trace in the store or in later replies; and in every history of the
-    /// desk no READ of a key is accepted once its time is over. keyctl(2), KEYCTL_UPDATE and KEYCTL_SET_TIMEOUT.
+    /// What an accepted UPDATE or ADD overwrote leaves no trace in the store or in later replies; and in every history
+    /// of the desk no READ of a key is accepted once its time is over. keyctl(2), KEYCTL_UPDATE and
+    /// KEYCTL_SET_TIMEOUT; add_key(2).
     pub fn old_payloads_stay_untold(&self)
         ensures overwritten { UpdatesForget }
+        ensures added { AddsForget }
         ensures expired { ExpiredStaysUnread self.now.opening }
     {
         let _token = &self.token;
     }
 
     /// In every history of a desk that was opened within the limits, it stays within them; and once no client has a
-    /// context or a queue, no key is left.
+    /// context or a queue, no key is left. So it is of a desk that was opened empty, once each client has left.
     pub fn limits_hold_in_every_history(&self)
         ensures limits { IsWithinLimits self.now.opening → StaysWithinLimits self.now.opening }
         ensures emptied { AreEmptiedInTheEnd self.now.opening }
+        ensures left { AreEmptiedByLeaving self.now.opening }
     {
         let _token = &self.token;
     }

@@ -2,6 +2,7 @@ use Rattle.std.proofs.Common.{subst}
 use Rattle.krs_laws.specs.Emptied.{AreEmptiedInTheEnd}
 use Rattle.krs_laws.specs.Limits.{IsWithinLimits, StaysWithinLimits}
 use Rattle.krs_laws.proofs.Leftovers.{emptied}
+use Rattle.krs_laws.proofs.Opened.{emptied_by_leaving}
 use Rattle.krs_laws.proofs.WithinLimits.{stays_within}
 use Rattle.krs_desk.specs.Sitting.{Sitting}
 use Rattle.krs_desk.proofs.KeptTurns.{knows}
@@ -16,3 +17,6 @@ pub returns-clause-emptied : goal.returns-clause-emptied
 returns-clause-emptied c =
     subst (λ (s : Sitting). AreEmptiedInTheEnd s.opening) c.self.view_is
     (emptied _ (knows _ _ _ _ c.self.invariant.0).sound)
+
+pub returns-clause-left : goal.returns-clause-left
+returns-clause-left c = emptied_by_leaving _

@@ -1,6 +1,8 @@
 use Rattle.std.proofs.Common.{subst}
-use Rattle.krs_laws.specs.Noting.{AllWatchesAreByRight}
+use Rattle.krs_laws.specs.Noting.{AllWatchesAreByRight, AllNotesAreCalledFor}
+use Rattle.krs_laws.proofs.Callers.{all_called}
 use Rattle.krs_laws.proofs.Watchers.{owners_ask, all_set}
+use Rattle.krs_laws.proofs.WatchesSet.{all_by_right}
 use Rattle.krs_desk.specs.Sitting.{Sitting}
 use Rattle.krs_desk.proofs.KeptTurns.{knows}
 use Rattle.krs_desk.proofs.seat.Seat.notes_are_by_right.Goals as goal
@@ -12,3 +14,11 @@ pub returns-clause-watches : goal.returns-clause-watches
 returns-clause-watches c =
     subst (λ (s : Sitting). AllWatchesAreByRight s.opening) c.self.view_is
     (all_set _ (knows _ _ _ _ c.self.invariant.0).sound)
+
+pub returns-clause-records : goal.returns-clause-records
+returns-clause-records c =
+    subst (λ (s : Sitting). AllNotesAreCalledFor s.opening) c.self.view_is
+    (all_called _ (knows _ _ _ _ c.self.invariant.0).sound)
+
+pub returns-clause-set : goal.returns-clause-set
+returns-clause-set c = all_by_right _

@@ -1,5 +1,6 @@
 use Rattle.std.proofs.Common.{subst}
 use Rattle.krs_laws.specs.Expired.{ExpiredStaysUnread}
+use Rattle.krs_laws.proofs.AddedOver.{adds_forget}
 use Rattle.krs_laws.proofs.Expiry.{expired_unread}
 use Rattle.krs_laws.proofs.Overwriting.{updates_forget}
 use Rattle.krs_desk.specs.Sitting.{Sitting}
@@ -8,6 +9,9 @@ use Rattle.krs_desk.proofs.seat.Seat.old_payloads_stay_untold.Goals as goal
 
 pub returns-clause-overwritten : goal.returns-clause-overwritten
 returns-clause-overwritten c = updates_forget
+
+pub returns-clause-added : goal.returns-clause-added
+returns-clause-added c = adds_forget
 
 pub returns-clause-expired : goal.returns-clause-expired
 returns-clause-expired c =
