@@ -77,16 +77,21 @@ static bool tell(const struct session *session, struct admission_session *told) 
     return true;
 }
 
+/* One that ends meanwhile can't be looked at, but then another is the parent. */
+enum { LOOKS = 3 };
+
 /* What a runtime has begun for all of a container is above all in it. */
-static struct session *session_above(pid_t parent) {
-    const struct process *above = find_above(parent);
+static struct session *session_above(pid_t id, bool *is_known) {
+    const struct process *above = find_above(id, is_known);
+    for (int i = 1; i < LOOKS && !*is_known; i++) above = find_above(id, is_known);
     return above ? above->first->session : is_in_container ? sessions_first() : NULL;
 }
 
-struct admitted admission_admit(const struct task *task, pid_t parent, const struct admission_process *process) {
+struct admitted admission_admit(const struct task *task, const struct admission_process *process) {
     struct admission_arrival arrival;
-    struct session *tagged, *above = session_above(parent);
+    struct session *tagged, *above;
     memset(&arrival, 0, sizeof arrival);
+    above = session_above(task->process->id, &arrival.knows_above);
     arrival.process = *process;
     arrival.has_limit = proc_read_locks(task->process->id, &arrival.soft);
     tagged = arrival.has_limit ? session_of_tag(arrival.soft) : NULL;

@@ -23,7 +23,7 @@ bool admission_has_ids(const struct proc_status *status);
 void admission_put_first(struct kr_identity *identity);
 
 /* In which session a thread asks that is run so. */
-struct admitted admission_admit(const struct task *task, pid_t parent, const struct admission_process *process);
+struct admitted admission_admit(const struct task *task, const struct admission_process *process);
 
 /* Whether a process keeps a session from its end whose tag it has; whether an entry that has nothing to lose may be
  * given up. */

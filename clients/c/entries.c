@@ -119,9 +119,11 @@ struct task *find_task(const struct process *process, pid_t thread) {
     return NULL;
 }
 
-struct process *find_above(pid_t parent) {
+struct process *find_above(pid_t id, bool *is_known) {
     struct process *above = NULL;
+    pid_t parent = proc_parent(id);
     for (; !above && parent > 1 && parent != getpid(); parent = proc_parent(parent)) above = find_process(parent);
+    *is_known = above || parent >= 0;
     return above;
 }
 

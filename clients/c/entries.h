@@ -95,9 +95,10 @@ struct task *add_task(struct process *process, pid_t thread, int descriptor);
 struct process *find_process(pid_t id);
 struct task *find_task(const struct process *process, pid_t thread);
 
-/* The nearest above that is known, or NULL. It may not be by its fork that a process is there: what ends leaves its
- * children to another, and clone(2) gives some to the caller's parent. */
-struct process *find_above(pid_t parent);
+/* The nearest above a process that has an entry, or NULL, and whether all up to that one or the first could be looked
+ * at. It may not be by its fork that a process is there: what ends leaves its children to another, and clone(2) gives
+ * some to the caller's parent. */
+struct process *find_above(pid_t id, bool *is_known);
 
 /* It asks: it is the last that is given up. */
 void process_asks(struct process *process);

@@ -42,6 +42,7 @@ struct admission_arrival {
     uint64_t soft;                   /* its limit RLIMIT_LOCKS */
     bool has_limit;                  /* it could be read */
     bool has_held, has_tagged, has_above;
+    bool knows_above; /* each process above could be looked at, up to that one or to the first */
 };
 
 /* The parent of a process that gives it its session. */

@@ -67,15 +67,14 @@ static bool read_groups(const char *text, struct proc_status *status) {
 /* The last two stand behind the groups, of which there may be more than there is room for. */
 bool proc_read_status(pid_t thread, struct proc_status *status) {
     char text[4096];
-    unsigned process, parent;
+    unsigned process;
     memset(status, 0, sizeof *status);
     if (!read_file(proc_open_file(thread, "status", O_RDONLY), text, sizeof text, &status->owner) ||
-        !read_number(text, "\nTgid:", &process) || !read_number(text, "\nPPid:", &parent) ||
+        !read_number(text, "\nTgid:", &process) ||
         !read_ids(text, "\nUid:", &status->uids) || !read_ids(text, "\nGid:", &status->gids) ||
         !read_groups(text, status))
         return false;
     status->process = (pid_t)process;
-    status->parent = (pid_t)parent;
     if (!read_number(text, "\nThreads:", &status->threads) || !read_number(text, "\nSeccomp:", &status->seccomp))
         status->threads = status->seccomp = 0;
     return true;
@@ -105,7 +104,7 @@ static bool read_stat(pid_t process, pid_t *parent, unsigned *flags) {
 pid_t proc_parent(pid_t process) {
     pid_t parent;
     unsigned flags;
-    return read_stat(process, &parent, &flags) ? parent : 0;
+    return read_stat(process, &parent, &flags) ? parent : -1;
 }
 
 bool proc_has_only_forked(pid_t process) {

@@ -11,7 +11,7 @@
 #endif
 
 struct proc_status {
-    pid_t process, parent;
+    pid_t process;
     unsigned threads, seccomp;
     struct admission_ids uids, gids;
     uint32_t owner; /* of its files in /proc: root, unless its user may look into it */
@@ -31,7 +31,7 @@ bool proc_read(pid_t id, const char *name, char *text, size_t room);
 /* False where there is no such thread, or it may not be looked at. */
 bool proc_read_status(pid_t thread, struct proc_status *status);
 
-/* 0 where it isn't known. */
+/* 0 where it is outside of this PID namespace, -1 where it can't be looked at. */
 pid_t proc_parent(pid_t process);
 
 /* Whether a process was forked and has executed nothing since. */

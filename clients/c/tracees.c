@@ -118,7 +118,7 @@ static struct task *seated(struct task *task) { return task->process->has_thread
 /* What is read by number is the notified thread's where the notification still waits afterwards. What it has begun for
  * another user, as a login does, is what its children look for: it goes on to hold that. */
 static struct seat *have_new_seat(struct task *task, struct user *user) {
-    struct admitted admitted = admission_admit(task, all.status.parent, &all.asker.process);
+    struct admitted admitted = admission_admit(task, &all.asker.process);
     if (!all.is_valid()) return fail_as(ENOSYS), NULL;
     admitted.is_lost |= !admitted.session && all.asker.is_elsewhere; /* its user-session keyring is another */
     session_use(admitted.session); /* what is given up to make room isn't this one */

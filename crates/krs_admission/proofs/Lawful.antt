@@ -143,18 +143,21 @@ given p uids gids s e =
     && (not p.has_held || is_of p.process p.held))) e)
 
 chosen_above : (a : Arrival) (its may limit : Bool) → Is a.process a.process.uids.real
-    → (a.has_above && is_of a.process a.above) ≡ its → may_enter a.process a.above ≡ may → a.has_limit ≡ limit
+    → (a.has_above && is_of a.process a.above) ≡ its → may_enter a.process a.above ≡ may
+    → (a.has_limit && a.knows_above) ≡ limit
     → IsLawful a (cond its (cond may Above Lost) (cond limit UserSession Lost))
 chosen_above a true true limit u i m l =
     let two = entered a.process a.above m in (left_true a.has_above (is_of a.process a.above) i, two.0, two.1)
 chosen_above a true false limit u i m l = tt
-chosen_above a false may true u i m l = (u, l)
+chosen_above a false may true u i m l =
+    let two = both_true a.has_limit a.knows_above l in (u, two.0, two.1)
 chosen_above a false may false u i m l = tt
 
 lawful_above : (a : Arrival) → Is a.process a.process.uids.real → IsLawful a (place_above a)
 unfolding place_above
 lawful_above a u =
-    chosen_above a (a.has_above && is_of a.process a.above) (may_enter a.process a.above) a.has_limit u refl refl refl
+    chosen_above a (a.has_above && is_of a.process a.above) (may_enter a.process a.above)
+    (a.has_limit && a.knows_above) u refl refl refl
 
 has_the_tag : (a : Arrival) → not (a.has_tagged && has_tag_of a a.tagged) ≡ false → a.tagged.tag ≡ a.soft
 has_the_tag a e =

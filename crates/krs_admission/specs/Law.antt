@@ -36,7 +36,7 @@ IsShared s =
 -- it has that which it holds, or its tag says, or the nearest process above has; else its uid's user-session keyring
 abbrev pub IsLawful : Arrival → Place → Type 0
 IsLawful a Lost = Unit {0}
-IsLawful a UserSession = Is a.process a.process.uids.real × (a.has_limit ≡ true)
+IsLawful a UserSession = Is a.process a.process.uids.real × (a.has_limit ≡ true) × (a.knows_above ≡ true)
 IsLawful a Held = (a.has_held ≡ true) × MayHave a.process a.held
 IsLawful a Tagged = (a.tagged.tag ≡ a.soft) × MayHave a.process a.tagged × IsShared a.tagged
 IsLawful a Above = (a.has_above ≡ true) × MayHave a.process a.above × IsShared a.above

@@ -57,7 +57,7 @@ has_tag_of a s = a.has_limit && (is_tag a.soft && s.tag == a.soft)
 unfoldable pub place_above : Arrival → Place
 place_above a =
     if a.has_above && is_of a.process a.above then (if may_enter a.process a.above then Above else Lost)
-    else if a.has_limit then UserSession else Lost
+    else if a.has_limit && a.knows_above then UserSession else Lost
 
 -- the session of the tag, where that is its own uid's; one that no session has any more is that of an ended one
 unfoldable pub place_tagged : Arrival → Place

@@ -66,7 +66,7 @@ fn has_tag_of(arrival: &Arrival, session: &Session) -> bool
 }
 
 /// The session of the nearest process above, where that is its own uid's; else that uid's user-session keyring, where
-/// its tag could be read.
+/// its tag could be read, and whether one is above.
 #[tactic(auto, unfolding(crate::specs::Rule::place_above))]
 fn place_above(arrival: &Arrival) -> Place
     ensures { result ≡ place_above arrival.now }
@@ -77,7 +77,7 @@ fn place_above(arrival: &Arrival) -> Place
         } else {
             Place::Lost
         }
-    } else if arrival.has_limit {
+    } else if arrival.has_limit && arrival.knows_above {
         Place::UserSession
     } else {
         Place::Lost

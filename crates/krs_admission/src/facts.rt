@@ -60,4 +60,6 @@ pub struct Arrival {
     pub has_held: bool,
     pub has_tagged: bool,
     pub has_above: bool,
+    /// Each process above could be looked at, up to that one or to the first.
+    pub knows_above: bool,
 }
