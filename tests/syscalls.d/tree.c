@@ -1074,6 +1074,29 @@ static int be_untraceable(void) {
     return puts(joined > 0 && take().value != joined ? "kept out" : "let in") < 0;
 }
 
+static void ask_without_tag(void) {
+    const struct rlimit none = { 0, 0 };
+    if (setrlimit(RLIMIT_LOCKS, &none) < 0 || prctl(PR_SET_DUMPABLE, 1, 0, 0, 0) < 0) _exit(2);
+    give(ring_of(KEY_SPEC_SESSION_KEYRING, 0));
+    _exit(0);
+}
+
+/* A process whose parent isn't dumpable and never asks has no tag, and asks for its session, which is the caller's. */
+static int ask_below_hidden(void) {
+    long own = ring_of(KEY_SPEC_SESSION_KEYRING, 0);
+    begin();
+    if (fork() == 0) {
+        if (prctl(PR_SET_DUMPABLE, 0, 0, 0, 0) < 0) _exit(2);
+        if (fork() == 0) ask_without_tag();
+        wait_at_gate();
+        _exit(0);
+    }
+    struct answer answer = take();
+    close(gates[1]);
+    const char *said = answer.value == own ? "the same" : answer.value > 0 ? "another" : NULL;
+    return puts(said ? said : (errno = answer.error, error_name())) < 0;
+}
+
 /* A program joins a session of this name, and another of the same user, in its own, links that. */
 static int link_session(const char *name) {
     begin();
@@ -1222,6 +1245,7 @@ int main(int count, char **words) {
     if (strcmp(mode, "joined-deputy") == 0 && count == 3) return have_joined_deputy(words[2]);
     if (strcmp(mode, "acts") == 0 && count == 3) return act(many);
     if (strcmp(mode, "untraceable") == 0) return be_untraceable();
+    if (strcmp(mode, "below-hidden") == 0) return ask_below_hidden();
     if (strcmp(mode, "links") == 0) return link_session(count > 2 ? words[2] : NULL);
     if (strcmp(mode, "others") == 0 && count == 4) return be_others(many, strcmp(words[3], "all") == 0);
     if (strcmp(mode, "idle") == 0 && count == 5) return join_beside(many, words[3], words[4]);

@@ -109,6 +109,23 @@ try_deputies() {
   end_room
 }
 
+# Where /proc hides what a user may not trace, the supervisor of that user can't look at all above a process.
+try_hidden() {
+  local hides said
+  for hides in 0 2; do
+    if [ "$(id -u)" != 0 ] || ! unshare -m mount -t proc -o "hidepid=$hides" proc /proc 2>/dev/null; then
+      skipped 'processes that /proc hides: not root, or no mount namespace'
+      return
+    fi
+    chmod 666 "$path"
+    said=$(timeout "$limit" unshare -m sh -c 'mount -t proc -o "$0" proc /proc &&
+      exec setpriv --reuid=65534 --regid=65534 --clear-groups "$@"' "hidepid=$hides" \
+      "$dir/$built/keyretain-session" --syscalls -- "$dir/tree" below-hidden 2>&1)
+    is "$built: below a process that /proc hides, with hidepid=$hides" \
+      "$([ "$hides" = 0 ] && echo 'the same' || echo EKEYREVOKED)" "$said"
+  done
+}
+
 # ---- Nothing is used up
 
 # So many contexts and connections as a supervisor holds when all that asked have gone.
@@ -183,6 +200,7 @@ try_named() {
 try_users() {
   try_logins
   try_deputies
+  try_hidden
   try_given_up
   try_cheap_join
   try_named
