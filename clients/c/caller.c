@@ -21,21 +21,14 @@ int64_t caller_limit(int64_t until) {
 
 /* EAGAIN is of a process that can't be made for a keeper. */
 static int set_no_daemon(void) {
-    switch (errno) {
-    case ENOMEM:
-    case EAGAIN:
-    case EMFILE:
-    case ENFILE:
-    case EACCES:
-    case ETIMEDOUT: return -1;
-    default: return fail_as(ENOSYS);
-    }
+    bool is_lacking = errno == ENOMEM || errno == EAGAIN || errno == EMFILE || errno == ENFILE;
+    return is_lacking || errno == EACCES || errno == ETIMEDOUT ? -1 : fail_as(ENOSYS);
 }
 
 static struct daemon daemon_of(const struct kr *connection) {
     struct stat status;
-    if (connection->peer.pid != 0 || stat(connection->address.sun_path, &status) < 0)
-        return (struct daemon){ .process = connection->peer.pid };
+    if (connection->peer_pid != 0 || stat(connection->address.sun_path, &status) < 0)
+        return (struct daemon){ .process = connection->peer_pid };
     return (struct daemon){ .device = (int64_t)status.st_dev, .inode = (int64_t)status.st_ino,
                             .made = status.st_mtim.tv_sec, .and_nanoseconds = status.st_mtim.tv_nsec };
 }

@@ -88,7 +88,9 @@ struct kr {
     enum kr_place place;
     bool trusts_anybody;
     uid_t user; /* whose secrets it is told: who listens is trusted by this user */
-    struct ucred peer;
+    uid_t peer_uid;
+    gid_t peer_gid;
+    pid_t peer_pid;
     bool broken, interruptible;
     bool was_seen; /* it was looked at for the next ask: see kr_is_ours */
     bool has_name; /* of kr_take_name */

@@ -43,7 +43,7 @@ static void close_line(struct line *line) {
 static struct line *open_line(int milliseconds) {
     struct kr *connection = kr_open_with(all.where.path, 0, milliseconds);
     struct line *line = connection ? calloc(1, sizeof *line) : NULL;
-    if (!line || (all.lines && connection->peer.pid != contexts_daemon()))
+    if (!line || (all.lines && connection->peer_pid != contexts_daemon()))
         return kr_close(connection), forgotten(line);
     kr_set_deadline(connection, kr_now() + milliseconds);
     all.beginnings += !all.lines;
@@ -81,7 +81,7 @@ int contexts_begin_call(void) {
 
 int32_t contexts_daemon(void) {
     for (const struct line *line = all.lines; line; line = line->next)
-        if (!kr_is_broken(line->connection)) return line->connection->peer.pid;
+        if (!kr_is_broken(line->connection)) return line->connection->peer_pid;
     return -1;
 }
 

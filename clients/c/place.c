@@ -61,10 +61,6 @@ static bool is_system_daemon(uid_t peer) {
 }
 
 bool kr_is_trusted(enum kr_place place, uid_t user, uid_t peer) {
-    bool is_own = peer == user;
-    switch (place) {
-    case KR_OWN: return is_own;
-    case KR_SYSTEM: return is_system_daemon(peer);
-    default: return is_own || is_system_daemon(peer);
-    }
+    bool is_own = peer == user && place != KR_SYSTEM;
+    return is_own || (place != KR_OWN && is_system_daemon(peer));
 }

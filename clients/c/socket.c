@@ -143,13 +143,17 @@ static int connect_in_time(struct kr *connection) {
  * since, and would trust its own daemon. */
 static bool may_be_told(const struct kr *connection) {
     if (connection->place == KR_NAMED && connection->trusts_anybody) return true;
-    return kr_is_trusted(connection->place, connection->user, connection->peer.uid);
+    return kr_is_trusted(connection->place, connection->user, connection->peer_uid);
 }
 
 /* Who listens: not who owns a path, which may be turned. */
 static int check_peer(struct kr *connection) {
-    socklen_t length = sizeof connection->peer;
-    if (getsockopt(connection->socket.descriptor, SOL_SOCKET, SO_PEERCRED, &connection->peer, &length) < 0) return -1;
+    struct ucred peer;
+    socklen_t length = sizeof peer;
+    if (getsockopt(connection->socket.descriptor, SOL_SOCKET, SO_PEERCRED, &peer, &length) < 0) return -1;
+    connection->peer_uid = peer.uid;
+    connection->peer_gid = peer.gid;
+    connection->peer_pid = peer.pid;
     return may_be_told(connection) ? 0 : fail_as(EACCES);
 }
 
@@ -216,9 +220,9 @@ int kr_descriptor(const struct kr *connection) {
 }
 
 void kr_peer(const struct kr *connection, uint32_t *uid, uint32_t *gid, int32_t *pid) {
-    if (uid) *uid = connection->peer.uid;
-    if (gid) *gid = connection->peer.gid;
-    if (pid) *pid = connection->peer.pid;
+    if (uid) *uid = connection->peer_uid;
+    if (gid) *gid = connection->peer_gid;
+    if (pid) *pid = connection->peer_pid;
 }
 
 /* ---- Bytes ---- */
