@@ -196,11 +196,8 @@ void caller_leave(struct caller *caller, long result) {
     struct seat *seat = caller->seat;
     ERRNO_STAYS;
     if (seat && caller->may_hold) seat->may_have_keyring = true;
-    if (seat && result < 0 && errno == ESRCH)
-        seats_drop(seat, false);
-    else if (seat && may_let_go(caller))
-        seats_drop(seat, true);
-    if (seat) seats_give_back(seat);
+    if (seat && result < 0 && errno == ESRCH) seats_drop(seat, false);
+    if (seat) seats_give_back(seat, may_let_go(caller));
     pthread_setcancelstate(caller->cancelling, NULL);
 }
 

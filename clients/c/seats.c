@@ -9,6 +9,10 @@
 #include <linux/capability.h>
 #include <sys/syscall.h>
 
+/* So many asks are made on a connection that might be ended, where other threads wait: then other processes come to
+ * their turn. */
+enum { TURN = 64 };
+
 /* A thread that waits for a seat that others have. */
 struct waiter {
     const struct kr_identity *identity;
@@ -61,13 +65,14 @@ static void unlock(void) {
 
 /* ---- What is done under the lock ---- */
 
-static void close_connection(struct seat *seat) {
+/* The next one is to the same place, unless the daemon is to be looked for again. */
+static void close_connection(struct seat *seat, bool is_same_place) {
     struct kr *connection = seat->connection;
     seat->connection = NULL;
     seat->shared = (struct thread_context){ 0 };
     seat->own = seat->ended_count = 0;
     seat->may_have_keyring = seat->is_kept = false;
-    *seat->where.path = '\0';
+    if (!is_same_place) *seat->where.path = '\0';
     kr_close(connection);
 }
 
@@ -112,7 +117,7 @@ static void in_child(void) {
     pthread_mutex_init(&process.lock, NULL);
     process.first = NULL;
     for (int i = 0; i < SEATS; i++) {
-        if (is_locked_for_fork) close_connection(&process.seats[i]);
+        if (is_locked_for_fork) close_connection(&process.seats[i], false);
         process.seats[i].is_busy = false;
     }
     if (!is_locked_for_fork) return;
@@ -164,7 +169,7 @@ __attribute__((destructor)) static void end(void) {
     if (process.has_end_of_thread) pthread_key_delete(process.end_of_thread);
     process.has_end_of_thread = false;
     for (int i = 0; i < SEATS; i++)
-        if (!process.seats[i].is_busy) close_connection(&process.seats[i]);
+        if (!process.seats[i].is_busy) close_connection(&process.seats[i], false);
     unlock();
 }
 
@@ -218,7 +223,7 @@ static struct seat *find_place(void) {
 }
 
 static void clear_seat(struct seat *seat) {
-    close_connection(seat);
+    close_connection(seat, false);
     serials_clear(&seat->serials);
     seat->is_taken = false;
     seat->daemon = (struct daemon){ 0 };
@@ -304,11 +309,13 @@ struct seat *seats_take(const struct kr_identity *identity, int64_t deadline) {
     return seat;
 }
 
-void seats_give_back(struct seat *seat) {
+void seats_give_back(struct seat *seat, bool may_let_go) {
     lock();
     if (seat->connection) seat->connection->was_seen = false;
     end_contexts(seat);
     pass_on(seat);
+    bool is_at_its_turn = seat->is_busy && seat->connection && seat->connection->asked < TURN;
+    if (may_let_go && seat->connection && !is_at_its_turn) close_connection(seat, true);
     unlock();
 }
 
@@ -332,10 +339,8 @@ int seats_begin_serials(struct seat *seat) {
 
 void seats_drop(struct seat *seat, bool is_same_place) {
     ERRNO_STAYS;
-    const struct kr_where where = seat->where;
     lock();
-    close_connection(seat);
-    if (is_same_place) seat->where = where;
+    close_connection(seat, is_same_place);
     unlock();
 }
 

@@ -46,7 +46,10 @@ struct seat {
 /* Takes the seat of this identity to oneself, in the order in which threads come, by the deadline. NULL with
  * ETIMEDOUT. */
 struct seat *seats_take(const struct kr_identity *identity, int64_t deadline);
-void seats_give_back(struct seat *seat);
+
+/* Gives it to the thread that came next. Its connection is ended where that may be, and nobody waits for it: the next
+ * one is to the same place. So a crowd of threads makes one. */
+void seats_give_back(struct seat *seat, bool may_let_go);
 
 /* From here on another daemon answers a busy seat. A child of fork(2) finds all of its serials or none. -1: ENOMEM. */
 int seats_begin_serials(struct seat *seat);

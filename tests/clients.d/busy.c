@@ -7,6 +7,7 @@
 #include <spawn.h>
 #include <stdatomic.h>
 #include <stdlib.h>
+#include <sys/socket.h>
 #include <sys/stat.h>
 #include <sys/wait.h>
 #include <time.h>
@@ -61,6 +62,31 @@ static void wait_beside_others(char **words) {
     for (int i = 0; i < THREADS; i++) pthread_join(threads[i], NULL);
     if (longest > 2 * THREADS) printf("%lu answers of others\n", longest);
     else puts("fair");
+}
+
+/* ---- A crowd ---- */
+
+static atomic_int connections;
+
+int connect(int descriptor, const struct sockaddr *address, socklen_t length) {
+    int (*ours)(int, const struct sockaddr *, socklen_t) =
+        (int (*)(int, const struct sockaddr *, socklen_t))dlsym(RTLD_NEXT, "connect");
+    if (atomic_fetch_add(&connections, 1) == 0) usleep(1000000);
+    return ours(descriptor, address, length);
+}
+
+static void *ask_once(void *unused) {
+    (void)unused;
+    return (void *)ask();
+}
+
+/* crowd: how many connections are made for threads that ask while the first one is being made. */
+static void ask_as_crowd(char **words) {
+    pthread_t threads[THREADS];
+    (void)words;
+    for (int i = 0; i < THREADS; i++) pthread_create(&threads[i], NULL, ask_once, NULL);
+    for (int i = 0; i < THREADS; i++) pthread_join(threads[i], NULL);
+    printf("%d\n", atomic_load(&connections));
 }
 
 /* ---- A daemon that is stopped, while the clock runs ---- */
@@ -294,11 +320,12 @@ int main(int count, char **words) {
     static const struct {
         const char *name;
         void (*run)(char **);
-    } modes[] = { { "fair", wait_beside_others },   { "stalled", ask_stopped },
-                  { "threads", want_own_stopped },  { "late", want_contexts_stopped },
-                  { "many", ask_as_many },          { "held", hold },
-                  { "silent", ask_beside_silent },  { "thread", hold_for_thread },
-                  { "no-process", join_when_full }, { "read", read_often } };
+    } modes[] = { { "fair", wait_beside_others },   { "crowd", ask_as_crowd },
+                  { "stalled", ask_stopped },       { "threads", want_own_stopped },
+                  { "late", want_contexts_stopped }, { "many", ask_as_many },
+                  { "silent", ask_beside_silent },  { "held", hold },
+                  { "thread", hold_for_thread },    { "no-process", join_when_full },
+                  { "read", read_often } };
     if (count < 2) return 2;
     for (size_t i = 0; i < sizeof modes / sizeof *modes; i++)
         if (strcmp(words[1], modes[i].name) == 0) modes[i].run(words + 2);

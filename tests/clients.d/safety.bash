@@ -106,6 +106,7 @@ END
       is "$name, in a session: $mode" "$wanted" "$(in_session -- timeout 120 "$dir/$name" $mode)"
     done <<'END'
 held:0 1 0 1 answered
+crowd:1
 thread:1 0 the same
 many 40:40 of 40
 END
