@@ -257,7 +257,8 @@ module _ {S C W : Type 0} (leads : S → List Event → S → Type 0) (ticked : 
         events = a.events;
         order = a.order;
         asked = record {
-          led = subst (λ (e : List Event). leads s0 e s2) (append-nil a.events) (led s0 s1 s2 a.events [] a.asked.led still);
+          led = subst (λ (e : List Event). leads s0 e s2) (append-nil a.events)
+              (led s0 s1 s2 a.events [] a.asked.led still);
           moments = a.asked.moments;
           lanes = a.asked.lanes;
         };

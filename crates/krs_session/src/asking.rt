@@ -67,8 +67,8 @@ fn is_long(op: &Op) -> bool {
     )
 }
 
-/// One ask at a moment among those of a piece, and its reply, which may be held then. Where more follow, others may have
-/// to wait for them.
+/// One ask at a moment among those of a piece, and its reply, which may be held then. Where more follow, others may
+/// have to wait for them.
 fn ask_among<H, S, D: Keeper<S, H>, G: Gate>(
     setting: &Setting<'_, H, D, G>,
     seat: &mut S,
