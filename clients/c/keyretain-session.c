@@ -61,6 +61,8 @@ static const char *advice(int status, int error, const char *what) {
         return "all lanes may be held: keyretain-status tells, and keyretaind --lanes gives more";
     if (status == NO_CONNECTION && error == EPERM)
         return "another filter refuses the key calls, as that of a container does: its profile must allow them";
+    if (status == REFUSED && error == EDQUOT)
+        return "keyretain-guard has no place left for this user: end other clients, or raise --per-uid";
     if (status == REFUSED && error == EKEYREVOKED)
         return "the daemon was started anew, or nothing holds it: begin one by keyretain-session or a new login";
     return NULL;
