@@ -240,7 +240,7 @@ static void wait_and_move(struct link *link) {
     if (server.events == 0) server.fd = -1;
     struct pollfd both[] = { client, server };
     int ready = poll(both, 2, waits_for_first(link) ? FIRST_REPLY : -1);
-    if (ready == 0) tell_daemon(link, "no answer, as where it has no free lane");
+    if (ready == 0) tell_daemon(link, "no answer, as where it has no free lane or no memory");
     if (ready <= 0) return;
     short of_client = both[0].revents, of_server = both[1].revents;
     if (of_server && asks->passed > 0 && give_asks(link)) pass_asks(link);

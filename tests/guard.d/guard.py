@@ -962,7 +962,7 @@ def try_told_daemon():
         client.send(hello(uid, gid))
     check_soon('one whose queue is full', lambda: told_by(run).splitlines()[2:3], ['the daemon at PATH: too many wait for it'])
     check_soon('one that takes nobody', lambda: told_by(run).splitlines()[3:], [
-        'the daemon at PATH: no answer, as where it has no free lane'])
+        'the daemon at PATH: no answer, as where it has no free lane or no memory'])
     listener.close()
     run.end()
     run = Running(lanes=1)
@@ -970,7 +970,7 @@ def try_told_daemon():
     client.context(uid, gid)
     waiting = run.one(*who)
     waiting.send(hello(uid, gid))
-    check_soon('a daemon without a free lane', lambda: told_by(run), 'the daemon at PATH: no answer, as where it has no free lane\n')
+    check_soon('a daemon without a free lane', lambda: told_by(run), 'the daemon at PATH: no answer, as where it has no free lane or no memory\n')
     client.close()
     check('and then it is served', waiting.reply()[0], 0)
     run.end()
