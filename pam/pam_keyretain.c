@@ -119,7 +119,7 @@ static void begin(pam_handle_t *handle, const struct options *options, struct ke
         start_keeper(keeper, user, options->socket, &answer);
     put_session(handle, options, &answer);
     if (!answer.session)
-        pam_syslog(handle, LOG_NOTICE, "no session: %s", answer.text);
+        pam_syslog(handle, LOG_NOTICE, "no session for %s: %s", user ? user->pw_name : "?", answer.text);
     else if (options->is_told)
         pam_syslog(handle, LOG_DEBUG, "session %s at %s", answer.session, answer.socket);
 }

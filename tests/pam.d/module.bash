@@ -242,7 +242,8 @@ try_answers() {
   while IFS='|' read -r name text; do
     says "${text/LONG/$long}"
     gives "a keeper that says $name" "open success $none" one open "${show[@]}"
-    is "a keeper that says $name: lines of the log that say so" 1 "$(grep -c '^log 5 no session: .' "$dir/said")"
+    is "a keeper that says $name: lines of the log that say so, and for whom" 1 \
+      "$(grep -c "^log 5 no session for $user: ." "$dir/said")"
     is "a keeper that says $name: bytes of the log that are not printed" '' "$(tr -d '\n -~' <"$dir/said")"
   done <<'END_OF_TABLE'
 nothing|
