@@ -970,7 +970,8 @@ def try_told_daemon():
     client.context(uid, gid)
     waiting = run.one(*who)
     waiting.send(hello(uid, gid))
-    check_soon('a daemon without a free lane', lambda: told_by(run), 'the daemon at PATH: no answer, as where it has no free lane or no memory\n')
+    check_soon('a daemon without a free lane', lambda: told_by(run),
+               'the daemon at PATH: no answer, as where it has no free lane or no memory\n')
     client.close()
     check('and then it is served', waiting.reply()[0], 0)
     run.end()
