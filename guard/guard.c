@@ -26,9 +26,10 @@ enum {
     ACCEPTS_A_TURN = 16,
     PAUSE = 20,  /* milliseconds, before what lacked something is tried again */
     ENOUGH = 16, /* places that a uid gets without a look at how many are left */
-    SPARE = 4 + REFUSED_MAX, /* descriptors: the listening socket, and what is open for a moment */
-    SIGNALS = REFUSED_MAX, FREED, LISTENER, WAITS,
+    SPARE = 4 + REFUSED_FEW, /* descriptors: the listening socket, and what is open for a moment */
 };
+
+enum { SIGNALS, FREED, LISTENER, REFUSED }; /* what is waited for, the refused ones last */
 
 static struct link links[CONNECTIONS_MAX];
 static unsigned used;
@@ -71,7 +72,8 @@ static void begin_client(int client) {
     }
     struct link *place = find_place(peer.uid, &has);
     if (!place) {
-        tell(OF_CLIENTS, "refused: uid %u (pid %d) has %u of %u places\n", peer.uid, peer.pid, has, options.connections);
+        tell(OF_CLIENTS, "refused: uid %u (pid %d) has %u of %u places\n", peer.uid, peer.pid, has,
+             options.connections);
         refuse_client(client, peer.uid);
         return;
     }
@@ -120,19 +122,19 @@ static int time_to_wait(int64_t next) {
 
 /* Until a signal comes. Where all places are taken the next client waits. */
 static void run(void) {
-    struct pollfd waited[WAITS] = { [SIGNALS] = { .fd = signals, .events = POLLIN },
-                                    [FREED] = { .fd = freed, .events = POLLIN } };
+    struct pollfd waited[REFUSED + REFUSED_MAX] = { [SIGNALS] = { .fd = signals, .events = POLLIN },
+                                                    [FREED] = { .fd = freed, .events = POLLIN } };
     bool lacks = false;
     for (;;) {
         bool may_accept = used < options.connections && !lacks;
         waited[LISTENER] = (struct pollfd){ .fd = may_accept ? listener : -1, .events = POLLIN };
-        int64_t next = put_refused(waited);
+        int64_t next = put_refused(waited + REFUSED);
         if (next_deadline < next) next = next_deadline;
-        int ready = poll(waited, WAITS, lacks ? PAUSE : time_to_wait(next));
+        int ready = poll(waited, REFUSED + (nfds_t)refused_most, lacks ? PAUSE : time_to_wait(next));
         if (ready > 0 && waited[SIGNALS].revents) return;
         if (ready > 0 && waited[FREED].revents) count_freed();
         end_silent(milliseconds());
-        end_refused(waited, milliseconds());
+        end_refused(waited + REFUSED, milliseconds());
         lacks = !accept_clients();
     }
 }
@@ -155,11 +157,12 @@ static void open_events(void) {
  * all, and none would be left to reach the daemon. */
 static void fit_descriptors(void) {
     struct rlimit limit;
-    rlim_t wanted = 2 * options.connections + 32, taken = SPARE;
+    rlim_t wanted = 2 * options.connections + 16 + REFUSED_MAX, taken = SPARE;
     if (getrlimit(RLIMIT_NOFILE, &limit) < 0 || limit.rlim_cur >= wanted) return;
     limit.rlim_cur = wanted < limit.rlim_max ? wanted : limit.rlim_max;
     setrlimit(RLIMIT_NOFILE, &limit);
     getrlimit(RLIMIT_NOFILE, &limit);
+    if (limit.rlim_cur < wanted) refused_most = REFUSED_FEW;
     for (int i = 0; (rlim_t)i < limit.rlim_cur; i++) taken += fcntl(i, F_GETFD) >= 0;
     rlim_t places = limit.rlim_cur > taken + 2 ? (limit.rlim_cur - taken) / 2 : 1;
     if (places < options.connections) options.connections = (unsigned)places;

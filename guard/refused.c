@@ -14,6 +14,8 @@
 
 enum { PATIENCE = 5000 /* milliseconds */, VERSION = 4, TAG = 12, ASK_MIN = 12, TAGGED_MIN = 20, STATUS_END = 8 };
 
+int refused_most = REFUSED_MAX;
+
 /* With a deadline of 0 it is free. */
 static struct refused {
     int client;
@@ -29,7 +31,7 @@ static void end(struct refused *refused) {
 /* Free ones come first, as their deadline is the least. */
 static struct refused *find_room(uint32_t uid) {
     struct refused *first = all, *own = NULL;
-    for (int i = 0; i < REFUSED_MAX; i++) {
+    for (int i = 0; i < refused_most; i++) {
         if (all[i].deadline < first->deadline) first = &all[i];
         if (all[i].deadline > 0 && all[i].uid == uid && (!own || all[i].deadline < own->deadline)) own = &all[i];
     }
@@ -44,7 +46,7 @@ void refuse_client(int client, uint32_t uid) {
 
 int64_t put_refused(struct pollfd *waited) {
     int64_t next = INT64_MAX;
-    for (int i = 0; i < REFUSED_MAX; i++) {
+    for (int i = 0; i < refused_most; i++) {
         bool is_here = all[i].deadline > 0;
         waited[i] = (struct pollfd){ .fd = is_here ? all[i].client : -1, .events = POLLIN };
         if (is_here && all[i].deadline < next) next = all[i].deadline;
@@ -68,7 +70,7 @@ static void answer(int client) {
 }
 
 void end_refused(const struct pollfd *waited, int64_t now) {
-    for (int i = 0; i < REFUSED_MAX; i++) {
+    for (int i = 0; i < refused_most; i++) {
         if (all[i].deadline == 0) continue;
         if (waited[i].revents) answer(all[i].client);
         if (waited[i].revents || all[i].deadline <= now) end(&all[i]);

@@ -100,7 +100,7 @@ static int begin_seat(struct seat *seat) {
 }
 
 /* A connection on which no context was made is ended, and what the daemon may do for it with it. Where the guard has no
- * place for the user's connections, one may be free in a moment. */
+ * place for the user's connections, one may be free in a moment. It says so, or in a crowd ends some without a word. */
 static int have_shared_context(struct seat *seat, int64_t call_end) {
     int64_t opening_end = kr_now() + OPENING_MILLISECONDS, end = opening_end < call_end ? opening_end : call_end;
     for (int pause = 1;; pause = pause < LONGEST_PAUSE ? 2 * pause : pause) {
@@ -109,7 +109,8 @@ static int have_shared_context(struct seat *seat, int64_t call_end) {
         kr_set_deadline(seat->connection, end);
         if (begin_seat(seat) == 0) return 0;
         seats_drop(seat, true);
-        if (errno != EDQUOT || kr_now() + pause >= end) return -1;
+        bool is_crowded = errno == EDQUOT || (errno == ECONNRESET && pause < LONGEST_PAUSE);
+        if (!is_crowded || kr_now() + pause >= end) return -1;
         poll(NULL, 0, pause);
     }
 }

@@ -107,17 +107,24 @@ def forgetful(connections):
     return serve
 
 
-with served(forgetful([])) as path:
-    said = subprocess.run([sys.executable, "-c", AGAIN, library], env={**os.environ, "KEYRETAIN_SOCKET": path},
-                          stdout=subprocess.PIPE, timeout=30, text=True, check=False)
-    compare("a context that the daemon doesn't know: the next call has another one", "ESRCH 77", said.stdout.strip())
+def said_in(serve):
+    """What two calls come to."""
+    with served(serve) as path:
+        said = subprocess.run([sys.executable, "-c", AGAIN, library], env={**os.environ, "KEYRETAIN_SOCKET": path},
+                              stdout=subprocess.PIPE, timeout=30, text=True, check=False)
+    return said.stdout.strip()
 
 
-def crowded(connections):
-    """As a guard that refuses the first five connections for want of a place."""
+compare("a context that the daemon doesn't know: the next call has another one", "ESRCH 77", said_in(forgetful([])))
+
+
+def crowded(connections, tells=True):
+    """As a guard that refuses the first five connections for want of a place, and tells so or not."""
     def serve(end):
         connections.append(end)
         is_refused = len(connections) <= 5
+        if is_refused and not tells:
+            return
         for tag, name, values in end.asks():
             end.socket.sendall(reply(tag, b"", errno.EDQUOT) if is_refused else reply(tag, plain(name, values)))
             if is_refused:
@@ -125,10 +132,9 @@ def crowded(connections):
     return serve
 
 
-with served(crowded([])) as path:
-    said = subprocess.run([sys.executable, "-c", AGAIN, library], env={**os.environ, "KEYRETAIN_SOCKET": path},
-                          stdout=subprocess.PIPE, timeout=30, text=True, check=False)
-    compare("a place that is free later: the call waits for it", "77 77", said.stdout.strip())
+compare("a place that is free later: the call waits for it", "77 77", said_in(crowded([])))
+compare("connections that are ended without a word", "77 77", said_in(crowded([], tells=False)))
+compare("where each one is ended so", "ECONNRESET ECONNRESET", said_in(lambda end: None))
 with served(crowded([])) as path:
     compare("what the Python client is told", "EDQUOT", told_by_python(path))
 conclude()

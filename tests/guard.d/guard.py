@@ -891,6 +891,9 @@ def try_too_many():
         client = run.one(*who)
         client.send(bytes_)
         check(f'a client too many that sends {name}', client.reply(), 'end')
+    crowd = run.many(40, *who)
+    time.sleep(0.5) # all are there before one asks
+    check('a crowd, whose asks come later', [client.status(hello(uid, gid)) for client in crowd], [EDQUOT] * 40)
     silent = run.many(12, *who)
     check_soon('silent ones are ended', lambda: alive(silent), 0)
     check('the first is served meanwhile', first.status(hello(uid, gid)), 0)
@@ -916,9 +919,9 @@ def try_told_beside():
     held = [run.one(uid, uid, []) for uid in (USER_A, USER_B)]
     for client, uid in zip(held, (USER_A, USER_B)):
         client.context(uid, uid)
-    silent = run.many(17, USER_A, USER_A, [])
+    silent = run.many(65, USER_A, USER_A, [])
     late = run.one(USER_B, USER_B, [])
-    more = run.many(17, USER_A, USER_A, [])
+    more = run.many(65, USER_A, USER_A, [])
     check('told all the same', late.status(hello(USER_B, USER_B)), EDQUOT)
     for client in silent + more:
         client.close()
