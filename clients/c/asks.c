@@ -1,8 +1,6 @@
 /* asks.c: one function for each ask. What each does: keyretain-protocol(7). */
 #include "connection.h"
 
-/* ---- Fields of bodies ---- */
-
 static struct kr_field number(uint32_t number) { return (struct kr_field){ .number = number }; }
 static struct kr_field id(int32_t id) { return number((uint32_t)id); }
 
@@ -12,35 +10,12 @@ static struct kr_field items(const void *items, size_t count) {
 
 static struct kr_field text(const char *text) { return items(text, text ? strlen(text) : 0); }
 
-/* ---- Answers ---- */
-
-static int64_t answer_number(struct kr *connection, enum kr_operation operation, uint32_t context,
-                             const struct kr_field *fields) {
-    struct kr_answer answer = kr_ask(connection, operation, context, fields);
-    return answer.length < 0 ? -1 : (int64_t)kr_get_u32(answer.bytes);
-}
-
-static int answer_nothing(struct kr *connection, enum kr_operation operation, uint32_t context,
-                          const struct kr_field *fields) {
-    return kr_ask(connection, operation, context, fields).length < 0 ? -1 : 0;
-}
-
-static int64_t answer_bytes(struct kr *connection, enum kr_operation operation, uint32_t context,
-                            const struct kr_field *fields, void *buffer, size_t room) {
-    struct kr_answer answer = kr_ask(connection, operation, context, fields);
-    if (answer.length > 0 && buffer && (uint64_t)answer.length <= room)
-        memcpy(buffer, answer.bytes, (size_t)answer.length);
-    ERRNO_STAYS;
-    kr_wipe(connection);
-    return answer.length;
-}
-
-/* An ask with these fields. */
+/* An ask with these fields, and what it answers. */
 #define FIELDS(...) (const struct kr_field[]){ __VA_ARGS__ }
-#define NUMBER(operation, context, ...) answer_number(connection, operation, context, FIELDS(__VA_ARGS__))
+#define BYTES(operation, context, ...) kr_ask(connection, operation, context, FIELDS(__VA_ARGS__), buffer, room)
+#define NUMBER(operation, context, ...) kr_ask(connection, operation, context, FIELDS(__VA_ARGS__), NULL, 0)
 #define SERIAL(operation, ...) (int32_t)NUMBER(operation, context, __VA_ARGS__)
-#define NOTHING(operation, context, ...) answer_nothing(connection, operation, context, FIELDS(__VA_ARGS__))
-#define BYTES(operation, context, ...) answer_bytes(connection, operation, context, FIELDS(__VA_ARGS__), buffer, room)
+#define NOTHING(operation, context, ...) (int)NUMBER(operation, context, __VA_ARGS__)
 
 /* ---- Contexts ---- */
 
@@ -48,14 +23,11 @@ int64_t kr_hello(struct kr *connection, uint32_t uid, uint32_t gid, uint32_t cou
     return NUMBER(KR_HELLO, 0, number(uid), number(gid), items(groups, count));
 }
 
-int64_t kr_thread(struct kr *connection, uint32_t context) {
-    return answer_number(connection, KR_THREAD, context, NULL);
-}
-
-int64_t kr_fork(struct kr *connection, uint32_t context) { return answer_number(connection, KR_FORK, context, NULL); }
-int kr_exec(struct kr *connection, uint32_t context) { return answer_nothing(connection, KR_EXEC, context, NULL); }
-int kr_exit(struct kr *connection, uint32_t context) { return answer_nothing(connection, KR_EXIT, context, NULL); }
-int kr_leave(struct kr *connection) { return answer_nothing(connection, KR_LEAVE, 0, NULL); }
+int64_t kr_thread(struct kr *connection, uint32_t context) { return NUMBER(KR_THREAD, context, number(0)); }
+int64_t kr_fork(struct kr *connection, uint32_t context) { return NUMBER(KR_FORK, context, number(0)); }
+int kr_exec(struct kr *connection, uint32_t context) { return NOTHING(KR_EXEC, context, number(0)); }
+int kr_exit(struct kr *connection, uint32_t context) { return NOTHING(KR_EXIT, context, number(0)); }
+int kr_leave(struct kr *connection) { return NOTHING(KR_LEAVE, 0, number(0)); }
 
 /* ---- Keys and keyrings ---- */
 

@@ -27,8 +27,8 @@ static int set_no_daemon(void) {
 
 static struct daemon daemon_of(const struct kr *connection) {
     struct stat status;
-    if (connection->peer_pid != 0 || stat(connection->address.sun_path, &status) < 0)
-        return (struct daemon){ .process = connection->peer_pid };
+    if (connection->peer.pid != 0 || stat(connection->address.sun_path, &status) < 0)
+        return (struct daemon){ .process = connection->peer.pid };
     return (struct daemon){ .device = (int64_t)status.st_dev, .inode = (int64_t)status.st_ino,
                             .made = status.st_mtim.tv_sec, .and_nanoseconds = status.st_mtim.tv_nsec };
 }
@@ -52,7 +52,7 @@ static int meet_daemon(struct seat *seat) {
 static int open_connection(struct seat *seat, int64_t deadline) {
     bool is_found = *seat->where.path || kr_locate(&seat->where, NULL) == 0;
     if (!is_found || !seats_prepare(seat)) return set_no_daemon();
-    kr_set_deadline(seat->connection, deadline);
+    seat->connection->until = deadline;
     kr_begin_call(seat->connection);
     if (kr_connect(seat->connection) == 0 && meet_daemon(seat) == 0) return 0;
     seats_drop(seat, false);
@@ -106,7 +106,7 @@ static int have_shared_context(struct seat *seat, int64_t call_end) {
     for (int pause = 1;; pause = pause < LONGEST_PAUSE ? 2 * pause : pause) {
         if (have_connection(seat, end) < 0) return -1;
         if (seat->shared.number != 0) return 0;
-        kr_set_deadline(seat->connection, end);
+        seat->connection->until = end;
         if (begin_seat(seat) == 0) return 0;
         seats_drop(seat, true);
         bool is_crowded = errno == EDQUOT || (errno == ECONNRESET && pause < LONGEST_PAUSE);
@@ -143,7 +143,7 @@ static int enter_context(struct caller *caller) {
     struct seat *seat = caller->seat;
     if (have_shared_context(seat, caller->deadline) < 0) return -1;
     bool wants_own = caller->names_thread || seats_own_session() || (caller->joins && !seats_is_first_thread());
-    kr_set_deadline(seat->connection, caller->deadline);
+    seat->connection->until = caller->deadline;
     const struct thread_context *context = choose_context(seat, wants_own);
     if (!context) return -1;
     caller->connection = seat->connection;

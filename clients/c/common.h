@@ -14,8 +14,9 @@
 #include <stdio.h>
 #include <stdlib.h>
 #include <string.h>
+#include <sys/socket.h>
 #include <sys/stat.h>
-#include <sys/types.h>
+#include <time.h>
 #include <unistd.h>
 
 #ifndef KEYRETAIN_VERSION
@@ -52,6 +53,35 @@ static inline void close_one(int *descriptor) {
     ERRNO_STAYS;
     if (*descriptor >= 0) close(*descriptor);
     *descriptor = -1;
+}
+
+/* Milliseconds of the monotonic clock. */
+static inline int64_t kr_now(void) {
+    struct timespec now;
+    clock_gettime(CLOCK_MONOTONIC, &now);
+    return (int64_t)now.tv_sec * 1000 + now.tv_nsec / 1000000;
+}
+
+/* Who made the other end of a connection of unix(7), or listens there: struct ucred. */
+struct peer {
+    pid_t pid;
+    uid_t uid;
+    gid_t gid;
+};
+
+/* False where the kernel doesn't say. */
+static inline bool find_peer(int connection, struct peer *peer) {
+    socklen_t length = sizeof *peer;
+    return getsockopt(connection, SOL_SOCKET, SO_PEERCRED, peer, &length) == 0 && length == sizeof *peer;
+}
+
+/* The number that a word is in this base, from `least` to `most`; or -1. */
+static inline int64_t number_in(const char *word, int base, unsigned long least, unsigned long most) {
+    char *end;
+    errno = 0;
+    unsigned long number = strtoul(word, &end, base);
+    bool is_one = *word >= '0' && *word <= '9' && !*end && !errno && number >= least && number <= most;
+    return is_one ? (int64_t)number : -1;
 }
 
 /* Answers what a program is asked of itself, and ends it; other words are no such question. */

@@ -12,10 +12,6 @@ static bool makes_context(const struct kr_ask_form *form) {
     return form->operation == KR_HELLO || form->operation == KR_THREAD || form->operation == KR_FORK;
 }
 
-static uint64_t tag_of(uint64_t number, const struct kr_ask_form *form) {
-    return makes_context(form) ? number | KR_MAKES : number;
-}
-
 /* Sends one ask behind what an earlier call left. */
 static int send_ask(struct kr *connection, const struct kr_ask_form *form, uint32_t context,
                     const struct kr_field *fields) {
@@ -23,7 +19,8 @@ static int send_ask(struct kr *connection, const struct kr_ask_form *form, uint3
     if (kr_flush(connection) < 0) return -1;
     bool are_all_answered = connection->answered == connection->asked;
     if (are_all_answered && connection->in_length > 0) return kr_break_off(connection, EPROTO); /* a reply to no ask */
-    size_t length = kr_encode_ask(out, tag_of(connection->asked + 1, form), form, context, fields);
+    uint64_t tag = (connection->asked + 1) | (makes_context(form) ? KR_MAKES : 0);
+    size_t length = kr_encode_ask(out, tag, form, context, fields);
     if (length == 0) {
         explicit_bzero(out, sizeof connection->memory->out); /* some of it was put there */
         return fail_as(EINVAL);
@@ -49,9 +46,10 @@ static void drop(struct kr *connection, size_t length) {
     explicit_bzero(in + connection->in_length, length);
 }
 
-void kr_wipe(struct kr *connection) {
-    if (connection->taken == 0) return;
-    drop(connection, connection->taken);
+/* Overwrites the last answer, which may have been a payload. */
+static void wipe(struct kr *connection) {
+    ERRNO_STAYS;
+    if (connection->taken > 0) drop(connection, connection->taken);
     connection->taken = 0;
 }
 
@@ -125,7 +123,6 @@ static void end_late(struct kr *connection) {
 
 static int call(struct kr *connection, const struct kr_ask_form *form, uint32_t context,
                 const struct kr_field *fields, struct kr_reply *reply) {
-    kr_wipe(connection);
     if (check_whole(connection) < 0) return -1;
     if (awaited(connection) > 0) return fail_as(EBUSY);
     end_late(connection);
@@ -137,42 +134,37 @@ static int call(struct kr *connection, const struct kr_ask_form *form, uint32_t 
     return result;
 }
 
-/* The answer that a reply to an ask of this form is. */
-static struct kr_answer answer_of(struct kr *connection, const struct kr_ask_form *form,
-                                  const struct kr_reply *reply) {
-    struct kr_answer answer = { .length = -1 };
+/* What a reply to an ask of this form answers, as kr_ask does. */
+static int64_t give_answer(struct kr *connection, const struct kr_ask_form *form, const struct kr_reply *reply,
+                           void *buffer, size_t room) {
     int error;
     if (!kr_reply_fits(reply, form, &error) || makes_context(form) != (reply->tag & KR_MAKES) >> 63)
-        kr_break_off(connection, EPROTO);
-    else if (error != 0)
-        errno = error;
-    else
-        answer = (struct kr_answer){ .bytes = reply->body, .length = (int64_t)reply->length };
-    return answer;
-}
-
-static struct kr_answer ask(struct kr *connection, const struct kr_ask_form *form, uint32_t context,
-                            const struct kr_field *fields) {
-    struct kr_reply reply;
-    if (call(connection, form, context, fields, &reply) < 0) return (struct kr_answer){ .length = -1 };
-    return answer_of(connection, form, &reply);
+        return kr_break_off(connection, EPROTO);
+    if (error != 0) return fail_as(error);
+    if (form->answer == KR_NUMBER || form->answer == KR_SERIAL) return (int64_t)kr_get_u32(reply->body);
+    if (reply->length > 0 && buffer && reply->length <= room) memcpy(buffer, reply->body, reply->length);
+    return (int64_t)reply->length;
 }
 
 /* A context that there is no room for is asked for again where some that came late are in its place. */
-struct kr_answer kr_ask(struct kr *connection, enum kr_operation operation, uint32_t context,
-                        const struct kr_field *fields) {
+int64_t kr_ask(struct kr *connection, enum kr_operation operation, uint32_t context, const struct kr_field *fields,
+               void *buffer, size_t room) {
     UNCANCELLED;
     const struct kr_ask_form *form = kr_ask_form(operation);
-    struct kr_answer answer = ask(connection, form, context, fields);
-    bool is_full = answer.length < 0 && errno == EINVAL && makes_context(form) && connection->late_count > 0;
-    return is_full ? ask(connection, form, context, fields) : answer;
+    struct kr_reply reply;
+    for (bool is_again = false;; is_again = true) {
+        int called = call(connection, form, context, fields, &reply);
+        int64_t answer = called < 0 ? -1 : give_answer(connection, form, &reply, buffer, room);
+        bool is_full = answer < 0 && errno == EINVAL && makes_context(form) && connection->late_count > 0;
+        wipe(connection);
+        if (!is_full || is_again) return answer;
+    }
 }
 
 /* ---- Asks that are sent ahead ---- */
 
 static int send_ahead(struct kr *connection, const struct kr_ask_form *form, uint32_t context,
                       const struct kr_field *fields) {
-    kr_wipe(connection);
     if (check_whole(connection) < 0) return -1;
     if (!form) return fail_as(EINVAL);
     if (awaited(connection) >= KR_AHEAD_MAX) return fail_as(EAGAIN);
@@ -226,24 +218,12 @@ static int send_and_receive(struct kr *connection) {
 static int receive_ahead(struct kr *connection, struct kr_reply *reply) {
     uint64_t last = last_done(connection);
     int found;
-    kr_wipe(connection);
     if (check_whole(connection) < 0) return -1;
     if (awaited(connection) == 0) return fail_as(ENOMSG);
     kr_begin_call(connection);
     while ((found = take_reply(connection, reply)) == 0)
         if (send_and_receive(connection) < 0) return -1;
     return found == 1 && connection->answered != last + 1 ? kr_break_off(connection, EPROTO) : found;
-}
-
-/* What the ask's own function would answer. */
-static int64_t give_answer(struct kr *connection, const struct kr_ask_form *form, const struct kr_reply *reply,
-                           void *buffer, size_t room) {
-    struct kr_answer answer = answer_of(connection, form, reply);
-    if (answer.length < 0) return -1;
-    if (form->answer == KR_NUMBER || form->answer == KR_SERIAL) return (int64_t)kr_get_u32(answer.bytes);
-    if (answer.length > 0 && buffer && (uint64_t)answer.length <= room)
-        memcpy(buffer, answer.bytes, (size_t)answer.length);
-    return answer.length;
 }
 
 int64_t kr_receive(struct kr *connection, uint64_t *tag, void *buffer, size_t room) {
@@ -256,8 +236,7 @@ int64_t kr_receive(struct kr *connection, uint64_t *tag, void *buffer, size_t ro
         answer = give_answer(connection, connection->ahead[answered % KR_AHEAD_MAX], &reply, buffer, room);
         if (connection->broken) answered = 0;
     }
-    ERRNO_STAYS;
-    kr_wipe(connection);
+    wipe(connection);
     wipe_part(connection);
     if (tag) *tag = answered;
     return answer;

@@ -5,7 +5,6 @@
 #include "wire.h"
 
 #include <pthread.h>
-#include <sys/socket.h>
 #include <sys/un.h>
 
 /* ---- place.c: where a daemon is looked for, and who has to listen there before anything is told to it ---- */
@@ -65,7 +64,7 @@ static inline void end_uncancelled(const int *cancelling) {
     pthread_setcancelstate(*cancelling, NULL);
 }
 
-/* Milliseconds of the monotonic clock; the moment that never comes. */
+/* The moment of kr_now that never comes. */
 #define KR_NEVER INT64_MAX
 
 /* As many as a client may have. */
@@ -88,15 +87,13 @@ struct kr {
     enum kr_place place;
     bool trusts_anybody;
     uid_t user; /* whose secrets it is told: who listens is trusted by this user */
-    uid_t peer_uid;
-    gid_t peer_gid;
-    pid_t peer_pid;
+    struct peer peer;
     bool broken, interruptible;
     bool was_seen; /* it was looked at for the next ask: see kr_is_ours */
     bool has_name; /* of kr_take_name */
     int patience;     /* milliseconds, or -1 */
     int64_t deadline; /* of the call that is being made */
-    int64_t until;    /* a moment by which all calls end, or KR_NEVER */
+    int64_t until;    /* calls that are made from now on end by this moment, whatever their patience */
     int waits[2];     /* milliseconds that the socket itself waits in send and recv; 0 is for ever */
     uint64_t asked, answered, given_up;
     uint32_t late[KR_CONTEXTS]; /* contexts that replies to asks which were given up have told, and that nobody wants */
@@ -107,12 +104,6 @@ struct kr {
     size_t taken;              /* how many of them are the last answer's frame */
     struct sockaddr_un address;
     struct kr_memory *memory;
-};
-
-/* Where the answer of an ask stands, and how long it is; the bytes stay until the next ask or kr_wipe. */
-struct kr_answer {
-    const uint8_t *bytes;
-    int64_t length;
 };
 
 /* ---- socket.c ---- */
@@ -138,25 +129,18 @@ int kr_flush(struct kr *connection);
 int kr_receive_bytes(struct kr *connection);
 int kr_break_off(struct kr *connection, int error);
 
-int64_t kr_now(void);
-
-/* Calls that are made from now on end by this moment, whatever their patience. */
-void kr_set_deadline(struct kr *connection, int64_t until);
-
 /* The deadline of a call that begins, and how many milliseconds it has left; -1 for ever. */
 void kr_begin_call(struct kr *connection);
 int kr_milliseconds_left(const struct kr *connection);
 
 /* ---- connection.c ---- */
 
-/* Makes one ask and waits for its reply. The length is -1 with errno where it is refused or the connection fails. */
-struct kr_answer kr_ask(struct kr *connection, enum kr_operation operation, uint32_t context,
-                        const struct kr_field *fields);
+/* Makes one ask and waits for its reply: a number, or the length of bytes, which are in `buffer` where `room` holds all
+ * of them. -1 with errno where it is refused or the connection fails. */
+int64_t kr_ask(struct kr *connection, enum kr_operation operation, uint32_t context, const struct kr_field *fields,
+               void *buffer, size_t room);
 
 /* Makes an ask without fields, waits for nothing, and lets the reply be dropped. False where it couldn't be sent. */
 bool kr_tell(struct kr *connection, enum kr_operation operation, uint32_t context);
-
-/* Overwrites the last answer, which may have been a payload. */
-void kr_wipe(struct kr *connection);
 
 #endif

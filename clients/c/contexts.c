@@ -43,9 +43,9 @@ static void close_line(struct line *line) {
 static struct line *open_line(int milliseconds) {
     struct kr *connection = kr_open_with(all.where.path, 0, milliseconds);
     struct line *line = connection ? calloc(1, sizeof *line) : NULL;
-    if (!line || (all.lines && connection->peer_pid != contexts_daemon()))
+    if (!line || (all.lines && connection->peer.pid != contexts_daemon()))
         return kr_close(connection), forgotten(line);
-    kr_set_deadline(connection, kr_now() + milliseconds);
+    connection->until = kr_now() + milliseconds;
     all.beginnings += !all.lines;
     *line = (struct line){ .connection = connection, .age = ++all.last_age, .most = KEYRETAIN_READS,
                            .next = all.lines };
@@ -63,7 +63,7 @@ void contexts_set_deadline(void) {
         if (kr_is_broken(line->connection))
             close_line(line);
         else
-            kr_set_deadline(line->connection, kr_now() + CALL_MILLISECONDS);
+            line->connection->until = kr_now() + CALL_MILLISECONDS;
     }
 }
 
@@ -81,7 +81,7 @@ int contexts_begin_call(void) {
 
 int32_t contexts_daemon(void) {
     for (const struct line *line = all.lines; line; line = line->next)
-        if (!kr_is_broken(line->connection)) return line->connection->peer_pid;
+        if (!kr_is_broken(line->connection)) return line->connection->peer.pid;
     return -1;
 }
 
@@ -183,7 +183,7 @@ static int hello_on_further(struct context *made, const struct kr_identity *iden
         all.next_further = kr_now() + PAUSE_MILLISECONDS;
         return fail_as(EDQUOT);
     }
-    kr_set_deadline(line->connection, kr_now() + CALL_MILLISECONDS);
+    line->connection->until = kr_now() + CALL_MILLISECONDS;
     return take(made, line, number, true);
 }
 
@@ -227,7 +227,7 @@ void context_end(struct context *context) {
     ERRNO_STAYS;
     struct kr *connection = context_connection(context);
     if (connection && !kr_tell(connection, KR_EXIT, context->number)) {
-        kr_set_deadline(connection, kr_now() + CALL_MILLISECONDS);
+        connection->until = kr_now() + CALL_MILLISECONDS;
         kr_exit(connection, context->number);
     }
     context_forget(context);

@@ -126,7 +126,7 @@ static struct kr *connect_to(const struct options *options, struct kr_where *whe
     if (kr_locate(where, options->socket) < 0) fail("the socket's path");
     struct kr *connection = kr_open_with(options->socket, 0, options->milliseconds);
     if (!connection || chdir("/") < 0) fail(where->path);
-    kr_set_deadline(connection, end);
+    connection->until = end;
     kr_own_identity(&identity);
     int64_t made = kr_hello_as(connection, &identity);
     if (made < 0) fail_ask(connection, where->path);
@@ -137,7 +137,7 @@ static struct kr *connect_to(const struct options *options, struct kr_where *whe
 /* What was made. From now on each call has a time of its own. */
 static void answer(struct kr *connection, int32_t serial, const char *name, const char *path) {
     dprintf(STDOUT_FILENO, "%d:%s\n%s\n", (int)serial, name, path);
-    kr_set_deadline(connection, KR_NEVER);
+    connection->until = KR_NEVER;
     kr_set_patience(connection, PATIENCE_MILLISECONDS);
 }
 

@@ -266,7 +266,7 @@ static void enter(const char *path, const struct kr_session *session) {
     struct kr_identity identity;
     struct kr *connection = kr_open_with(path, 0, PATIENCE_MILLISECONDS);
     if (!connection) fail(NO_CONNECTION, path);
-    kr_set_deadline(connection, kr_now() + PATIENCE_MILLISECONDS);
+    connection->until = kr_now() + PATIENCE_MILLISECONDS;
     kr_own_identity(&identity);
     int64_t context = kr_hello_as(connection, &identity);
     int entered = context < 0 ? -1 : kr_enter_named(connection, (uint32_t)context, session, identity.uid);

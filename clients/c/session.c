@@ -69,19 +69,13 @@ int kr_export_session(const struct kr_session *session) {
     return setenv(KR_SESSION_VARIABLE, text, 1);
 }
 
-static int make_name(struct kr_session *session) {
+int kr_name_session(struct kr_session *session, const char *name) {
     unsigned long long random[2];
+    memset(session, 0, sizeof *session);
+    if (name && strlen(name) >= sizeof session->name) return fail_as(EINVAL);
+    if (name) return strcpy(session->name, name), 0;
     if (getrandom(random, sizeof random, 0) != (ssize_t)sizeof random) return -1;
     snprintf(session->name, sizeof session->name, "_ses.%016llx%016llx", random[0], random[1]);
-    return 0;
-}
-
-int kr_name_session(struct kr_session *session, const char *name) {
-    memset(session, 0, sizeof *session);
-    if (!name) return make_name(session);
-    size_t length = strlen(name);
-    if (length >= sizeof session->name) return fail_as(EINVAL);
-    memcpy(session->name, name, length + 1);
     return 0;
 }
 
@@ -92,12 +86,9 @@ bool kr_parse_attributes(const char *described, struct kr_attributes *attributes
 }
 
 int kr_read_attributes(struct kr *connection, uint32_t context, int32_t ring, struct kr_attributes *attributes) {
-    const struct kr_field fields[] = { { .number = (uint32_t)ring } };
-    struct kr_answer answer = kr_ask(connection, KR_DESCRIBE, context, fields);
-    char head[64] = "";
-    if (answer.length < 0) return kr_is_broken(connection) ? -1 : 1;
-    memcpy(head, answer.bytes, (size_t)answer.length < sizeof head ? (size_t)answer.length : sizeof head - 1);
-    return kr_parse_attributes(head, attributes) ? 0 : 1;
+    char text[KR_SESSION_NAME_ROOM + 64] = "";
+    if (kr_describe(connection, context, ring, text, sizeof text - 1) < 0) return kr_is_broken(connection) ? -1 : 1;
+    return kr_parse_attributes(text, attributes) ? 0 : 1;
 }
 
 /* Whether the keyring is this user's, and gives nothing to group and others. 1 where it isn't, or the daemon doesn't

@@ -4,7 +4,6 @@
 #include <limits.h>
 #include <sys/mman.h>
 #include <sys/time.h>
-#include <time.h>
 
 enum { USUAL_PATIENCE = 30000, IN_SEND = 0, IN_RECV = 1, NAMES = 4 };
 
@@ -17,14 +16,6 @@ int kr_break_off(struct kr *connection, int error) {
 }
 
 /* ---- Time ---- */
-
-int64_t kr_now(void) {
-    struct timespec now;
-    clock_gettime(CLOCK_MONOTONIC, &now);
-    return (int64_t)now.tv_sec * 1000 + now.tv_nsec / 1000000;
-}
-
-void kr_set_deadline(struct kr *connection, int64_t until) { connection->until = until; }
 
 void kr_begin_call(struct kr *connection) {
     int64_t end = connection->patience < 0 ? KR_NEVER : kr_now() + connection->patience;
@@ -139,26 +130,13 @@ static int connect_in_time(struct kr *connection) {
     }
 }
 
-/* Whether who listens may be told what the connection's user keeps. Another thread may have taken another identity
- * since, and would trust its own daemon. */
-static bool may_be_told(const struct kr *connection) {
-    if (connection->place == KR_NAMED && connection->trusts_anybody) return true;
-    return kr_is_trusted(connection->place, connection->user, connection->peer_uid);
-}
-
-/* Who listens: not who owns a path, which may be turned. */
-static int check_peer(struct kr *connection) {
-    struct ucred peer;
-    socklen_t length = sizeof peer;
-    if (getsockopt(connection->socket.descriptor, SOL_SOCKET, SO_PEERCRED, &peer, &length) < 0) return -1;
-    connection->peer_uid = peer.uid;
-    connection->peer_gid = peer.gid;
-    connection->peer_pid = peer.pid;
-    return may_be_told(connection) ? 0 : fail_as(EACCES);
-}
-
+/* Who listens may be told what the connection's user keeps: not who owns a path, which may be turned. Another thread may
+ * have taken another identity since, and would trust its own daemon. */
 int kr_connect(struct kr *connection) {
-    return connect_in_time(connection) < 0 ? -1 : check_peer(connection);
+    const struct peer *peer = &connection->peer;
+    bool is_anybody = connection->place == KR_NAMED && connection->trusts_anybody;
+    if (connect_in_time(connection) < 0 || !find_peer(connection->socket.descriptor, &connection->peer)) return -1;
+    return is_anybody || kr_is_trusted(connection->place, connection->user, peer->uid) ? 0 : fail_as(EACCES);
 }
 
 struct kr *kr_open_with(const char *path, unsigned flags, int milliseconds) {
@@ -220,9 +198,9 @@ int kr_descriptor(const struct kr *connection) {
 }
 
 void kr_peer(const struct kr *connection, uint32_t *uid, uint32_t *gid, int32_t *pid) {
-    if (uid) *uid = connection->peer_uid;
-    if (gid) *gid = connection->peer_gid;
-    if (pid) *pid = connection->peer_pid;
+    if (uid) *uid = connection->peer.uid;
+    if (gid) *gid = connection->peer.gid;
+    if (pid) *pid = connection->peer.pid;
 }
 
 /* ---- Bytes ---- */
