@@ -23,11 +23,11 @@ int64_t kr_hello(struct kr *connection, uint32_t uid, uint32_t gid, uint32_t cou
     return NUMBER(KR_HELLO, 0, number(uid), number(gid), items(groups, count));
 }
 
-int64_t kr_thread(struct kr *connection, uint32_t context) { return NUMBER(KR_THREAD, context, number(0)); }
-int64_t kr_fork(struct kr *connection, uint32_t context) { return NUMBER(KR_FORK, context, number(0)); }
-int kr_exec(struct kr *connection, uint32_t context) { return NOTHING(KR_EXEC, context, number(0)); }
-int kr_exit(struct kr *connection, uint32_t context) { return NOTHING(KR_EXIT, context, number(0)); }
-int kr_leave(struct kr *connection) { return NOTHING(KR_LEAVE, 0, number(0)); }
+int64_t kr_thread(struct kr *connection, uint32_t context) { return NUMBER(KR_THREAD, context, { 0 }); }
+int64_t kr_fork(struct kr *connection, uint32_t context) { return NUMBER(KR_FORK, context, { 0 }); }
+int kr_exec(struct kr *connection, uint32_t context) { return NOTHING(KR_EXEC, context, { 0 }); }
+int kr_exit(struct kr *connection, uint32_t context) { return NOTHING(KR_EXIT, context, { 0 }); }
+int kr_leave(struct kr *connection) { return NOTHING(KR_LEAVE, 0, { 0 }); }
 
 /* ---- Keys and keyrings ---- */
 

@@ -22,24 +22,14 @@ int calls_begin(void) {
     return 0;
 }
 
-/* Which arguments are pointers, but for texts. */
-struct pointers {
-    const struct key_row *row;
-    int payload, room;  /* the argument that is one, or -1 */
-    unsigned long most; /* of the payload: a longer one is refused unread */
-};
-
-static struct pointers pointers_of(const struct key_row *row) {
-    return (struct pointers){ row, key_row_argument(row, KEY_PAYLOAD), key_row_argument(row, KEY_ROOM),
-                              row->most ? row->most : (unsigned long)sysconf(_SC_PAGESIZE) };
-}
-
 /* ---- Copying ---- */
 
-static bool copy_texts(const struct pointers *pointers, unsigned long *at) {
+static size_t least(unsigned long one, size_t other) { return one < other ? one : other; }
+
+static bool copy_texts(const struct key_row *row, unsigned long *at) {
     int count = 0;
     for (int i = 0; i < KEY_ARGUMENTS; i++) {
-        enum key_argument kind = pointers->row->at[i];
+        enum key_argument kind = row->at[i];
         if ((kind != KEY_TYPE && kind != KEY_TEXT) || !at[i]) continue;
         char *text = copies->texts[count++];
         size_t most = kind == KEY_TYPE ? TYPE_MAX : TEXT_MAX;
@@ -50,10 +40,10 @@ static bool copy_texts(const struct pointers *pointers, unsigned long *at) {
 }
 
 /* What no ask can hold is refused as too long by the library; it is told so by one byte too many. */
-static bool copy_payload(const struct pointers *pointers, unsigned long *at) {
-    if (pointers->payload < 0) return true;
-    unsigned long *from = &at[pointers->payload], *length = from + 1;
-    if (!*from || !*length) return true;
+static bool copy_payload(const struct key_row *row, unsigned long *at) {
+    int payload = key_row_argument(row, KEY_PAYLOAD);
+    if (payload < 0 || at[payload + 1] == 0) return true;
+    unsigned long *from = &at[payload], *length = from + 1;
     if (*length > PAYLOAD_MAX) *length = PAYLOAD_MAX;
     contexts_count(*length);
     if (!memory_read(&tracees_entered()->memory, copies->payload, *from, *length)) return false;
@@ -62,35 +52,32 @@ static bool copy_payload(const struct pointers *pointers, unsigned long *at) {
 }
 
 /* Puts the copies where the call has its pointers: 0, or -1 with errno. */
-static long copy_in(const struct pointers *pointers, unsigned long *at) {
-    if (pointers->payload >= 0 && at[pointers->payload + 1] > pointers->most) return fail_as(EINVAL);
-    if (!copy_texts(pointers, at) || !copy_payload(pointers, at)) return fail_as(EFAULT);
-    if (pointers->room >= 0 && at[pointers->room]) {
-        at[pointers->room] = (unsigned long)copies->room;
-        if (at[pointers->room + 1] > ROOM_MAX) at[pointers->room + 1] = ROOM_MAX;
-    }
+static long copy_in(const struct key_row *row, unsigned long *at) {
+    int room = key_row_argument(row, KEY_ROOM);
+    if (key_row_check_payload(row, at) < 0) return -1;
+    if (!copy_texts(row, at) || !copy_payload(row, at)) return fail_as(EFAULT);
+    if (room >= 0 && at[room]) at[room] = (unsigned long)copies->room;
+    if (room >= 0) at[room + 1] = least(at[room + 1], ROOM_MAX);
     return 0;
 }
 
 /* What the kernel would put there: all where there is room for it, else nothing; but of capabilities as much as there
  * is room for. */
-static long copy_out(const struct pointers *pointers, unsigned long to, unsigned long room, long result) {
+static long copy_out(const struct key_row *row, unsigned long to, unsigned long room, long result) {
     const struct entered *entered = tracees_entered();
-    if (pointers->room < 0 || result <= 0 || !to) return result;
+    if (result <= 0 || !to) return result;
     size_t length = (unsigned long)result <= room ? (size_t)result : 0;
-    if (pointers->row->call == KEYCTL_CAPABILITIES) length = room;
+    if (row->call == KEYCTL_CAPABILITIES) length = room;
     bool is_put = length == 0 || memory_write(&entered->memory, to, copies->room, length, entered->is_valid);
     return is_put ? result : fail_as(EFAULT);
 }
 
-static size_t least(unsigned long one, size_t other) { return one < other ? one : other; }
-
 /* `length` is what was answered before it was copied out. */
-static void wipe(const struct pointers *pointers, const unsigned long *at, long length) {
-    ERRNO_STAYS;
+static void wipe(const struct key_row *row, const unsigned long *at, long length) {
+    int payload = key_row_argument(row, KEY_PAYLOAD);
     for (int i = 0; i < TEXTS; i++) explicit_bzero(copies->texts[i], strlen(copies->texts[i]));
-    if (pointers->payload >= 0) explicit_bzero(copies->payload, least(at[pointers->payload + 1], PAYLOAD_MAX));
-    if (pointers->room >= 0 && length > 0) explicit_bzero(copies->room, least((unsigned long)length, ROOM_MAX));
+    if (payload >= 0) explicit_bzero(copies->payload, least(at[payload + 1], PAYLOAD_MAX));
+    if (key_row_argument(row, KEY_ROOM) >= 0 && length > 0) explicit_bzero(copies->room, least((unsigned long)length, ROOM_MAX));
 }
 
 /* ---- Answers that are kept ---- */
@@ -125,12 +112,11 @@ void replay_keep(struct replay *replay, const struct seccomp_data *call, const s
     replay->error = error;
 }
 
-static uint64_t sum_of(const struct pointers *pointers, const unsigned long *at) {
+static uint64_t sum_of(const struct key_row *row, const unsigned long *at) {
+    int payload = key_row_argument(row, KEY_PAYLOAD);
     uint64_t sum = 1;
     for (int i = 0; i < TEXTS; i++) sum = replay_sum(sum, copies->texts[i], strlen(copies->texts[i]) + 1);
-    if (pointers->payload >= 0 && at[pointers->payload] == (unsigned long)copies->payload)
-        sum = replay_sum(sum, copies->payload, at[pointers->payload + 1]);
-    return sum | 1;
+    return (payload < 0 ? sum : replay_sum(sum, copies->payload, at[payload + 1])) | 1;
 }
 
 /* ---- A call ---- */
@@ -153,16 +139,16 @@ static long answer(const struct key_row *row, const unsigned long *given, struct
 
 long call_carry_out(const struct key_row *row, const unsigned long given[KEY_ARGUMENTS],
                     const struct seccomp_data *data, uint64_t *sum) {
-    const struct pointers pointers = pointers_of(row);
     const struct entered *entered = tracees_entered();
+    int room = key_row_argument(row, KEY_ROOM);
     struct arguments arguments;
     memcpy(arguments.at, given, sizeof arguments.at);
-    long result = copy_in(&pointers, arguments.at);
-    *sum = result < 0 || key_row_only_reads(row, given) ? 0 : sum_of(&pointers, arguments.at);
+    long result = copy_in(row, arguments.at);
+    *sum = result < 0 || key_row_only_reads(row, given) ? 0 : sum_of(row, arguments.at);
     bool is_answered = replay_take(&entered->task->replay, data, &entered->asker.process, *sum, &result);
     if (result == 0 && !is_answered) result = answer(row, given, arguments);
     long length = result;
-    if (pointers.room >= 0) result = copy_out(&pointers, given[pointers.room], arguments.at[pointers.room + 1], result);
-    wipe(&pointers, arguments.at, length);
+    if (room >= 0) result = copy_out(row, given[room], arguments.at[room + 1], result);
+    wipe(row, arguments.at, length);
     return result;
 }

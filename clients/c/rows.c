@@ -69,6 +69,13 @@ int key_row_argument(const struct key_row *row, enum key_argument kind) {
     return -1;
 }
 
+long key_row_check_payload(const struct key_row *row, const unsigned long at[KEY_ARGUMENTS]) {
+    int payload = key_row_argument(row, KEY_PAYLOAD);
+    if (payload < 0 || at[payload + 1] == 0) return 0;
+    if (at[payload + 1] > (row->most ? row->most : (unsigned long)sysconf(_SC_PAGESIZE))) return fail_as(EINVAL);
+    return at[payload] ? 0 : fail_as(EFAULT);
+}
+
 bool key_row_only_reads(const struct key_row *row, const unsigned long at[KEY_ARGUMENTS]) {
     return row->effect == KEY_READS || (row->effect == KEY_READS_WITHOUT_RING && (int)at[row->ring] == 0);
 }

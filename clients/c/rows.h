@@ -42,6 +42,9 @@ bool key_row_names(const struct key_row *row, const unsigned long at[KEY_ARGUMEN
 /* The argument of this kind, or -1. */
 int key_row_argument(const struct key_row *row, enum key_argument kind);
 
+/* Whether a payload is there, and no longer than may be: 0; else -1 with errno. */
+long key_row_check_payload(const struct key_row *row, const unsigned long at[KEY_ARGUMENTS]);
+
 /* Whether a call of these arguments changes nothing. */
 bool key_row_only_reads(const struct key_row *row, const unsigned long at[KEY_ARGUMENTS]);
 

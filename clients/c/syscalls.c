@@ -29,14 +29,7 @@ static bool wants_session(const struct key_row *row, values at) {
     return row->wants_session || key_row_names(row, at, KEY_SPEC_SESSION_KEYRING);
 }
 
-/* The key of an authority and the keyring of its requestor, which nobody has here: the kernel finds no key. */
-static bool names_authority(const struct key_row *row, values at) {
-    return key_row_names(row, at, KEY_SPEC_REQKEY_AUTH_KEY) || key_row_names(row, at, KEY_SPEC_REQUESTOR_KEYRING);
-}
-
 /* ---- What is known without the daemon ---- */
-
-static size_t page_size(void) { return (size_t)sysconf(_SC_PAGESIZE); }
 
 long key_set_reqkey(int *chosen, int choice) {
     int before = *chosen;
@@ -53,27 +46,17 @@ static long assume_authority(int32_t id) {
     return fail_as(id < 0 ? EINVAL : ENOKEY);
 }
 
-static long check_add(values at) {
-    if (at[3] > key_row_of(CALL_ADD_KEY)->most) return fail_as(EINVAL);
-    return !at[0] || (at[3] && !at[2]) ? fail_as(EFAULT) : 0;
-}
-
 static long check_request(values at) {
     if (!at[0] || !at[1]) return fail_as(EFAULT);
-    return at[3] && strlen(text_of(at[3])) > page_size() - 1 ? fail_as(EINVAL) : 0;
-}
-
-static long check_update(values at) {
-    if (at[2] > page_size()) return fail_as(EINVAL);
-    return at[2] && !at[1] ? fail_as(EFAULT) : 0;
+    return at[3] && strlen(text_of(at[3])) >= (size_t)sysconf(_SC_PAGESIZE) ? fail_as(EINVAL) : 0;
 }
 
 /* What a kernel refuses before it looks at a key: 0 where it goes on. */
-static long check(int call, values at) {
-    switch (call) {
-    case CALL_ADD_KEY: return check_add(at);
+static long check(const struct key_row *row, values at) {
+    if (key_row_check_payload(row, at) < 0) return -1;
+    switch (row->call) {
+    case CALL_ADD_KEY: return !at[0] ? fail_as(EFAULT) : 0;
     case CALL_REQUEST_KEY: return check_request(at);
-    case KEYCTL_UPDATE: return check_update(at);
     case KEYCTL_SEARCH: return !at[1] || !at[2] ? fail_as(EFAULT) : 0;
     case KEYCTL_JOIN_SESSION_KEYRING: return at[0] && !*text_of(at[0]) ? fail_as(EINVAL) : 0;
     case KEYCTL_RESTRICT_KEYRING: return !at[1] != !at[2] ? fail_as(EINVAL) : 0;
@@ -208,17 +191,15 @@ static void know_serials(struct caller *caller, const struct key_row *row, value
         if (row->at[i] == KEY_ID) serials_add(caller->serials, id_of(at[i]));
 }
 
-/* Whether a call may have made a process keyring. */
-static bool may_have_made(const struct key_row *row, values at, long result) {
-    return key_row_names(row, at, KEY_SPEC_PROCESS_KEYRING) && (result >= 0 || errno != ENOKEY);
-}
-
 static long ask(struct caller *caller, const struct key_row *row, values at) {
     if ((caller->lost_session && wants_session(row, at)) || names_stale(caller, row, at)) return fail_as(EKEYREVOKED);
     make_special(caller, row, id_of(at[0]));
     long result = answer(caller, row->call, at);
     know_serials(caller, row, at, result);
-    return result < 0 && errno == EINVAL && names_authority(row, at) ? fail_as(ENOKEY) : result;
+    /* what nobody has here: the key of an authority, and the keyring of its requestor */
+    bool names_authority = key_row_names(row, at, KEY_SPEC_REQKEY_AUTH_KEY) ||
+                           key_row_names(row, at, KEY_SPEC_REQUESTOR_KEYRING);
+    return result < 0 && errno == EINVAL && names_authority ? fail_as(ENOKEY) : result;
 }
 
 long key_call_of_row(const struct key_row *row, struct arguments arguments) {
@@ -226,11 +207,11 @@ long key_call_of_row(const struct key_row *row, struct arguments arguments) {
     struct caller caller = { .names_thread = key_row_names(row, at, KEY_SPEC_THREAD_KEYRING),
                              .joins = row->call == KEYCTL_JOIN_SESSION_KEYRING };
     long result;
-    if (check(row->call, at) < 0) return -1;
+    if (check(row, at) < 0) return -1;
     if (is_answered_here(row, at, &result)) return result;
     if (!caller_enter(&caller)) return -1;
     result = ask(&caller, row, at);
-    caller.may_hold = may_have_made(row, at, result);
+    caller.may_hold = key_row_names(row, at, KEY_SPEC_PROCESS_KEYRING) && (result >= 0 || errno != ENOKEY);
     caller_leave(&caller, result);
     return result;
 }
