@@ -33,12 +33,20 @@ static inline int fail_as(int error) {
 #define ERRNO_STAYS int kept_errno __attribute__((cleanup(put_errno), unused)) = errno
 static inline void put_errno(const int *kept) { errno = *kept; }
 
-/* Takes an item, which is there, out of the list that begins there. */
+/* The first item of a list of which this holds, or NULL. */
+#define FIND(list, item, holds)                                   \
+    ({                                                            \
+        __typeof__(&*(list)) item = (list);                       \
+        while (item && !(holds)) item = item->next;               \
+        item;                                                     \
+    })
+
+/* Takes an item out of the list that begins there, if it is in it. */
 #define TAKE_OUT(list, item)                                      \
     do {                                                          \
-        __typeof__(item) *at_ = &(list);                          \
-        while (*at_ != (item)) at_ = &(*at_)->next;               \
-        *at_ = (item)->next;                                      \
+        __typeof__(list) *at_ = &(list);                          \
+        while (*at_ && *at_ != (item)) at_ = &(*at_)->next;       \
+        if (*at_) *at_ = (*at_)->next;                            \
     } while (0)
 
 /* Frees what was made in vain: NULL, and errno stays. */

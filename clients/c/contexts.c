@@ -67,11 +67,7 @@ void contexts_set_deadline(void) {
     }
 }
 
-static struct line *first_in_use(void) {
-    struct line *line = all.lines;
-    while (line && line->is_old) line = line->next;
-    return line;
-}
+static struct line *first_in_use(void) { return FIND(all.lines, line, !line->is_old); }
 
 int contexts_begin_call(void) {
     contexts_set_deadline();
@@ -80,9 +76,8 @@ int contexts_begin_call(void) {
 }
 
 int32_t contexts_daemon(void) {
-    for (const struct line *line = all.lines; line; line = line->next)
-        if (!kr_is_broken(line->connection)) return line->connection->peer.pid;
-    return -1;
+    const struct line *line = FIND(all.lines, at, !kr_is_broken(at->connection));
+    return line ? line->connection->peer.pid : -1;
 }
 
 unsigned contexts_beginnings(void) { return all.beginnings; }
@@ -99,18 +94,12 @@ void contexts_tidy(void) {
 static unsigned long long reads_of(const struct line *line) { return line->connection->asked + line->reads; }
 
 static struct line *find_worn(void) {
-    struct line *line = all.lines;
-    while (line && (line->is_old || reads_of(line) < line->most)) line = line->next;
-    return line;
+    return FIND(all.lines, line, !line->is_old && reads_of(line) >= line->most);
 }
 
 bool contexts_are_worn(void) { return find_worn() != NULL; }
 
-static struct line *find_line(unsigned age) {
-    struct line *line = all.lines;
-    while (line && line->age != age) line = line->next;
-    return line;
-}
+static struct line *find_line(unsigned age) { return FIND(all.lines, line, line->age == age); }
 
 /* Where there is no other connection it is tried again a while later. */
 int contexts_renew(void) {
@@ -119,7 +108,7 @@ int contexts_renew(void) {
         worn->most = reads_of(worn) + KEYRETAIN_READS / 100;
         return -1;
     }
-    struct line *before = worn->replaces ? find_line(worn->replaces) : NULL;
+    struct line *before = find_line(worn->replaces); /* none has the age 0 */
     if (before) close_line(before);
     worn->is_old = true;
     line->replaces = worn->age;
@@ -169,12 +158,6 @@ static int take(struct context *made, struct line *line, int64_t number, bool la
     return 0;
 }
 
-static struct line *find_for_identity(void) {
-    struct line *line = all.lines;
-    while (line && (line->is_old || line->lasting >= IDENTITIES)) line = line->next;
-    return line;
-}
-
 static int hello_on_further(struct context *made, const struct kr_identity *identity) {
     struct line *line = kr_now() < all.next_further ? NULL : open_line(FURTHER_MILLISECONDS);
     int64_t number = line ? kr_hello_as(line->connection, identity) : -1;
@@ -191,7 +174,8 @@ int context_hello(struct context *made, const struct kr_identity *identity) {
     struct line *line;
     int64_t number;
     if (!all.lines) return fail_as(ENOSYS);
-    while (!(line = find_for_identity()) && all.make_room(0)) continue;
+    do line = FIND(all.lines, at, !at->is_old && at->lasting < IDENTITIES);
+    while (!line && all.make_room(0));
     if (!line) return hello_on_further(made, identity);
     do number = kr_hello_as(line->connection, identity);
     while (again(line, number));

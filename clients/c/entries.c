@@ -106,14 +106,12 @@ struct process *add_process(pid_t id, int descriptor) {
 /* One whose number another may have is behind that one's; epoll(7) tells its end, and not before the call that is
  * served, as this may be its own. */
 struct process *find_process(pid_t id) {
-    struct process *process = *bucket_of(id);
-    while (process && process->id != id) process = process->next;
+    struct process *process = FIND(*bucket_of(id), at, at->id == id);
     return process && !proc_has_ended(process->descriptor) ? process : NULL;
 }
 
 struct task *find_task(const struct process *process, pid_t thread) {
-    struct task *task = process->tasks;
-    while (task && task->thread != thread) task = task->next;
+    struct task *task = FIND(process->tasks, at, at->thread == thread);
     if (!task || task->descriptor < 0 || !proc_has_ended(task->descriptor)) return task;
     end_task(task);
     return NULL;

@@ -48,17 +48,19 @@ bool seats_is_first_thread(void) {
     return thread.kind == FIRST;
 }
 
-/* Whether this thread is between the next two. A handler of a signal that forks there finds the lock taken by its own
+/* Whether this thread is behind LOCKED, up to the end of the block. A handler of a signal that forks there finds the lock taken by its own
  * thread, and must not wait for it. */
 static __thread volatile sig_atomic_t is_inside;
 
-static void lock(void) {
+#define LOCKED int locked __attribute__((cleanup(unlock), unused)) = lock()
+static int lock(void) {
     is_inside = 1;
-    pthread_mutex_lock(&process.lock);
+    return pthread_mutex_lock(&process.lock);
 }
 
-static void unlock(void) {
+static void unlock(const int *locked) {
     ERRNO_STAYS;
+    (void)locked;
     pthread_mutex_unlock(&process.lock);
     is_inside = 0;
 }
@@ -123,27 +125,24 @@ static void in_child(void) {
     if (!is_locked_for_fork) return;
     if (process.has_end_of_thread) pthread_setspecific(process.end_of_thread, NULL);
     thread.kind = FIRST;
-    if (thread.session) {
-        free(process.session);
-        process.session = thread.session;
-        thread.session = NULL;
-    }
+    if (!thread.session) return;
+    free(process.session);
+    process.session = thread.session;
+    thread.session = NULL;
 }
 
 /* A thread that returns can still be cancelled here, and would be with the lock in its hands. */
 static void at_end_of_thread(void *unused) {
     UNCANCELLED;
+    LOCKED;
     (void)unused;
-    lock();
     for (int i = 0; i < SEATS; i++) {
         struct seat *seat = &process.seats[i];
         if (seat->connection && seats_is_own(seat, &thread.own[i]))
             end_context(seat, thread.own[i].number);
         thread.own[i] = (struct thread_context){ 0 };
     }
-    unlock();
-    free(thread.session);
-    thread.session = NULL;
+    seats_set_own_session(NULL);
 }
 
 __attribute__((constructor)) static void begin(void) {
@@ -170,7 +169,7 @@ __attribute__((destructor)) static void end(void) {
     process.has_end_of_thread = false;
     for (int i = 0; i < SEATS; i++)
         if (!process.seats[i].is_busy) close_connection(&process.seats[i], false);
-    unlock();
+    unlock(NULL);
 }
 
 /* ---- Identity ---- */
@@ -263,21 +262,13 @@ static bool may_have(const struct kr_identity *identity, const struct seat *seat
 
 /* To who waited longest of those that may have it. */
 static void pass_on(struct seat *seat) {
-    struct waiter **at = &process.first;
-    while (*at && !may_have((*at)->identity, seat)) at = &(*at)->next;
-    struct waiter *next = *at;
+    struct waiter *next = FIND(process.first, waiter, may_have(waiter->identity, seat));
     seat->is_busy = next != NULL;
     if (!next) return;
-    *at = next->next;
+    TAKE_OUT(process.first, next);
     settle(seat, next->identity);
     next->seat = seat;
     pthread_cond_signal(&next->is_called);
-}
-
-static void leave_line(const struct waiter *waiter) {
-    struct waiter **at = &process.first;
-    while (*at && *at != waiter) at = &(*at)->next;
-    if (*at) *at = waiter->next;
 }
 
 /* Waits until a seat is passed on. NULL with ETIMEDOUT. */
@@ -289,14 +280,14 @@ static struct seat *wait_in_line(const struct kr_identity *identity, int64_t dea
     int error = 0;
     while (!self.seat && error == 0)
         error = pthread_cond_clockwait(&self.is_called, &process.lock, CLOCK_MONOTONIC, &end);
-    if (!self.seat) leave_line(&self);
+    if (!self.seat) TAKE_OUT(process.first, &self);
     pthread_cond_destroy(&self.is_called);
     errno = error;
     return self.seat;
 }
 
 struct seat *seats_take(const struct kr_identity *identity, int64_t deadline) {
-    lock();
+    LOCKED;
     struct seat *seat = choose(identity);
     if (!seat || seat->is_busy) {
         seat = wait_in_line(identity, deadline);
@@ -305,43 +296,35 @@ struct seat *seats_take(const struct kr_identity *identity, int64_t deadline) {
         seat->is_busy = true;
     }
     if (seat) seat->turn = ++process.turn;
-    unlock();
     return seat;
 }
 
 void seats_give_back(struct seat *seat, bool may_let_go) {
-    lock();
+    LOCKED;
     if (seat->connection) seat->connection->was_seen = false;
     end_contexts(seat);
     pass_on(seat);
     bool is_at_its_turn = seat->is_busy && seat->connection && seat->connection->asked < TURN;
     if (may_let_go && seat->connection && !is_at_its_turn) close_connection(seat, true);
-    unlock();
 }
 
 /* ---- The connection of a seat that is busy ---- */
 
 /* The socket is made under the lock, so that a child of fork(2) knows of it. */
 struct kr *seats_prepare(struct seat *seat) {
-    lock();
-    seat->connection = kr_prepare(&seat->where, 0, seat->identity.uid);
+    LOCKED;
     seat->shared.age = ++process.last_age;
-    unlock();
-    return seat->connection;
+    return seat->connection = kr_prepare(&seat->where, 0, seat->identity.uid);
 }
 
 int seats_begin_serials(struct seat *seat) {
-    lock();
-    int begun = serials_begin_anew(&seat->serials);
-    unlock();
-    return begun;
+    LOCKED;
+    return serials_begin_anew(&seat->serials);
 }
 
 void seats_drop(struct seat *seat, bool is_same_place) {
-    ERRNO_STAYS;
-    lock();
+    LOCKED;
     close_connection(seat, is_same_place);
-    unlock();
 }
 
 /* ---- This thread, and the process ---- */
@@ -353,9 +336,8 @@ bool seats_is_own(const struct seat *seat, const struct thread_context *own) {
 }
 
 void seats_has_own(struct seat *seat) {
-    lock();
+    LOCKED;
     seat->own++;
-    unlock();
     if (process.has_end_of_thread) pthread_setspecific(process.end_of_thread, &process);
 }
 
@@ -367,28 +349,23 @@ void seats_set_own_session(struct kr_session *session) {
 }
 
 bool seats_session(struct kr_session *session) {
-    lock();
-    bool has = process.session != NULL;
-    if (has) *session = *process.session;
-    unlock();
-    return has;
+    LOCKED;
+    if (process.session) *session = *process.session;
+    return process.session != NULL;
 }
 
 bool seats_may_let_go(const struct seat *seat) {
-    lock();
-    bool may = seat->own == 0 && (kr_has_file(&process.holder) || kr_has_file(&process.handed));
-    unlock();
-    return may;
+    LOCKED;
+    return seat->own == 0 && (kr_has_file(&process.holder) || kr_has_file(&process.handed));
 }
 
 void seats_set_session(struct kr_session *session, const struct kr_file *holder) {
-    lock();
+    LOCKED;
     struct kr_session *old_session = process.session;
     struct kr_file old_holder = process.holder;
     process.session = session;
     process.holder = *holder;
     process.handed.descriptor = -1;
-    unlock();
     kr_close_file(&old_holder);
     free(old_session);
 }

@@ -116,9 +116,7 @@ static int watch(int descriptor, void *source) {
 /* What a listener that is there twice has told would be waited for once more. */
 static bool is_there(int descriptor) {
     const pid_t self = getpid();
-    for (const struct listener *listener = all.listeners; listener; listener = listener->next)
-        if (syscall(SYS_kcmp, self, self, KCMP_FILE, descriptor, listener->descriptor) == 0) return true;
-    return false;
+    return FIND(all.listeners, at, syscall(SYS_kcmp, self, self, KCMP_FILE, descriptor, at->descriptor) == 0) != NULL;
 }
 
 /* It owns the descriptor. Linux 6.6 wakes the caller on the processor that has its answer; others don't know that. */
@@ -143,12 +141,6 @@ static void end_listener(struct listener *listener) {
     epoll_ctl(all.epoll, EPOLL_CTL_DEL, listener->descriptor, NULL);
     close_one(&listener->descriptor);
     free(listener);
-}
-
-static bool is_listener(const void *source) {
-    const struct listener *listener = all.listeners;
-    while (listener && listener != source) listener = listener->next;
-    return listener != NULL;
 }
 
 static void take_listener(void) {
@@ -186,7 +178,7 @@ static void wait_for_child(void) {
 /* ---- The loop ---- */
 
 static bool is_tracee(const void *source) {
-    return source != &all.signals && source != &all.more && !is_listener(source);
+    return source != &all.signals && source != &all.more && !FIND(all.listeners, listener, listener == source);
 }
 
 static void take_event(const struct epoll_event *event) {

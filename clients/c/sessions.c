@@ -42,12 +42,6 @@ static void end_session(struct session *session) {
     free(session);
 }
 
-static struct session *find_session(int32_t serial) {
-    struct session *session = all.sessions;
-    while (session && (session->serial != serial || session_is_lost(session))) session = session->next;
-    return session;
-}
-
 void sessions_forget(const void *beginner) {
     for (struct session *session = all.sessions; session; session = session->next)
         if (session->beginner == beginner) session->beginner = NULL;
@@ -103,7 +97,7 @@ struct session *session_join(struct context *context, struct user *user, const c
     if (!connection || kr_name_session(&named, name) < 0) return NULL;
     int32_t serial = kr_join(connection, context->number, named.name);
     if (serial < 0) return NULL;
-    struct session *session = find_session(serial);
+    struct session *session = FIND(all.sessions, at, at->serial == serial && !session_is_lost(at));
     if (session && session->user->identity.uid == user->identity.uid) return session;
     bool is_own = !session && is_own_session(context, serial, name, user->identity.uid);
     if (is_own && (session = add_session(context, user, serial, named.name, begun)) != NULL) return session;
@@ -148,11 +142,7 @@ int session_enter(struct context *made, struct user *user, const struct session 
 
 /* ---- Tags ---- */
 
-struct session *session_of_tag(uint64_t soft) {
-    struct session *session = all.sessions;
-    while (session && session->tag != soft) session = session->next;
-    return session;
-}
+struct session *session_of_tag(uint64_t soft) { return FIND(all.sessions, session, session->tag == soft); }
 
 /* The tag of the session before would say what isn't so any more. */
 void session_put_tag(pid_t process, const struct session *session) {

@@ -17,8 +17,7 @@ static struct user *add_user(const struct kr_identity *identity) {
 }
 
 struct user *users_find(const struct kr_identity *identity) {
-    struct user *user = all;
-    while (user && memcmp(&user->identity, identity, sizeof *identity) != 0) user = user->next;
+    struct user *user = FIND(all, at, memcmp(&at->identity, identity, sizeof *identity) == 0);
     if (!user) return add_user(identity);
     user->absent = 0;
     user_use(user); /* what is given up to make room isn't this one */
@@ -41,10 +40,8 @@ void user_let_go(struct user *user) {
 /* ---- Giving up ---- */
 
 static bool is_kept_by_another(const struct user *user) {
-    for (const struct user *other = all; other; other = other->next)
-        if (other != user && other->identity.uid == user->identity.uid && context_connection(&other->context))
-            return true;
-    return false;
+    return FIND(all, other, other != user && other->identity.uid == user->identity.uid &&
+                                context_connection(&other->context)) != NULL;
 }
 
 /* The user-session keyring has a link to the user keyring, and nothing else at first. */
@@ -63,11 +60,7 @@ static void end_user(struct user *user) {
 
 static bool may_be_given_up(const struct user *user) { return user->uses == 0 && !user->has_keys; }
 
-bool users_want_sweep(void) {
-    const struct user *user = all;
-    while (user && !may_be_given_up(user)) user = user->next;
-    return user != NULL;
-}
+bool users_want_sweep(void) { return FIND(all, user, may_be_given_up(user)) != NULL; }
 
 void users_sweep(void) {
     for (struct user *user = all, *next; user; user = next) {
