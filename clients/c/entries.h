@@ -128,6 +128,14 @@ bool entries_are_many(void);
 bool entries_want_sweep(void);
 void entries_sweep(void);
 
+/* The first seat of a thread of which this holds, or NULL. */
+#define FIND_SEAT(task, at, holds)                                               \
+    ({                                                                           \
+        struct seat *at = (task)->seats, *end_ = (task)->seats + (task)->count;  \
+        while (at < end_ && !(holds)) at++;                                      \
+        at < end_ ? at : NULL;                                                   \
+    })
+
 /* ---- task_contexts.c: the contexts of threads ----
  *
  * A thread has one for each identity in which it has asked. It is given up for another's where it has no thread and no

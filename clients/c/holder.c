@@ -95,22 +95,14 @@ static int read_line(int from, char *text, size_t room, int64_t deadline) {
     }
 }
 
-/* Takes SERIAL:NAME, which a line of the answer says. */
-static bool take_session(struct kr_session *session, char *text) {
-    struct kr_session said;
-    text[strcspn(text, "\n")] = '\0';
-    bool is_one = kr_parse_session(&said, text) && said.serial > 0;
-    if (is_one) *session = said;
-    return is_one;
-}
-
 /* `SERIAL:NAME`, or `refused ERROR WHAT`, or `failed ERROR WHAT`. */
 static int read_answer(int from, struct kr_session *session, int64_t deadline, enum kr_refusal *why) {
     char text[KR_SESSION_NAME_ROOM + KR_PATH_ROOM + 64];
     int error;
     *why = KR_NO_KEEPER;
     if (read_line(from, text, sizeof text, deadline) < 0) return -1;
-    if (take_session(session, text)) return 0;
+    text[strcspn(text, "\n")] = '\0';
+    if (kr_parse_session(session, text) && session->serial > 0) return 0;
     *why = strncmp(text, "refused ", 8) == 0 ? KR_REFUSED : KR_NO_DAEMON;
     errno = sscanf(text, "%*s %d", &error) == 1 && error > 0 ? error : EPROTO;
     return -1;

@@ -50,25 +50,16 @@ static bool end_with(pid_t parent) { return prctl(PR_SET_PDEATHSIG, SIGKILL) == 
 
 /* ---- The program ---- */
 
-/* Linux 6.3 wants to be told that it is to be executed; others don't know that. */
-static int make_file(void) {
-    int file = memfd_create("keyretaind", MFD_CLOEXEC | MFD_EXEC);
-    return file < 0 && errno == EINVAL ? memfd_create("keyretaind", MFD_CLOEXEC) : file;
-}
-
-static bool copy_all(int from, int to) {
-    ssize_t copied;
-    while ((copied = sendfile(to, from, NULL, COPIED_AT_ONCE)) > 0) continue;
-    return copied == 0 && fchmod(to, S_IXUSR) == 0;
-}
-
 /* A copy in memory that may be executed and not read, unless by who has the capabilities for that. What executes it
- * can't be dumped or traced by others of its uid, as those of another container may be. -1 where there is none. */
+ * can't be dumped or traced by others of its uid, as those of another container may be. -1 where there is none. Linux
+ * 6.3 wants to be told that it is to be executed; others don't know that. */
 static int copy_program(const char *path) {
-    int program = open(path, O_RDONLY | O_CLOEXEC), copy = program < 0 ? -1 : make_file();
-    bool is_copied = copy >= 0 && copy_all(program, copy);
+    int program = open(path, O_RDONLY | O_CLOEXEC), copy = memfd_create("keyretaind", MFD_CLOEXEC | MFD_EXEC);
+    ssize_t copied;
+    if (copy < 0 && errno == EINVAL) copy = memfd_create("keyretaind", MFD_CLOEXEC);
+    while ((copied = sendfile(copy, program, NULL, COPIED_AT_ONCE)) > 0) continue;
+    if (copied < 0 || fchmod(copy, S_IXUSR) < 0) close_one(&copy);
     close_one(&program);
-    if (!is_copied) close_one(&copy);
     return copy;
 }
 
@@ -145,12 +136,6 @@ static void keep_descriptors(const struct container *container) {
     closefrom(KEPT);
 }
 
-static void reset_signals(void) {
-    sigset_t none;
-    sigemptyset(&none);
-    sigprocmask(SIG_SETMASK, &none, NULL);
-}
-
 /* Serves the container until its last listener has gone, and ends the process: with 0 then, and else with FAILED. It
  * is a child of the agent, with which it ends. */
 static _Noreturn void serve_container(const struct container *container, pid_t agent) {
@@ -158,10 +143,12 @@ static _Noreturn void serve_container(const struct container *container, pid_t a
     const struct serve_settings settings = {
         .tracees = { .socket = container->path, .name = name, .is_container = true, .first = container->first },
         .more = LISTENERS };
+    sigset_t none;
+    sigemptyset(&none);
     snprintf(name, sizeof name, "_ses.%s", container->id);
     if (!end_with(agent)) _exit(FAILED);
     keep_descriptors(container);
-    reset_signals();
+    sigprocmask(SIG_SETMASK, &none, NULL);
     start_daemon(container);
     int listener = serve_receive_listener(LISTENERS);
     if (listener < 0) fail(container, "its listener");

@@ -59,12 +59,9 @@ static _Noreturn void fail_usage(void) {
 }
 
 static unsigned number(const char *text, unsigned long least, unsigned long most) {
-    char *end;
-    errno = 0;
-    unsigned long value = strtoul(text, &end, 10);
-    bool is_one = *text >= '0' && *text <= '9' && !*end && !errno && value >= least && value <= most;
-    if (!is_one) fprintf(stderr, "keyretain-agent: no number from %lu to %lu: %s\n", least, most, text);
-    if (!is_one) fail_usage();
+    int64_t value = number_in(text, 10, least, most);
+    if (value < 0) fprintf(stderr, "keyretain-agent: no number from %lu to %lu: %s\n", least, most, text);
+    if (value < 0) fail_usage();
     return (unsigned)value;
 }
 
@@ -129,12 +126,6 @@ static void end_visit(struct visitor *visitor) {
 /* ---- Receiving ---- */
 
 /* False where there are more than may come; these are closed. */
-static bool keep_descriptor(struct visitor *visitor, int descriptor) {
-    if (visitor->count == VISITOR_DESCRIPTORS_MAX) return close(descriptor), false;
-    visitor->descriptors[visitor->count++] = descriptor;
-    return true;
-}
-
 static bool keep_descriptors(struct visitor *visitor, struct msghdr *message) {
     bool all_kept = !(message->msg_flags & MSG_CTRUNC);
     for (struct cmsghdr *head = CMSG_FIRSTHDR(message); head; head = CMSG_NXTHDR(message, head)) {
@@ -142,7 +133,9 @@ static bool keep_descriptors(struct visitor *visitor, struct msghdr *message) {
         for (size_t at = CMSG_LEN(0); at + sizeof(int) <= head->cmsg_len; at += sizeof(int)) {
             int descriptor;
             memcpy(&descriptor, (const char *)head + at, sizeof descriptor);
-            all_kept = keep_descriptor(visitor, descriptor) && all_kept;
+            all_kept = all_kept && visitor->count < VISITOR_DESCRIPTORS_MAX;
+            if (all_kept) visitor->descriptors[visitor->count++] = descriptor;
+            if (!all_kept) close(descriptor);
         }
     }
     return all_kept;

@@ -12,7 +12,7 @@
 #include "../../guard/listener.h"
 
 enum { REFUSED = 1, USAGE = 2, NO_CONNECTION = 3 };
-enum { PATIENCE_MILLISECONDS = 10000, PATIENCE_DIGITS = 6, LOOK_MILLISECONDS = 1000 };
+enum { PATIENCE_MILLISECONDS = 10000, LONGEST_PATIENCE = 999999, LOOK_MILLISECONDS = 1000 };
 enum { SERIAL_WIDTH = 4, DECIMAL = 10 };
 
 static const char usage[] =
@@ -45,14 +45,6 @@ static void refuse_words(const char *why, const char *word) {
     exit(USAGE);
 }
 
-/* Digits alone: 1 to 999999. */
-static int read_patience(const char *digits) {
-    size_t length = strspn(digits, "0123456789");
-    int milliseconds = digits[length] == '\0' && length <= PATIENCE_DIGITS ? (int)strtol(digits, NULL, DECIMAL) : 0;
-    if (milliseconds == 0) refuse_words("--patience is 1 to 999999", digits);
-    return milliseconds;
-}
-
 /* A line of the answer holds a name, so none may have an end of line in it. */
 static struct options read_options(char **words) {
     struct options options = { .milliseconds = PATIENCE_MILLISECONDS, .links_user = true };
@@ -73,7 +65,8 @@ static struct options read_options(char **words) {
         *value = *++words;
     }
     if (options.name && options.ring) refuse_words("either --name or --hold", options.name);
-    if (options.patience) options.milliseconds = read_patience(options.patience);
+    if (options.patience) options.milliseconds = (int)number_in(options.patience, DECIMAL, 1, LONGEST_PATIENCE);
+    if (options.milliseconds < 0) refuse_words("--patience is 1 to 999999", options.patience);
     return options;
 }
 

@@ -231,16 +231,13 @@ static void begin(const char *name, const char *path, struct kr_session *session
 }
 
 /* A login without a session has the variable too, and empty. */
-static _Noreturn void refuse_to_join(void) {
+static void find_session(struct kr_session *session) {
+    const char *text = getenv(KR_SESSION_VARIABLE);
+    if (text && kr_parse_session(session, text) && session->serial > 0) return;
     fputs("keyretain-session: there is no session to join: " KR_SESSION_VARIABLE " names none\n"
           "keyretain-session: logins have one by pam_keyretain(8); keyretain-session without --join begins one\n",
           stderr);
     exit(REFUSED);
-}
-
-static void find_session(struct kr_session *session) {
-    const char *text = getenv(KR_SESSION_VARIABLE);
-    if (!text || !kr_parse_session(session, text) || session->serial == 0) refuse_to_join();
 }
 
 /* What a key holds, for the command alone: neither it nor what it is found by has a null byte. */

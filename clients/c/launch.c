@@ -144,28 +144,20 @@ static void end_as(int status) {
     exit(128 + WTERMSIG(status));
 }
 
-static bool read_report(int reports, struct report *report) {
-    return TEMP_FAILURE_RETRY(read(reports, report, sizeof *report)) == (ssize_t)sizeof *report;
-}
-
-/* Without the supervisor the command goes on, without keys, and is this process's child once that has ended. */
-static void wait_without(pid_t supervisor) {
-    int status;
-    TEMP_FAILURE_RETRY(waitpid(supervisor, &status, 0));
-    if (command_process > 0 && TEMP_FAILURE_RETRY(waitpid(command_process, &status, 0)) > 0) end_as(status);
-    exit(NO_CONNECTION);
-}
-
+/* Where the supervisor is gone the command goes on, without keys, and is this process's child then. */
 static void wait_for_command(pid_t supervisor, int reports, const char *path, const char *name) {
     struct report report;
-    while (read_report(reports, &report)) {
+    int status;
+    while (TEMP_FAILURE_RETRY(read(reports, &report, sizeof report)) == (ssize_t)sizeof report) {
         errno = report.error;
         if (report.kind == FAILED) fail(report.value, report.value == REFUSED && name ? name : path);
         if (report.kind == ENDED) end_as(report.value);
         command_process = report.value;
         handle_signals();
     }
-    wait_without(supervisor);
+    TEMP_FAILURE_RETRY(waitpid(supervisor, &status, 0));
+    if (command_process > 0 && TEMP_FAILURE_RETRY(waitpid(command_process, &status, 0)) > 0) end_as(status);
+    exit(NO_CONNECTION);
 }
 
 /* ---- Beginning ---- */

@@ -10,7 +10,6 @@ enum { OVERFLOW_ID = 65534, RANGE_LETTERS = 34 };
 
 static struct {
     struct map uids, gids;
-    bool is_ours; /* then nothing is mapped */
     unsigned unknown, length;
     struct stat namespace;
 } all;
@@ -92,35 +91,35 @@ static bool read_maps_of(int namespace, pid_t first) {
 }
 
 void maps_begin(pid_t first) {
+    static const struct map ours = { .count = 1, .ranges = { { 0, 0, UINT32_MAX } } }; /* ids are read as they are here */
     all.unknown = read_unknown();
-    all.is_ours = find_namespace(getpid(), &all.namespace) == 0;
     all.length = read_map(getpid(), "uid_map", &all.uids) ? length_of(&all.uids) : 0;
-    int outermost = first > 0 && all.is_ours ? open_outermost(first, &all.namespace) : -1;
+    if (find_namespace(getpid(), &all.namespace) < 0) return;
+    all.uids = all.gids = ours;
+    int outermost = first > 0 ? open_outermost(first, &all.namespace) : -1;
     if (outermost < 0) return;
-    all.is_ours = false;
     if (fstat(outermost, &all.namespace) < 0 || !read_maps_of(outermost, first)) all.uids.count = all.gids.count = 0;
     all.length = length_of(&all.uids);
     close(outermost);
 }
 
-static bool have(const struct map *map, unsigned id) {
+/* The range that an id is in; NULL for none. */
+static const struct range *find_range(const struct map *map, unsigned id) {
     for (unsigned i = 0; i < map->count; i++)
-        if (id - map->ranges[i].outside < map->ranges[i].length) return true;
-    return all.is_ours;
+        if (id - map->ranges[i].outside < map->ranges[i].length) return &map->ranges[i];
+    return NULL;
 }
 
-bool maps_have_uid(unsigned uid) { return have(&all.uids, uid); }
-bool maps_have_gid(unsigned gid) { return have(&all.gids, gid); }
+bool maps_have_uid(unsigned uid) { return find_range(&all.uids, uid); }
+bool maps_have_gid(unsigned gid) { return find_range(&all.gids, gid); }
 
 unsigned map_to_inside(const struct map *map, unsigned id, unsigned unknown) {
-    for (unsigned i = 0; i < map->count; i++)
-        if (id - map->ranges[i].outside < map->ranges[i].length)
-            return id - map->ranges[i].outside + map->ranges[i].inside;
-    return unknown;
+    const struct range *range = find_range(map, id);
+    return range ? id - range->outside + range->inside : unknown;
 }
 
-unsigned maps_uid(unsigned uid) { return all.is_ours ? uid : map_to_inside(&all.uids, uid, all.unknown); }
-unsigned maps_gid(unsigned gid) { return all.is_ours ? gid : map_to_inside(&all.gids, gid, all.unknown); }
+unsigned maps_uid(unsigned uid) { return map_to_inside(&all.uids, uid, all.unknown); }
+unsigned maps_gid(unsigned gid) { return map_to_inside(&all.gids, gid, all.unknown); }
 unsigned maps_unknown(void) { return all.unknown; }
 unsigned maps_length(void) { return all.length; }
 

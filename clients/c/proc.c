@@ -18,14 +18,11 @@ int proc_open_file(pid_t id, const char *name, int flags) {
     return open(path, flags | O_CLOEXEC);
 }
 
-/* Puts the first bytes of a file as a text, and whose it is where that is wanted; false for none. Closes it. */
-static bool read_file(int file, char *text, size_t room, uint32_t *owner) {
-    struct stat status = { .st_uid = UINT32_MAX };
+/* Puts the first bytes of a file as a text; false for none. Closes it. */
+static bool read_file(int file, char *text, size_t room) {
     size_t length = 0;
     ssize_t got = 0;
     if (file < 0) return false;
-    if (owner && fstat(file, &status) < 0) status.st_uid = UINT32_MAX;
-    if (owner) *owner = status.st_uid;
     while (length < room - 1 && (got = read(file, text + length, room - 1 - length)) > 0) length += (size_t)got;
     close(file);
     text[length] = '\0';
@@ -33,7 +30,7 @@ static bool read_file(int file, char *text, size_t room, uint32_t *owner) {
 }
 
 bool proc_read(pid_t id, const char *name, char *text, size_t room) {
-    return read_file(proc_open_file(id, name, O_RDONLY), text, room, NULL);
+    return read_file(proc_open_file(id, name, O_RDONLY), text, room);
 }
 
 /* ---- status ---- */
@@ -68,9 +65,11 @@ static bool read_groups(const char *text, struct proc_status *status) {
 bool proc_read_status(pid_t thread, struct proc_status *status) {
     char text[4096];
     unsigned process;
+    struct stat of_file;
+    int file = proc_open_file(thread, "status", O_RDONLY);
     memset(status, 0, sizeof *status);
-    if (!read_file(proc_open_file(thread, "status", O_RDONLY), text, sizeof text, &status->owner) ||
-        !read_number(text, "\nTgid:", &process) ||
+    status->owner = fstat(file, &of_file) == 0 ? of_file.st_uid : UINT32_MAX;
+    if (!read_file(file, text, sizeof text) || !read_number(text, "\nTgid:", &process) ||
         !read_ids(text, "\nUid:", &status->uids) || !read_ids(text, "\nGid:", &status->gids) ||
         !read_groups(text, status))
         return false;
@@ -85,7 +84,7 @@ bool proc_read_status(pid_t thread, struct proc_status *status) {
 bool proc_is_ours(void) {
     char text[4096];
     int number, within;
-    if (!read_file(open("/proc/self/status", O_RDONLY | O_CLOEXEC), text, sizeof text, NULL)) return false;
+    if (!read_file(open("/proc/self/status", O_RDONLY | O_CLOEXEC), text, sizeof text)) return false;
     const char *at = find_field(text, "\nNStgid:");
     errno = ESRCH;
     return !at || (sscanf(at, "%d %d", &number, &within) == 1 && number == getpid());

@@ -16,7 +16,7 @@
 #define SECCOMP_USER_NOTIF_FD_SYNC_WAKE_UP 1ul
 #endif
 
-enum { EVENTS = 16, SWEEP_MILLISECONDS = 1000 };
+enum { EVENTS = 16, SWEEP_MILLISECONDS = 1000, ROOM = 512 };
 
 struct listener {
     int descriptor;
@@ -29,30 +29,35 @@ static struct {
     struct listener *listeners;
     bool has_told; /* how the child ended */
     int64_t next_sweep;
-    /* the call that is served */
-    int listener;
-    struct seccomp_notif *notification;
-    struct seccomp_notif_resp *reply;
-    size_t notification_room, reply_room;
+    int listener; /* of the call that is served */
+    /* a newer kernel's may be longer than those that are known here */
+    union {
+        struct seccomp_notif notification;
+        char notification_room[ROOM];
+    };
+    union {
+        struct seccomp_notif_resp reply;
+        char reply_room[ROOM];
+    };
 } all;
 
 /* ---- A call ---- */
 
-static bool is_valid(void) { return ioctl(all.listener, SECCOMP_IOCTL_NOTIF_ID_VALID, &all.notification->id) == 0; }
+static bool is_valid(void) { return ioctl(all.listener, SECCOMP_IOCTL_NOTIF_ID_VALID, &all.notification.id) == 0; }
 
 /* ENOENT: nobody waits for it any more. */
 static bool reply(long result, int error) {
-    memset(all.reply, 0, all.reply_room);
-    all.reply->id = all.notification->id;
+    memset(all.reply_room, 0, ROOM);
+    all.reply.id = all.notification.id;
     if (result < 0)
-        all.reply->error = -error;
+        all.reply.error = -error;
     else
-        all.reply->val = result;
-    return ioctl(all.listener, SECCOMP_IOCTL_NOTIF_SEND, all.reply) == 0;
+        all.reply.val = result;
+    return ioctl(all.listener, SECCOMP_IOCTL_NOTIF_SEND, &all.reply) == 0;
 }
 
 static void answer_entered(const struct key_row *row, const unsigned long given[KEY_ARGUMENTS]) {
-    const struct seccomp_data *data = &all.notification->data;
+    const struct seccomp_data *data = &all.notification.data;
     const struct entered *entered = tracees_entered();
     uint64_t sum;
     long result = call_carry_out(row, given, data, &sum);
@@ -65,9 +70,9 @@ static void answer_entered(const struct key_row *row, const unsigned long given[
 /* What can't be looked into is answered as where no daemon is: never by the kernel's keys. */
 static void answer(void) {
     unsigned long given[KEY_ARGUMENTS];
-    int call = filter_decode(&all.notification->data, given);
+    int call = filter_decode(&all.notification.data, given);
     const struct key_row *row = key_row_of(call);
-    if (call >= 0 && all.notification->pid != 0 && tracees_enter((pid_t)all.notification->pid, row, given, is_valid))
+    if (call >= 0 && all.notification.pid != 0 && tracees_enter((pid_t)all.notification.pid, row, given, is_valid))
         answer_entered(row, given);
     else
         reply(-1, ENOSYS);
@@ -76,8 +81,8 @@ static void answer(void) {
 /* ENOENT: it was killed before it was received. */
 static void take_notification(int listener) {
     all.listener = listener;
-    memset(all.notification, 0, all.notification_room);
-    if (ioctl(listener, SECCOMP_IOCTL_NOTIF_RECV, all.notification) == 0) answer();
+    memset(all.notification_room, 0, ROOM);
+    if (ioctl(listener, SECCOMP_IOCTL_NOTIF_RECV, &all.notification) == 0) answer();
 }
 
 /* ---- Listeners ---- */
@@ -238,19 +243,6 @@ int serve_protect(void) {
     return setrlimit(RLIMIT_NOFILE, &descriptors);
 }
 
-/* A newer kernel's notifications may be longer than those that are known here. */
-static int make_room(void) {
-    struct seccomp_notif_sizes sizes;
-    if (syscall(SYS_seccomp, SECCOMP_GET_NOTIF_SIZES, 0, &sizes) < 0) return -1;
-    all.notification_room = sizes.seccomp_notif;
-    all.reply_room = sizes.seccomp_notif_resp;
-    if (all.notification_room < sizeof *all.notification) all.notification_room = sizeof *all.notification;
-    if (all.reply_room < sizeof *all.reply) all.reply_room = sizeof *all.reply;
-    all.notification = calloc(1, all.notification_room);
-    all.reply = calloc(1, all.reply_room);
-    return all.notification && all.reply ? calls_begin() : -1;
-}
-
 static int watch_children(void) {
     sigset_t set;
     sigemptyset(&set);
@@ -261,9 +253,12 @@ static int watch_children(void) {
 }
 
 static int begin(int listener) {
+    struct seccomp_notif_sizes sizes;
+    if (syscall(SYS_seccomp, SECCOMP_GET_NOTIF_SIZES, 0, &sizes) < 0) return -1;
+    if (sizes.seccomp_notif > ROOM || sizes.seccomp_notif_resp > ROOM) return fail_as(EMSGSIZE);
     all.more = all.settings->more;
     all.epoll = epoll_create1(EPOLL_CLOEXEC);
-    if (all.epoll < 0 || make_room() < 0 || watch_children() < 0) return -1;
+    if (all.epoll < 0 || calls_begin() < 0 || watch_children() < 0) return -1;
     if (all.more >= 0 && watch(all.more, &all.more) < 0) return -1;
     return add_listener(listener);
 }

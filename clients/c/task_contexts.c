@@ -20,28 +20,21 @@ void end_seats(struct task *task) {
     while (task->count > 0) drop_seat(task, task->count - 1);
 }
 
-/* Those whose connection has ended. */
-static void drop_ended_seats(struct task *task) {
-    for (unsigned i = task->count; i > 0; i--)
-        if (!context_connection(&task->seats[i - 1].context)) drop_seat(task, i - 1);
-}
-
 static bool is_made_for(const struct seat *seat, const struct asker *asker) {
     return seat->is_elsewhere == asker->is_elsewhere &&
            memcmp(&seat->made_for, &asker->process, sizeof asker->process) == 0;
 }
 
+/* Those whose connection has ended are dropped. */
 struct seat *find_seat(struct task *task, const struct user *user, const struct asker *asker) {
-    drop_ended_seats(task);
-    for (struct seat *seat = task->seats; seat < task->seats + task->count; seat++)
-        if (seat->user == user && (seat->has_joined || is_made_for(seat, asker))) return seat;
-    return NULL;
+    for (unsigned i = task->count; i > 0; i--)
+        if (!context_connection(&task->seats[i - 1].context)) drop_seat(task, i - 1);
+    return FIND_SEAT(task, seat, seat->user == user && (seat->has_joined || is_made_for(seat, asker)));
 }
 
 static struct seat *find_in_session(struct task *task, const struct user *user, struct admitted admitted) {
-    for (struct seat *seat = task->seats; seat < task->seats + task->count; seat++)
-        if (seat->user == user && seat->session == admitted.session && seat->is_lost == admitted.is_lost) return seat;
-    return NULL;
+    return FIND_SEAT(task, seat, seat->user == user && seat->session == admitted.session &&
+                                     seat->is_lost == admitted.is_lost);
 }
 
 /* A place for one more; the one that asked longest ago makes room, but for the first. */
@@ -62,12 +55,6 @@ static struct seat *have_first_seat(struct task *first, struct user *user, struc
     return add_seat(first, &made);
 }
 
-static struct seat *find_of_user(struct task *task, const struct user *user) {
-    for (struct seat *seat = task->seats; seat < task->seats + task->count; seat++)
-        if (seat->user == user) return seat;
-    return NULL;
-}
-
 /* A context that shares another one's process keyring is in that one's session at first. */
 static bool bring(struct seat *made, const struct seat *root) {
     if (root->session == made->session && root->is_lost == made->is_lost) return true;
@@ -79,7 +66,7 @@ static bool bring(struct seat *made, const struct seat *root) {
 /* A thread that isn't the first shares that one's process keyring. */
 static struct seat *have_task_seat(struct task *task, struct user *user, struct admitted admitted) {
     struct task *first = task->process->first;
-    struct seat *seat = find_in_session(task, user, admitted), *root = find_of_user(first, user);
+    struct seat *seat = find_in_session(task, user, admitted), *root = FIND_SEAT(first, at, at->user == user);
     struct seat made = { .user = user, .session = admitted.session, .is_lost = admitted.is_lost };
     if (seat) return seat;
     if (!root) root = have_first_seat(first, user, admitted);
@@ -126,30 +113,19 @@ void bring_seats(struct task *task, struct session *session) {
 
 /* ---- Giving up ---- */
 
-static bool has_keyring(const struct task *task, int32_t id) {
-    for (unsigned i = 0; i < task->count; i++)
-        if (context_has_keyring(&task->seats[i].context, id)) return true;
-    return false;
+static bool has_keyring(struct task *task, int32_t id) {
+    return FIND_SEAT(task, seat, context_has_keyring(&seat->context, id)) != NULL;
 }
 
 static bool process_has_state(const struct process *process) {
-    if (!process->may_have_keyrings) return false;
-    for (struct task *task = process->tasks; task; task = task->next)
-        if (has_keyring(task, KEY_SPEC_THREAD_KEYRING) || has_keyring(task, KEY_SPEC_PROCESS_KEYRING)) return true;
-    return false;
+    return process->may_have_keyrings &&
+           FIND(process->tasks, task, has_keyring(task, KEY_SPEC_THREAD_KEYRING) ||
+                                          has_keyring(task, KEY_SPEC_PROCESS_KEYRING));
 }
 
 /* Whether it has a context on the connection of this age, or of any for 0. */
-static bool has_seat(const struct task *task, unsigned age) {
-    for (unsigned i = 0; i < task->count; i++)
-        if (age == 0 || task->seats[i].context.age == age) return true;
-    return false;
-}
-
-static bool has_seats(const struct process *process, unsigned age) {
-    for (struct task *task = process->tasks; task; task = task->next)
-        if (has_seat(task, age)) return true;
-    return false;
+static bool has_seat(struct task *task, unsigned age) {
+    return FIND_SEAT(task, seat, age == 0 || seat->context.age == age) != NULL;
 }
 
 static void end_all_seats(struct process *process) {
@@ -158,7 +134,7 @@ static void end_all_seats(struct process *process) {
 
 static bool end_idle_process(unsigned age, const struct task *asking) {
     for (struct process *process = entries_oldest(); process; process = entries_next(process)) {
-        bool is_idle = (!asking || process != asking->process) && has_seats(process, age);
+        bool is_idle = (!asking || process != asking->process) && FIND(process->tasks, task, has_seat(task, age));
         if (!is_idle || process_has_state(process)) continue;
         end_all_seats(process);
         return true;

@@ -69,20 +69,16 @@ static struct task *have_entry(pid_t thread) {
     return task;
 }
 
-static bool has_joined(const struct task *task) {
-    for (unsigned i = 0; i < task->count; i++)
-        if (task->seats[i].has_joined) return true;
-    return false;
-}
+static struct seat *find_joined(struct task *task) { return FIND_SEAT(task, seat, seat->has_joined); }
 
 /* The user keyrings are the real uid's, and so is a session that is begun. Whoever has joined one itself is asked as
  * then where it names that, by a number too. */
-static bool is_of_user(const struct task *task, const struct key_row *row, const unsigned long *given) {
+static bool is_of_user(struct task *task, const struct key_row *row, const unsigned long *given) {
     if (row->is_of_user || key_row_names(row, given, KEY_SPEC_USER_KEYRING) ||
         key_row_names(row, given, KEY_SPEC_USER_SESSION_KEYRING))
         return true;
-    return has_joined(task) && (key_row_names(row, given, KEY_SPEC_SESSION_KEYRING) ||
-                                key_row_names(row, given, task->session->serial));
+    return find_joined(task) && (key_row_names(row, given, KEY_SPEC_SESSION_KEYRING) ||
+                                 key_row_names(row, given, task->session->serial));
 }
 
 bool tracees_enter(pid_t thread, const struct key_row *row, const unsigned long given[KEY_ARGUMENTS],
@@ -122,7 +118,7 @@ static struct seat *have_new_seat(struct task *task, struct user *user) {
     if (!all.is_valid()) return fail_as(ENOSYS), NULL;
     admitted.is_lost |= !admitted.session && all.asker.is_elsewhere; /* its user-session keyring is another */
     session_use(admitted.session); /* what is given up to make room isn't this one */
-    if (admitted.session && admitted.session != task->session && !has_joined(task))
+    if (admitted.session && admitted.session != task->session && !find_joined(task))
         set_session(task, admitted.session);
     struct seat *seat = have_seat(task, user, admitted, &all.asker);
     session_let_go(admitted.session);
@@ -186,8 +182,7 @@ static struct seat *note_joined(struct seat *seat, struct session *session) {
     seat->has_joined = true;
     bring_seats(task, session);
     set_session(task, session);
-    for (seat = task->seats; !seat->has_joined; seat++) continue;
-    return seat;
+    return find_joined(task);
 }
 
 int32_t caller_join(struct caller *caller, const char *name) {
