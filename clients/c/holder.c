@@ -37,25 +37,18 @@ static int open_pipe(int ends[2]) {
 
 /* ---- Starting ---- */
 
-/* An error, or 0. The process that is started has all signals as at first, none held back, and no terminal; it goes to
- * the background by itself, and ends. */
+/* An error, or 0. The process that is started has no terminal; it goes to the background by itself, and ends. */
 static int spawn(const struct pipes *pipes, char *const words[], pid_t *started) {
     char *environment[] = { NULL };
     posix_spawn_file_actions_t actions;
     posix_spawnattr_t attributes;
-    sigset_t none, all;
     int error;
-    sigemptyset(&none);
-    sigfillset(&all);
     posix_spawn_file_actions_init(&actions); /* this and the next take no memory */
     posix_spawnattr_init(&attributes);
     if (!(error = posix_spawn_file_actions_adddup2(&actions, pipes->life[READING], STDIN_FILENO)) &&
         !(error = posix_spawn_file_actions_adddup2(&actions, pipes->answer[WRITING], STDOUT_FILENO)) &&
         !(error = posix_spawn_file_actions_addopen(&actions, STDERR_FILENO, "/dev/null", O_RDWR, 0)) &&
-        !(error = posix_spawnattr_setsigmask(&attributes, &none)) &&
-        !(error = posix_spawnattr_setsigdefault(&attributes, &all)) &&
-        !(error = posix_spawnattr_setflags(
-              &attributes, POSIX_SPAWN_SETSIGMASK | POSIX_SPAWN_SETSIGDEF | POSIX_SPAWN_SETSID)))
+        !(error = posix_spawnattr_setflags(&attributes, POSIX_SPAWN_SETSID)))
         error = posix_spawn(started, KEYRETAIN_KEEPER, &actions, &attributes, words, environment);
     posix_spawnattr_destroy(&attributes);
     posix_spawn_file_actions_destroy(&actions);

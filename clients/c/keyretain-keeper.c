@@ -94,12 +94,15 @@ static void let_go_of(int descriptor) {
     if (nothing != descriptor) close(nothing);
 }
 
-/* Nothing of whoever started it stays: no descriptor but the two, no terminal, no other ids. */
+/* Nothing of whoever started it stays: no descriptor but the two, no terminal, no signals that are ignored or held back,
+ * no other ids. */
 static void stand_alone(void) {
-    struct sigaction ignored = { .sa_handler = SIG_IGN };
+    sigset_t none;
+    sigemptyset(&none);
+    for (int number = 1; number < NSIG; number++) signal(number, number == SIGPIPE ? SIG_IGN : SIG_DFL);
+    sigprocmask(SIG_SETMASK, &none, NULL);
     closefrom(STDERR_FILENO + 1);
     let_go_of(STDERR_FILENO);
-    sigaction(SIGPIPE, &ignored, NULL);
     if (setresgid(getegid(), getegid(), getegid()) < 0 || setresuid(geteuid(), geteuid(), geteuid()) < 0 ||
         prctl(PR_SET_DUMPABLE, 0) < 0)
         fail("standing alone");

@@ -38,7 +38,6 @@ class Deadline:
 
     def __init__(self, seconds: Optional[float]) -> None:
         self._end = None if seconds is None else time.monotonic() + seconds
-
         self._is_over = False
 
     def left(self) -> Optional[float]:
@@ -47,7 +46,7 @@ class Deadline:
             return None
         left = max(0.0, self._end - time.monotonic())
         if left == 0 and self._is_over:
-            raise out_of_time()
+            raise TimeoutError(errno.ETIMEDOUT, os.strerror(errno.ETIMEDOUT))
         self._is_over = left == 0
         return left
 
@@ -55,14 +54,12 @@ class Deadline:
         left = self.left()
         time.sleep(seconds if left is None else min(seconds, left))
 
-
-def _milliseconds(left: Optional[float]) -> Optional[float]:
-    """As poll(2) takes them: of more than it does only so many."""
-    return None if left is None else min(1000 * left, LONGEST_WAIT)
-
-
-def out_of_time() -> TimeoutError:
-    return TimeoutError(errno.ETIMEDOUT, os.strerror(errno.ETIMEDOUT))
+    def wait(self, poll: select.poll) -> None:
+        """Until one of these sockets is ready."""
+        ready: list[Any] = []
+        while not ready:
+            left = self.left()
+            ready = poll.poll(None if left is None else min(1000 * left, LONGEST_WAIT))
 
 
 class Asked(NamedTuple):
@@ -244,14 +241,14 @@ class Connection:
         """Takes what comes while it waits: a daemon whose replies aren't taken doesn't read."""
         at = self._write_some(whole)
         while at == 0:
-            self._wait(self._either, deadline)
+            deadline.wait(self._either)
             self._pull()
             at = self._write_some(whole)
         self._cut = True
         self._waiting.append(asked)
         self._last = asked.tag
         while at < len(whole):
-            self._wait(self._either, deadline)
+            deadline.wait(self._either)
             self._pull()
             at += self._write_some(whole[at:])
         self._cut = False
@@ -268,13 +265,6 @@ class Connection:
             raise self._fail(Lost(f"sending: {error.strerror}")) from None
 
     # Replies
-
-    def _wait(self, poll: select.poll, deadline: Deadline) -> None:
-        milliseconds = _milliseconds(deadline.left())
-        while not poll.poll(milliseconds):
-            if milliseconds != LONGEST_WAIT:
-                raise out_of_time()
-            milliseconds = _milliseconds(deadline.left())
 
     def _pull(self) -> None:
         """Takes the bytes that have come, if any, and the replies that are whole with them."""
@@ -325,7 +315,7 @@ class Connection:
 
     def _receive(self, deadline: Deadline) -> None:
         try:
-            self._wait(self._readable, deadline)
+            deadline.wait(self._readable)
             self._pull()
         except BaseException:
             if self._cut:

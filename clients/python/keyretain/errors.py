@@ -12,7 +12,6 @@ STATUSES = {
     57: "EBADSLT", 95: "EOPNOTSUPP", 105: "ENOBUFS", 126: "ENOKEY", 127: "EKEYEXPIRED", 128: "EKEYREVOKED",
     122: "EDQUOT",  # keyretain-guard(8) says it, and no daemon
 }
-NAMES = {**STATUSES, 122: "EDQUOT"}  # keyretain-guard(8) has no place for a connection
 
 
 class Refused(OSError):
@@ -20,7 +19,7 @@ class Refused(OSError):
 
     def __init__(self, ask: str, status: int) -> None:
         super().__init__(status, os.strerror(status))
-        self.ask, self.name = ask, NAMES[status]
+        self.ask, self.name = ask, STATUSES[status]
 
     def __reduce__(self) -> tuple[Any, ...]:
         return type(self), (self.ask, self.errno)

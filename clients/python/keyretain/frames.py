@@ -4,7 +4,7 @@ from __future__ import annotations
 import struct
 from typing import Any, NamedTuple, Optional, Sequence, Union
 
-from .errors import NAMES, Malformed, Refused
+from .errors import STATUSES, Malformed, Refused
 
 VERSION = 2
 
@@ -186,7 +186,7 @@ def decode_reply(received: Bytes, kind: Union[type[bytes], type[bytearray]] = by
 def answer_of(name: str, reply: Reply) -> Answer:
     """The number, the bytes or the None that a reply to this ask answers; Refused for an error."""
     if reply.status:
-        if reply.status not in NAMES or reply.body:
+        if reply.status not in STATUSES or reply.body:
             raise Malformed(f"status {reply.status} with {len(reply.body)} bytes")
         raise Refused(name, reply.status)
     form = ASKS[name].answer

@@ -5,7 +5,7 @@ import struct
 from typing import NamedTuple, Union
 
 from .errors import Malformed
-from .frames import HIGHEST_SERIAL
+from .frames import check_serial
 
 
 class Note(NamedTuple):
@@ -36,9 +36,7 @@ META, KEY_NOTIFY = 0, 1
 
 def _serial(number: int) -> int:
     """The number, which is 0 where a record names no key."""
-    if number > HIGHEST_SERIAL:
-        raise Malformed(f"{number} is no key's serial")
-    return number
+    return number and check_serial(number)
 
 
 def _decode_note(received: bytes, at: int) -> tuple[Record, int]:

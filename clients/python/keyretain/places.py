@@ -41,7 +41,7 @@ class Place(NamedTuple):
 
 def environment(name: str) -> str:
     """A variable, where the environment is the user's own: a program that runs set-uid has another's."""
-    return "" if runs_set_uid() else os.environ.get(name, "")
+    return "" if RUNS_SET_UID else os.environ.get(name, "")
 
 
 def _is_secure_by_library() -> bool:
@@ -67,12 +67,8 @@ def _is_secure() -> bool:
         return os.getuid() != os.geteuid() or os.getgid() != os.getegid()
 
 
-_SECURE = _is_secure()  # as long as the program runs
-
-
-def runs_set_uid() -> bool:
-    """Whether the kernel gave this program rights that whoever started it hadn't, as secure_getenv(3) asks."""
-    return _SECURE
+# Whether the kernel gave this program rights that whoever started it hadn't, as secure_getenv(3) asks: as long as it runs.
+RUNS_SET_UID = _is_secure()
 
 
 def _runtime_directory() -> str:
@@ -103,7 +99,7 @@ def find() -> Place:
     if named := environment("KEYRETAIN_SOCKET"):
         return Place(named, Trust.NAMED, os.geteuid())
     folder = _runtime_directory() + "/keyretain"
-    if not runs_set_uid() and _is_set_up(folder):
+    if not RUNS_SET_UID and _is_set_up(folder):
         return Place(folder + "/keyretain.sock", Trust.OWN, os.geteuid())
     return Place(SYSTEM_PATH, Trust.SYSTEM, os.geteuid())
 

@@ -9,57 +9,39 @@ import errno
 import fcntl
 import os
 import select
-import signal
+import subprocess
 import time
 from collections.abc import Iterator
 from contextlib import contextmanager, suppress
 from typing import Optional
 
-
 KEEPER = "/usr/local/libexec/keyretain/keyretain-keeper"  # `make install` writes its folder here
 MANAGERS = "/run/user"  # each has a folder of its user, which nobody else may change
 MANAGED = ("/usr/bin/systemd-run", "--user", "--scope", "--quiet", "--collect", "--")
-PATIENCE, PAUSE = 10.0, 0.001
+PATIENCE = 10.0
 LONGEST_ANSWER = 8192
 
 
-class _Pipe:
-    """Its ends are closed once. Their numbers are none of the three that programs read from and write to."""
-
-    def __init__(self) -> None:
-        low = os.pipe()
-        self._ends: list[int] = []
-        try:
-            for end in low:
-                self._ends.append(fcntl.fcntl(end, fcntl.F_DUPFD_CLOEXEC, 3))
-        except BaseException:
-            self.close()
-            raise
-        finally:
-            for end in low:
-                os.close(end)
-        self.reading, self.writing = self._ends
-
-    def close(self, *ends: int) -> None:
-        """Closes these, or all that are left."""
-        for end in ends or tuple(self._ends):
-            self._ends.remove(end)
-            os.close(end)
-
-
-def _spawn(words: list[str], variables: dict[str, str], life: _Pipe, answer: _Pipe) -> int:
-    """Starts it: descriptor 0 is the pipe that it waits on, 1 the one that it answers on."""
-    actions = [(os.POSIX_SPAWN_DUP2, life.reading, 0), (os.POSIX_SPAWN_DUP2, answer.writing, 1),
-               (os.POSIX_SPAWN_OPEN, 2, os.devnull, os.O_RDWR, 0)]
+def _pipe() -> tuple[int, int]:
+    """Both ends. The number of the writing one, which stays, is none of the three that programs read from and write
+    to."""
+    reading, low = os.pipe()
     try:
-        words, program = [os.path.basename(words[0]), *words[1:]], words[0]
-        return os.posix_spawn(program, words, variables, file_actions=actions, setsid=True, setsigmask=[],
-                              setsigdef=signal.valid_signals() - {signal.SIGKILL, signal.SIGSTOP})
-    except OSError as error:
-        raise OSError(error.errno, error.strerror, KEEPER) from None
+        return reading, fcntl.fcntl(low, fcntl.F_DUPFD_CLOEXEC, 3)
+    except BaseException:
+        os.close(reading)
+        raise
     finally:
-        life.close(life.reading)
-        answer.close(answer.writing)
+        os.close(low)
+
+
+def _spawn(words: list[str], variables: dict[str, str], life: int) -> subprocess.Popen[bytes]:
+    """Starts it: descriptor 0 is the pipe that it waits on, 1 the one that it answers on."""
+    try:
+        return subprocess.Popen([os.path.basename(words[0]), *words[1:]], executable=words[0], env=variables, stdin=life,
+                                stdout=subprocess.PIPE, stderr=subprocess.DEVNULL, start_new_session=True)
+    finally:
+        os.close(life)
 
 
 def _read_line(reading: int, end: float) -> bytes:
@@ -87,37 +69,31 @@ def _check(line: bytes) -> None:
         raise OSError(errno.ECHILD, "it ended without a word", KEEPER)
 
 
-def _reap(child: int, end: float) -> None:
-    """The process that was started goes to the background at once: what stays is another's child. Its user, whose
-    effective uid a program of root's may have taken, may have stopped it: then it is left at this moment."""
+def _answer(child: subprocess.Popen[bytes], end: float) -> bytes:
+    """What it says. The process that was started goes to the background at once: what stays is another's child. Its
+    user, whose effective uid a program of root's may have taken, may have stopped it: then it is left at this moment."""
+    line = b""
     try:
-        while os.waitpid(child, os.WNOHANG)[0] == 0 and time.monotonic() < end:
-            time.sleep(PAUSE)
-    except ChildProcessError:
-        pass  # a program may reap all of its children by itself
+        with child.stdout as answer:  # type: ignore[union-attr] # there is one
+            line = _read_line(answer.fileno(), end)
+        return line
+    finally:
+        with suppress(subprocess.TimeoutExpired):
+            child.wait(max(0.0, end - time.monotonic()) if line else 0)  # else nobody waits for it any more
 
 
-def _begin(words: list[str], variables: dict[str, str], end: float) -> _Pipe:
-    """Has it started by this moment, and answers the pipe that it waits on. OSError where it isn't, or says why not."""
-    life, answer = _Pipe(), _Pipe()
+def _begin(words: list[str], variables: dict[str, str], end: float) -> int:
+    """Has it started by this moment, and answers its pipe's other end. OSError where it isn't, or says why not."""
+    reading, life = _pipe()
     try:
-        child = _spawn(words, variables, life, answer)
-        try:
-            line = _read_line(answer.reading, end)
-        except BaseException:
-            _reap(child, 0.0)  # it ends by itself, as nobody waits any more
-            raise
-        _reap(child, end)
-        _check(line)
+        _check(_answer(_spawn(words, variables, reading), end))
         return life
     except BaseException:
-        life.close()
+        os.close(life)
         raise
-    finally:
-        answer.close()
 
 
-def _begin_managed(words: list[str], end: float) -> Optional[_Pipe]:
+def _begin_managed(words: list[str], end: float) -> Optional[int]:
     """The same by the user's systemd; None where there is none, or it doesn't do so, in half of the time. A program of
     root's that has taken a user's effective uid isn't that systemd's to start."""
     folder = f"{MANAGERS}/{os.geteuid()}"
@@ -136,4 +112,4 @@ def holding(ring: str, socket: str) -> Iterator[None]:
     try:
         yield
     finally:
-        life.close()
+        os.close(life)
