@@ -1,7 +1,6 @@
 /* caller.c: the contexts of a process's threads, and its session. */
 #include "caller.h"
 
-#include <poll.h>
 #include <sys/single_threaded.h>
 
 #include "seats.h"

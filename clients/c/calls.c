@@ -3,9 +3,6 @@
  * use. */
 #include "serve.h"
 
-#include <linux/keyctl.h>
-#include <sys/mman.h>
-
 /* A type has fewer than 32 bytes and a text fewer than 4,096, with the null byte; an ask has no payload above 65,535
  * bytes; and no keyring reads as more than 65,536 links. */
 enum { TEXTS = 3, TYPE_MAX = 32, TEXT_MAX = 4096, PAYLOAD_MAX = 65537, ROOM_MAX = 262160 };

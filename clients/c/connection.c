@@ -1,8 +1,6 @@
 /* connection.c: how an ask goes out on a connection, and how its reply is found. */
 #include "connection.h"
 
-#include <poll.h>
-
 /* ---- An ask ---- */
 
 /* In the tags of asks that make a context: so a reply that nobody awaits any more says that there is one. */

@@ -2,7 +2,6 @@
 #include "entries.h"
 
 #include <sys/epoll.h>
-#include <sys/resource.h>
 
 #include "proc.h"
 

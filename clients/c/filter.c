@@ -5,8 +5,6 @@
 
 #include <linux/audit.h>
 #include <linux/filter.h>
-#include <sys/prctl.h>
-#include <sys/syscall.h>
 
 #ifndef SECCOMP_FILTER_FLAG_WAIT_KILLABLE_RECV
 #define SECCOMP_FILTER_FLAG_WAIT_KILLABLE_RECV (1UL << 5)

@@ -2,9 +2,7 @@
  * memory. */
 #include "session.h"
 
-#include <poll.h>
 #include <spawn.h>
-#include <sys/wait.h>
 
 #ifndef KEYRETAIN_KEEPER
 #define KEYRETAIN_KEEPER "/usr/local/libexec/keyretain/keyretain-keeper"

@@ -6,15 +6,8 @@
 
 #include <dirent.h>
 #include <linux/capability.h>
-#include <poll.h>
 #include <sys/file.h>
-#include <sys/mman.h>
-#include <sys/prctl.h>
-#include <sys/resource.h>
 #include <sys/sendfile.h>
-#include <sys/socket.h>
-#include <sys/syscall.h>
-#include <sys/wait.h>
 
 #include "serve.h"
 

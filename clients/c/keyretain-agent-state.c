@@ -2,8 +2,6 @@
 #include "keyretain-agent.h"
 
 #include <jansson.h>
-#include <limits.h>
-#include <sys/mman.h>
 
 #ifndef STATE_ROOM
 #define STATE_ROOM (16 * 1024 * 1024)

@@ -6,10 +6,7 @@
 #include "keyretain-agent.h"
 
 #include <getopt.h>
-#include <poll.h>
-#include <sys/mman.h>
 #include <sys/signalfd.h>
-#include <sys/socket.h>
 
 #include "../../guard/listener.h"
 #include "serve.h"

@@ -5,10 +5,6 @@
  * connection. */
 #include "session.h"
 
-#include <linux/keyctl.h>
-#include <poll.h>
-#include <sys/prctl.h>
-
 #include "../../guard/listener.h"
 
 enum { REFUSED = 1, USAGE = 2, NO_CONNECTION = 3 };

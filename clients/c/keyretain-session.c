@@ -6,9 +6,6 @@
  * supervisor holds it: launch.c. */
 #include "session.h"
 
-#include <limits.h>
-#include <linux/keyctl.h>
-
 #include "../../guard/listener.h"
 #include "launch.h"
 

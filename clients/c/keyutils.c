@@ -5,7 +5,6 @@
 #include "session.h"
 
 #include <stdarg.h>
-#include <sys/syscall.h>
 
 /* Programs copy both, so that their lengths are part of the interface. */
 const char keyutils_version_string[] = "keyutils-1.6.3";

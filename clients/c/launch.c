@@ -4,13 +4,6 @@
 #include "serve.h"
 #include "launch.h"
 
-#include <linux/keyctl.h>
-#include <sys/prctl.h>
-#include <sys/resource.h>
-#include <sys/socket.h>
-#include <sys/syscall.h>
-#include <sys/wait.h>
-
 /* What the supervisor tells the process that waits. */
 struct report {
     enum { STARTED, FAILED, ENDED } kind;

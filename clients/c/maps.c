@@ -4,7 +4,6 @@
 #include <linux/nsfs.h>
 #include <sched.h>
 #include <sys/ioctl.h>
-#include <sys/wait.h>
 
 enum { OVERFLOW_ID = 65534, RANGE_LETTERS = 34 };
 

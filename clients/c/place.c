@@ -2,7 +2,6 @@
  * change between two looks: so they only say where to connect. Who listens is asked of the kernel, after connect(2). */
 #include "connection.h"
 
-#include <limits.h>
 #include <sys/auxv.h>
 
 #define SYSTEM_FOLDER "/run/keyretain"

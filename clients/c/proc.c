@@ -3,8 +3,6 @@
 
 #include <linux/auxvec.h>
 #include <linux/kcmp.h>
-#include <sys/resource.h>
-#include <sys/syscall.h>
 
 enum { DECIMAL = 10, FORKED_AND_NOT_EXECUTED = 0x40 /* PF_FORKNOEXEC of the kernel */ };
 

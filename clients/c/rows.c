@@ -1,8 +1,6 @@
 /* rows.c: the calls. */
 #include "rows.h"
 
-#include <linux/keyctl.h>
-
 enum { ADD_MAX = 1024 * 1024 - 1 };
 
 #define CALL(word, number, ...) .name = (word), .call = (number), .at = { __VA_ARGS__ }

@@ -7,7 +7,6 @@
 #include "seats.h"
 
 #include <linux/capability.h>
-#include <sys/syscall.h>
 
 /* So many asks are made on a connection that might be ended, where other threads wait: then other processes come to
  * their turn. */

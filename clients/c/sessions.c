@@ -3,9 +3,7 @@
 
 #include <ctype.h>
 #include <dirent.h>
-#include <linux/keyctl.h>
 #include <sys/random.h>
-#include <sys/resource.h>
 
 #include "proc.h"
 

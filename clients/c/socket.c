@@ -1,8 +1,6 @@
 /* socket.c: the socket of a connection: how it is made, who listens, and how bytes go out and come by a deadline. */
 #include "connection.h"
 
-#include <limits.h>
-#include <sys/mman.h>
 #include <sys/time.h>
 
 enum { USUAL_PATIENCE = 30000, IN_SEND = 0, IN_RECV = 1, NAMES = 4 };

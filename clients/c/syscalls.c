@@ -2,8 +2,6 @@
  * differ, the kernel's answer is given, as programs know it. */
 #include "rows.h"
 
-#include <linux/keyctl.h>
-
 #include "caller.h"
 #include "session.h"
 

@@ -1,8 +1,6 @@
 /* task_contexts.c: the contexts of threads. */
 #include "entries.h"
 
-#include <linux/keyctl.h>
-
 #include "tracees.h"
 
 enum { LOOKED_AT = 64, GIVEN_UP = 8, MOST = KR_CONTEXTS * 3 / 4 };

@@ -1,8 +1,6 @@
 /* tracees.c: the threads whose calls are served, one at a time. */
 #include "tracees.h"
 
-#include <linux/keyctl.h>
-
 #include "admission.h"
 #include "caller.h"
 

@@ -1,8 +1,6 @@
 /* users.c: the identities of what a supervisor serves. */
 #include "sessions.h"
 
-#include <linux/keyctl.h>
-
 enum { ABSENT_SWEEPS = 2, LINK_BYTES = 4 };
 
 static struct user *all; /* who came last is the first */
