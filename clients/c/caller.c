@@ -58,12 +58,6 @@ static int open_connection(struct seat *seat, int64_t deadline) {
     return set_no_daemon();
 }
 
-/* A new one after fork(2), after the daemon ended it, and after the program closed it. */
-static int have_connection(struct seat *seat, int64_t deadline) {
-    if (seat->connection && !kr_see(seat->connection)) seats_drop(seat, false);
-    return seat->connection ? 0 : open_connection(seat, deadline);
-}
-
 /* ---- Contexts ---- */
 
 /* Enters a session in a new context of a seat. One whose serial isn't known is made where it isn't there. It is the
@@ -98,12 +92,14 @@ static int begin_seat(struct seat *seat) {
     return 0;
 }
 
-/* A connection on which no context was made is ended, and what the daemon may do for it with it. Where the guard has no
- * place for the user's connections, one may be free in a moment. It says so, or in a crowd ends some without a word. */
+/* On a new connection after fork(2), after the daemon ended it, and after the program closed it. One on which no context
+ * was made is ended, and what the daemon may do for it with it. Where the guard has no place for the user's connections,
+ * one may be free in a moment. It says so, or in a crowd ends some without a word. */
 static int have_shared_context(struct seat *seat, int64_t call_end) {
     int64_t opening_end = kr_now() + OPENING_MILLISECONDS, end = opening_end < call_end ? opening_end : call_end;
     for (int pause = 1;; pause = pause < LONGEST_PAUSE ? 2 * pause : pause) {
-        if (have_connection(seat, end) < 0) return -1;
+        if (seat->connection && !kr_see(seat->connection)) seats_drop(seat, false);
+        if (!seat->connection && open_connection(seat, end) < 0) return -1;
         if (seat->shared.number != 0) return 0;
         seat->connection->until = end;
         if (begin_seat(seat) == 0) return 0;
@@ -225,11 +221,6 @@ static int enter_for_all(struct seat *seat, const struct kr_session *session) {
     return seats_is_own(seat, own) ? enter_made(seat, own, session) : 0;
 }
 
-static void restore_variable(const char *before) {
-    ERRNO_STAYS;
-    if (!before || setenv(KR_SESSION_VARIABLE, before, 1) < 0) unsetenv(KR_SESSION_VARIABLE);
-}
-
 /* Enters a session that was made just now, and tells what is executed of it. That is done first, as it may fail: by
  * then no other keyring must be this context's. */
 static int export_and_enter(struct seat *seat, const struct kr_session *session) {
@@ -237,7 +228,9 @@ static int export_and_enter(struct seat *seat, const struct kr_session *session)
     char *before = text ? strdup(text) : NULL;
     bool is_kept = before || !text, is_exported = is_kept && kr_export_session(session) == 0;
     int entered = is_exported ? enter_for_all(seat, session) : -1;
-    if (is_exported && entered < 0) restore_variable(before);
+    ERRNO_STAYS;
+    bool is_restored = !is_exported || entered == 0 || (before && setenv(KR_SESSION_VARIABLE, before, 1) == 0);
+    if (!is_restored) unsetenv(KR_SESSION_VARIABLE);
     free(before);
     return entered;
 }

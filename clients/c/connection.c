@@ -68,14 +68,8 @@ static int next_reply(struct kr *connection, struct kr_reply *reply) {
     return 1;
 }
 
-/* A context that came too late is ended before the next call. */
-static void note_late(struct kr *connection, const struct kr_reply *reply) {
-    bool has_one = reply->tag & KR_MAKES && reply->status == 0 && reply->length == 4;
-    if (has_one && connection->late_count < KR_CONTEXTS)
-        connection->late[connection->late_count++] = kr_get_u32(reply->body);
-}
-
-/* Takes the next reply to an ask that nobody has given up: 1, or 0 where more bytes are wanted. */
+/* Takes the next reply to an ask that nobody has given up: 1, or 0 where more bytes are wanted. A context that came too
+ * late is ended before the next call. */
 static int take_reply(struct kr *connection, struct kr_reply *reply) {
     int found;
     while ((found = next_reply(connection, reply)) == 1) {
@@ -83,7 +77,9 @@ static int take_reply(struct kr *connection, struct kr_reply *reply) {
             connection->taken = reply->frame_length;
             break;
         }
-        note_late(connection, reply);
+        bool is_late = reply->tag & KR_MAKES && reply->status == 0 && reply->length == 4;
+        if (is_late && connection->late_count < KR_CONTEXTS)
+            connection->late[connection->late_count++] = kr_get_u32(reply->body);
         drop(connection, reply->frame_length);
     }
     return found;
@@ -114,16 +110,12 @@ static int check_whole(struct kr *connection) {
     return connection->broken || !(is_seen || kr_is_ours(connection)) ? kr_break_off(connection, ECONNRESET) : 0;
 }
 
-static void end_late(struct kr *connection) {
-    while (connection->late_count > 0 && kr_tell(connection, KR_EXIT, connection->late[connection->late_count - 1]))
-        connection->late_count--;
-}
-
 static int call(struct kr *connection, const struct kr_ask_form *form, uint32_t context,
                 const struct kr_field *fields, struct kr_reply *reply) {
     if (check_whole(connection) < 0) return -1;
     if (awaited(connection) > 0) return fail_as(EBUSY);
-    end_late(connection);
+    while (connection->late_count > 0 && kr_tell(connection, KR_EXIT, connection->late[connection->late_count - 1]))
+        connection->late_count--;
     kr_begin_call(connection);
     connection->given_up = connection->asked;
     int result = send_ask(connection, form, context, fields) < 0 ? -1 : receive_reply(connection, reply);

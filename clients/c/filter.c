@@ -64,11 +64,6 @@ int filter_install(void) {
 }
 
 /* Commands are 32 bits wide; what no command can be is one that isn't there. */
-static int command_of(unsigned long value) {
-    int command = (int)(unsigned)value;
-    return command >= 0 && command < CALL_ADD_KEY ? command : CALL_ADD_KEY - 1;
-}
-
 int filter_decode(const struct seccomp_data *data, unsigned long at[5]) {
     bool is_native = data->arch == (unsigned)NATIVE;
     unsigned number = (unsigned)data->nr & (is_native ? ~X32_BIT : ~0u);
@@ -84,7 +79,7 @@ int filter_decode(const struct seccomp_data *data, unsigned long at[5]) {
         return CALL_REQUEST_KEY;
     case 2:
         for (int i = 0; i < 4; i++) at[i] = args[i + 1];
-        return command_of(args[0]);
+        return (unsigned)args[0] < CALL_ADD_KEY ? (int)args[0] : CALL_ADD_KEY - 1;
     default: return -1;
     }
 }

@@ -33,6 +33,10 @@ static struct {
     struct container *containers;
 } all;
 
+static void say(const struct container *container, const char *what) {
+    fprintf(stderr, "keyretain-agent: container %s: %s\n", container->id, what);
+}
+
 static _Noreturn void fail(const struct container *container, const char *what) {
     fprintf(stderr, "keyretain-agent: container %s: %s: %s\n", container->id, what, strerror(errno));
     _exit(FAILED);
@@ -98,12 +102,6 @@ static bool is_listening(int answers) {
     return memcmp(said, wanted, sizeof said) == 0;
 }
 
-static _Noreturn void fail_daemon(const struct container *container) {
-    const char *why = errno == ETIMEDOUT ? "does not begin" : "has ended before it listened, or is another program";
-    fprintf(stderr, "keyretain-agent: container %s: its daemon %s\n", container->id, why);
-    _exit(FAILED);
-}
-
 static void start_daemon(const struct container *container) {
     pid_t parent = getpid();
     int ends[2];
@@ -113,7 +111,11 @@ static void start_daemon(const struct container *container) {
     if (daemon < 0) fail(container, "its daemon");
     close(ends[1]);
     errno = 0;
-    if (!is_listening(ends[0])) fail_daemon(container);
+    if (!is_listening(ends[0])) {
+        say(container, errno == ETIMEDOUT ? "its daemon does not begin"
+                                          : "its daemon has ended before it listened, or is another program");
+        _exit(FAILED);
+    }
     close(ends[0]);
     close(COPY);
 }
@@ -185,10 +187,6 @@ bool containers_begin(const struct containers_settings *settings) {
 
 /* ---- A container ---- */
 
-static void say(const struct container *container, const char *what) {
-    fprintf(stderr, "keyretain-agent: container %s: %s\n", container->id, what);
-}
-
 /* False too where its first process isn't known, or had ended before the agent heard of it. */
 static bool is_running(const struct container *container) {
     struct pollfd end = { .fd = container->process, .events = POLLIN };
@@ -208,16 +206,11 @@ static struct container *find(const char *id, pid_t first) {
     return found;
 }
 
-static struct container *free_place(void) {
-    for (unsigned i = 0; i < all.settings.most; i++)
-        if (!*all.containers[i].id) return &all.containers[i];
-    return NULL;
-}
-
 static struct container *begin(const char *id, pid_t first) {
-    struct container *container = free_place();
+    struct container *container = all.containers, *end = all.containers + all.settings.most;
     int ends[2];
-    if (!container || socketpair(AF_UNIX, SOCK_SEQPACKET | SOCK_CLOEXEC | SOCK_NONBLOCK, 0, ends) < 0) return NULL;
+    while (container < end && *container->id) container++;
+    if (container == end || socketpair(AF_UNIX, SOCK_SEQPACKET | SOCK_CLOEXEC | SOCK_NONBLOCK, 0, ends) < 0) return NULL;
     int process = first > 0 ? proc_open(first) : -1;
     *container = (struct container){ .first = first, .process = process, .in = ends[0], .out = ends[1] };
     strcpy(container->id, id);
@@ -234,18 +227,6 @@ static void forget(struct container *container) {
     *container = (struct container){ 0 };
 }
 
-/* A server says a byte to each that it has taken; what it hasn't is seen by what is left when it has ended. */
-static bool send_listener(const struct container *container, int listener) {
-    char byte;
-    while (recv(container->in, &byte, 1, MSG_DONTWAIT) > 0) continue;
-    return serve_send_listener(container->in, listener) == 0;
-}
-
-static bool has_listeners(const struct container *container) {
-    struct pollfd wait = { .fd = container->out, .events = POLLIN };
-    return poll(&wait, 1, 0) == 1 && wait.revents & POLLIN;
-}
-
 static bool start_server(struct container *container) {
     pid_t agent = getpid();
     unlink(container->path);
@@ -254,10 +235,13 @@ static bool start_server(struct container *container) {
     return container->server > 0;
 }
 
+/* A server says a byte to each that it has taken; what it hasn't is seen by what is left when it has ended. */
 void containers_take(const char *id, int first, int listener) {
     struct container *container = find(id, first);
+    char byte;
     if (!container) container = begin(id, first);
-    bool is_sent = container && send_listener(container, listener);
+    while (container && recv(container->in, &byte, 1, MSG_DONTWAIT) > 0) continue;
+    bool is_sent = container && serve_send_listener(container->in, listener) == 0;
     close(listener);
     if (!is_sent) fprintf(stderr, "keyretain-agent: container %s: there are too many\n", id);
     if (container && container->server > 0 && is_sent) say(container, "one more");
@@ -274,8 +258,10 @@ void containers_take(const char *id, int first, int listener) {
 
 /* A server ends with 0 after its last listener; another may have been on its way. */
 static void end_server(struct container *container, int status) {
+    struct pollfd listeners = { .fd = container->out, .events = POLLIN };
     container->server = 0;
-    if (status == 0 && has_listeners(container) && start_server(container)) return;
+    bool has_more = status == 0 && poll(&listeners, 1, 0) == 1 && listeners.revents & POLLIN;
+    if (has_more && start_server(container)) return;
     say(container, status == 0 ? "ends" : "its server has failed");
     forget(container);
 }

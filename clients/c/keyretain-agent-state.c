@@ -105,12 +105,6 @@ static bool read_id(const json_t *id, struct container_state *state) {
     return true;
 }
 
-/* The number of the container's first process, where that is one; else 0. */
-static int read_process(const json_t *process) {
-    json_int_t number = json_integer_value(process);
-    return number > 0 && number <= INT_MAX ? (int)number : 0;
-}
-
 /* It isn't read before it is known to be nested no deeper than that: jansson calls itself for each level. */
 bool read_container_state(const char *text, size_t length, struct container_state *state) {
     struct json_scan scan = { 0 };
@@ -121,7 +115,8 @@ bool read_container_state(const char *text, size_t length, struct container_stat
     json_set_alloc_funcs(take, keep_until_end);
     const json_t *said = json_loadb(text, length, JSON_REJECT_DUPLICATES | JSON_ALLOW_NUL, NULL);
     const json_t *container = json_object_get(said, "state");
-    state->first = read_process(json_object_get(container, "pid"));
+    json_int_t first = json_integer_value(json_object_get(container, "pid"));
+    state->first = first > 0 && first <= INT_MAX ? (int)first : 0;
     bool is_right = read_names(json_object_get(said, "fds"), state) && read_id(json_object_get(container, "id"), state);
     wipe_room();
     return is_right;

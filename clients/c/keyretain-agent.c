@@ -102,15 +102,6 @@ struct visitor {
 
 static struct visitor visitors[VISITORS_MAX];
 
-/* From here on the connection is the visitor's, and no call waits for it; where there is no memory it is closed. */
-static void begin_visit(struct visitor *visitor, int connection) {
-    char *text = room_for_state(VISITOR_STATE_MAX);
-    if (!text) close(connection);
-    if (text)
-        *visitor = (struct visitor){ .is_here = true, .connection = connection, .text = text,
-                                     .deadline = kr_now() + VISITOR_PATIENCE };
-}
-
 /* Closes all that came but the listener, and leaves nothing of the state in memory. */
 static void end_visit(struct visitor *visitor) {
     explicit_bzero(visitor->text, visitor->received);
@@ -187,18 +178,19 @@ static struct visitor *free_place(void) {
     return NULL;
 }
 
+/* Only its own user may say which container is which. Where there is no memory for a state it is closed. */
 static void accept_visitor(void) {
     struct visitor *visitor = free_place();
-    if (!visitor) return;
-    int connection = accept4(listening, NULL, NULL, SOCK_NONBLOCK | SOCK_CLOEXEC);
-    if (connection < 0) {
-        if (errno != EAGAIN) poll(NULL, 0, PAUSE); /* no descriptors, or no memory */
-    } else if (is_own_peer(connection)) { /* only that user may say which container is which */
-        begin_visit(visitor, connection);
-    } else {
-        fputs("keyretain-agent: a connection of another user is refused\n", stderr);
-        close(connection);
-    }
+    int connection = visitor ? accept4(listening, NULL, NULL, SOCK_NONBLOCK | SOCK_CLOEXEC) : -1;
+    if (visitor && connection < 0 && errno != EAGAIN) poll(NULL, 0, PAUSE); /* no descriptors, or no memory */
+    if (connection < 0) return;
+    bool is_own = is_own_peer(connection);
+    char *text = is_own ? room_for_state(VISITOR_STATE_MAX) : NULL;
+    if (!is_own) fputs("keyretain-agent: a connection of another user is refused\n", stderr);
+    if (!text) close(connection);
+    if (text)
+        *visitor = (struct visitor){ .is_here = true, .connection = connection, .text = text,
+                                     .deadline = kr_now() + VISITOR_PATIENCE };
 }
 
 /* Its state is whole. Nothing is left of the visit before anything is started. */

@@ -271,25 +271,13 @@ static void enter(const char *path, const struct kr_session *session) {
     kr_close(connection);
 }
 
-/* The command, or the user's shell. */
-static char **command_or_shell(char **command) {
-    static char *shell_command[2];
-    const char *shell = getenv("SHELL");
-    *shell_command = shell && *shell ? (char *)shell : "/bin/sh";
-    return command ? command : shell_command;
-}
-
-static void run(char **command) {
-    execvp(*command, command);
-    fail(errno == ENOENT ? NOT_FOUND : NOT_EXECUTABLE, *command);
-}
-
 int main(int count, char **arguments) {
     static struct kr_session session;
+    char *shell = getenv("SHELL"), *shell_command[] = { shell && *shell ? shell : "/bin/sh", NULL };
     enum way way;
     if (!fill_standard_descriptors()) exit(NO_CONNECTION); /* a connection would get their number */
     if (count == 2) answer_option(arguments[1], usage, help, "keyretain-session " KEYRETAIN_VERSION);
-    char **given = read_arguments(arguments + 1, &session_name, &way), **command = command_or_shell(given);
+    char **given = read_arguments(arguments + 1, &session_name, &way), **command = given ? given : shell_command;
     if (session_name && !given && isatty(STDERR_FILENO))
         fprintf(stderr, "keyretain-session: a shell in the session %s; a command stands behind --\n", session_name);
     if (kr_default_path(socket_path, sizeof socket_path) < 0) fail(NO_CONNECTION, "the socket's path");
@@ -305,5 +293,6 @@ int main(int count, char **arguments) {
         begin(session_name, getenv("KEYRETAIN_SOCKET"), &session);
     if (way == JOINING || *variables) enter(socket_path, &session);
     if (kr_export_session(&session) < 0) fail(REFUSED, KR_SESSION_VARIABLE);
-    run(command);
+    execvp(*command, command);
+    fail(errno == ENOENT ? NOT_FOUND : NOT_EXECUTABLE, *command);
 }

@@ -259,39 +259,29 @@ struct wanted {
     key_serial_t found;
 };
 
-/* The description, which stands behind four semicolons, of a key of this type; else NULL. */
-static const char *description_of_type(const char *text, const char *type) {
-    size_t length = strlen(type);
-    int behind = 0;
-    if (strncmp(text, type, length) == 0) sscanf(text + length, ";%*u;%*u;%*x;%n", &behind);
-    return behind > 0 ? text + length + behind : NULL;
-}
-
+/* The description stands behind the type and four semicolons. */
 static int look_at_key(key_serial_t parent, key_serial_t key, char *text, int length, void *data) {
     struct wanted *wanted = data;
+    size_t type = strlen(wanted->type);
+    int behind = 0;
     (void)parent;
-    if (length < 0 || wanted->found) return 0;
-    const char *description = description_of_type(text, wanted->type);
-    if (description && strcmp(description, wanted->description) == 0) wanted->found = key;
+    if (length < 0 || wanted->found || strncmp(text, wanted->type, type) != 0) return 0;
+    sscanf(text + type, ";%*u;%*u;%*x;%n", &behind);
+    if (behind > 0 && strcmp(text + type + behind, wanted->description) == 0) wanted->found = key;
     return 0;
 }
 
 /* libkeyutils looks through /proc/keys for what request_key(2) doesn't find. Here what this process's session and user
  * keyrings reach is looked through. */
-static key_serial_t find_in_keyrings(const char *type, const char *description) {
-    struct wanted wanted = { type, description, 0 };
-    for (key_serial_t head = KEY_SPEC_SESSION_KEYRING; head >= KEY_SPEC_USER_SESSION_KEYRING && !wanted.found; head--)
-        if (keyctl_get_keyring_ID(head, 0) > 0) recursive_key_scan(head, look_at_key, &wanted);
-    return wanted.found;
-}
-
 static key_serial_t find_key(const char *type, const char *description, key_serial_t destination) {
+    struct wanted wanted = { type, description, 0 };
     key_serial_t found = request_key(type, description, NULL, destination);
     int error = errno;
     if (found >= 0 || error == ENOMEM || error == ENOSYS) return found;
-    found = find_in_keyrings(type, description);
-    if (found == 0) return fail_as(error);
-    return destination != 0 && keyctl_link(found, destination) < 0 ? -1 : found;
+    for (key_serial_t head = KEY_SPEC_SESSION_KEYRING; head >= KEY_SPEC_USER_SESSION_KEYRING && !wanted.found; head--)
+        if (keyctl_get_keyring_ID(head, 0) > 0) recursive_key_scan(head, look_at_key, &wanted);
+    if (wanted.found == 0) return fail_as(error);
+    return destination != 0 && keyctl_link(wanted.found, destination) < 0 ? -1 : wanted.found;
 }
 
 key_serial_t find_key_by_type_and_desc(const char *type, const char *description, key_serial_t destination) {

@@ -29,19 +29,16 @@ static bool put_runtime_folder(char *path, size_t room) {
     return length >= 0 && (size_t)length < room;
 }
 
-/* Whether the user has set up a daemon. It is meant even while it is down: what its user keeps isn't told to the
- * system's daemon because of that. */
-static bool is_set_up(const char *folder) {
-    struct stat status;
-    return stat(folder, &status) == 0 || (errno != ENOENT && errno != ENOTDIR);
-}
-
+/* A daemon that the user has set up is meant even while it is down: what its user keeps isn't told to the system's daemon
+ * because of that. */
 int kr_locate(struct kr_where *where, const char *path) {
     bool is_set_uid = getauxval(AT_SECURE) != 0;
     const char *named = is_set_uid ? NULL : getenv("KEYRETAIN_SOCKET");
     char folder[PATH_MAX];
+    struct stat status;
     if (path || (named && *named)) return put(where, KR_NAMED, path ? path : named, "");
-    if (!is_set_uid && put_runtime_folder(folder, sizeof folder) && is_set_up(folder))
+    if (!is_set_uid && put_runtime_folder(folder, sizeof folder) &&
+        (stat(folder, &status) == 0 || (errno != ENOENT && errno != ENOTDIR)))
         return put(where, KR_OWN, folder, SOCKET_NAME);
     return put(where, KR_SYSTEM, SYSTEM_FOLDER, SOCKET_NAME);
 }
@@ -53,13 +50,10 @@ int kr_default_path(char *path, size_t room) {
     return (size_t)length < room ? length : fail_as(ENAMETOOLONG);
 }
 
-/* As whom the system's daemon runs: who owns its folder, which only root can make there. */
-static bool is_system_daemon(uid_t peer) {
-    struct stat status;
-    return peer == 0 || (lstat(SYSTEM_FOLDER, &status) == 0 && S_ISDIR(status.st_mode) && status.st_uid == peer);
-}
-
+/* The system's daemon runs as who owns its folder, which only root can make there. */
 bool kr_is_trusted(enum kr_place place, uid_t user, uid_t peer) {
-    bool is_own = peer == user && place != KR_SYSTEM;
-    return is_own || (place != KR_OWN && is_system_daemon(peer));
+    struct stat status;
+    if (peer == user && place != KR_SYSTEM) return true;
+    if (place == KR_OWN) return false;
+    return peer == 0 || (lstat(SYSTEM_FOLDER, &status) == 0 && S_ISDIR(status.st_mode) && status.st_uid == peer);
 }

@@ -85,13 +85,6 @@ static void end_context(struct seat *seat, uint32_t context) {
     seat->own--;
 }
 
-/* The same of those that came while the seat was busy. */
-static void end_contexts(struct seat *seat) {
-    while (seat->connection && seat->ended_count > 0 &&
-           kr_tell(seat->connection, KR_EXIT, seat->ended[seat->ended_count - 1]))
-        seat->ended_count--;
-}
-
 /* ---- Fork, and the ends of threads ---- */
 
 enum { FORK_SECONDS = 1 };
@@ -237,19 +230,13 @@ static void settle(struct seat *seat, const struct kr_identity *identity) {
     seat->is_taken = true;
 }
 
-/* Ends what belongs to identities that this process can't have again. */
-static void end_former(void) {
-    for (int i = 0; i < SEATS; i++) {
-        struct seat *seat = &process.seats[i];
-        if (seat->is_taken && !seat->is_busy && !kr_may_be_again(&seat->identity)) clear_seat(seat);
-    }
-}
-
-/* The seat of this identity, which may be busy, or a place for it; NULL where each is busy, and none is its own. */
+/* The seat of this identity, which may be busy, or a place for it; NULL where each is busy, and none is its own. Ends
+ * what belongs to identities that this process can't have again. */
 static struct seat *choose(const struct kr_identity *identity) {
     struct seat *seat = find_seat(identity);
     if (seat && seat->turn == process.turn) return seat; /* the same as at the last call */
-    end_former();
+    for (struct seat *at = process.seats; at < process.seats + SEATS; at++)
+        if (at->is_taken && !at->is_busy && !kr_may_be_again(&at->identity)) clear_seat(at);
     return seat ? seat : find_place();
 }
 
@@ -301,7 +288,9 @@ struct seat *seats_take(const struct kr_identity *identity, int64_t deadline) {
 void seats_give_back(struct seat *seat, bool may_let_go) {
     LOCKED;
     if (seat->connection) seat->connection->was_seen = false;
-    end_contexts(seat);
+    while (seat->connection && seat->ended_count > 0 &&
+           kr_tell(seat->connection, KR_EXIT, seat->ended[seat->ended_count - 1]))
+        seat->ended_count--;
     pass_on(seat);
     bool is_at_its_turn = seat->is_busy && seat->connection && seat->connection->asked < TURN;
     if (may_let_go && seat->connection && !is_at_its_turn) close_connection(seat, true);

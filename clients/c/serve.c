@@ -62,22 +62,19 @@ static void answer_entered(const struct key_row *row, const unsigned long given[
     tracees_leave();
 }
 
-/* What can't be looked into is answered as where no daemon is: never by the kernel's keys. */
-static void answer(void) {
+/* What can't be looked into is answered as where no daemon is: never by the kernel's keys. ENOENT: it was killed before
+ * it was received. */
+static void take_notification(int listener) {
     unsigned long given[KEY_ARGUMENTS];
+    all.listener = listener;
+    memset(all.notification_room, 0, ROOM);
+    if (ioctl(listener, SECCOMP_IOCTL_NOTIF_RECV, &all.notification) < 0) return;
     int call = filter_decode(&all.notification.data, given);
     const struct key_row *row = key_row_of(call);
     if (call >= 0 && all.notification.pid != 0 && tracees_enter((pid_t)all.notification.pid, row, given, is_valid))
         answer_entered(row, given);
     else
         reply(-1, ENOSYS);
-}
-
-/* ENOENT: it was killed before it was received. */
-static void take_notification(int listener) {
-    all.listener = listener;
-    memset(all.notification_room, 0, ROOM);
-    if (ioctl(listener, SECCOMP_IOCTL_NOTIF_RECV, &all.notification) == 0) answer();
 }
 
 /* ---- Listeners ---- */
@@ -113,15 +110,11 @@ static int watch(int descriptor, void *source) {
     return epoll_ctl(all.epoll, EPOLL_CTL_ADD, descriptor, &event);
 }
 
-/* What a listener that is there twice has told would be waited for once more. */
-static bool is_there(int descriptor) {
-    const pid_t self = getpid();
-    return FIND(all.listeners, at, syscall(SYS_kcmp, self, self, KCMP_FILE, descriptor, at->descriptor) == 0) != NULL;
-}
-
-/* It owns the descriptor. Linux 6.6 wakes the caller on the processor that has its answer; others don't know that. */
+/* It owns the descriptor. What a listener that is there twice has told would be waited for once more. Linux 6.6 wakes the
+ * caller on the processor that has its answer; others don't know that. */
 static int add_listener(int descriptor) {
-    bool is_new = !is_there(descriptor);
+    const pid_t self = getpid();
+    bool is_new = !FIND(all.listeners, at, syscall(SYS_kcmp, self, self, KCMP_FILE, descriptor, at->descriptor) == 0);
     struct listener *listener = is_new ? calloc(1, sizeof *listener) : NULL;
     if (!listener || watch(descriptor, listener) < 0) {
         free(listener);
@@ -167,19 +160,7 @@ static void reap(void) {
     while ((process = waitpid(-1, &status, WNOHANG)) > 0) note_end(process, status);
 }
 
-/* The child loses the filter before it can be waited for. */
-static void wait_for_child(void) {
-    pid_t child = all.settings->tracees.child;
-    int status;
-    if (child <= 0 || all.has_told) return;
-    if (TEMP_FAILURE_RETRY(waitpid(child, &status, 0)) == child) note_end(child, status);
-}
-
 /* ---- The loop ---- */
-
-static bool is_tracee(const void *source) {
-    return source != &all.signals && source != &all.more && !FIND(all.listeners, listener, listener == source);
-}
 
 static void take_event(const struct epoll_event *event) {
     struct listener *listener = event->data.ptr;
@@ -195,11 +176,12 @@ static void take_event(const struct epoll_event *event) {
 
 /* Ends of processes come first, and one at a time: what else is ready may go with it. */
 static void take_events(const struct epoll_event *events, int count) {
-    for (int i = 0; i < count; i++)
-        if (is_tracee(events[i].data.ptr)) {
-            entries_ended(events[i].data.ptr);
-            return;
-        }
+    for (int i = 0; i < count; i++) {
+        const void *source = events[i].data.ptr;
+        if (source == &all.signals || source == &all.more || FIND(all.listeners, at, at == source)) continue;
+        entries_ended(events[i].data.ptr);
+        return;
+    }
     for (int i = 0; i < count; i++) take_event(&events[i]);
 }
 
@@ -213,18 +195,14 @@ static int milliseconds_to_sweep(void) {
     return left > 0 ? (int)left : 0;
 }
 
-static void sweep_in_time(void) {
-    if (kr_now() < all.next_sweep) return;
-    if (tracees_want_sweep()) tracees_sweep();
-    all.next_sweep = kr_now() + SWEEP_MILLISECONDS;
-}
-
 static void run(void) {
     struct epoll_event events[EVENTS];
     while (all.listeners) {
         int count = epoll_wait(all.epoll, events, EVENTS, milliseconds_to_sweep());
         take_events(events, count);
-        sweep_in_time();
+        if (kr_now() < all.next_sweep) continue;
+        if (tracees_want_sweep()) tracees_sweep();
+        all.next_sweep = kr_now() + SWEEP_MILLISECONDS;
     }
 }
 
@@ -259,12 +237,16 @@ static int begin(int listener) {
 }
 
 enum serve_result serve(int listener, const struct serve_settings *settings) {
+    const pid_t child = settings->tracees.child;
+    int status;
     all.settings = settings;
     if (begin(listener) < 0) return SERVE_REFUSED;
     if (tracees_begin(&settings->tracees, all.epoll) < 0)
         return tracees_have_no_daemon() ? SERVE_NO_DAEMON : SERVE_REFUSED;
     if (settings->is_ready) settings->is_ready();
     run();
-    wait_for_child();
+    /* the child loses the filter before it can be waited for */
+    bool is_left = child > 0 && !all.has_told && TEMP_FAILURE_RETRY(waitpid(child, &status, 0)) == child;
+    if (is_left) note_end(child, status);
     return SERVE_DONE;
 }

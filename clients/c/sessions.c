@@ -1,7 +1,6 @@
 /* sessions.c: the sessions of what a supervisor serves. */
 #include "sessions.h"
 
-#include <ctype.h>
 #include <dirent.h>
 #include <sys/random.h>
 
@@ -47,21 +46,17 @@ void sessions_forget(const void *beginner) {
 
 /* ---- Joining ---- */
 
-static int make_tag(uint64_t *tag) {
-    if (getrandom(tag, sizeof *tag, 0) != (ssize_t)sizeof *tag) return -1;
-    *tag = ADMISSION_TAG_BASE + *tag % ADMISSION_TAG_COUNT;
-    return 0;
-}
-
 /* What this context has joined, with a holder of its own. */
 static struct session *add_session(const struct context *context, struct user *user, int32_t serial, const char *name,
                                    const struct admission_process *begun) {
+    uint64_t random;
     struct session *session = calloc(1, sizeof *session);
-    if (!session) return NULL;
+    if (!session || getrandom(&random, sizeof random, 0) != (ssize_t)sizeof random) return forgotten(session);
     session->serial = serial;
     session->begun = *begun;
+    session->tag = ADMISSION_TAG_BASE + random % ADMISSION_TAG_COUNT;
     snprintf(session->name, sizeof session->name, "%s", name);
-    if (make_tag(&session->tag) < 0 || context_hold(&session->holder, context) < 0) return forgotten(session);
+    if (context_hold(&session->holder, context) < 0) return forgotten(session);
     session->user = user_use(user);
     session->next = all.sessions;
     return all.sessions = session;
@@ -79,25 +74,21 @@ int session_leave(const struct context *context) {
     return connection && kr_join(connection, context->number, NULL) > 0 ? 0 : -1;
 }
 
-/* One that was joined without a name is its user's to link only from within, as the kernel's is. */
-static bool is_own_session(const struct context *context, int32_t serial, const char *name, uint32_t uid) {
-    struct kr_attributes attributes;
-    if (name) return read_own(context, serial, uid, &attributes);
-    return kr_setperm(context_connection(context), context->number, serial, MASK_WITHOUT_NAME) == 0;
-}
-
-/* One without a name gets one that nobody can guess, by which other identities of its uid come in. Another user may
- * have made a keyring of the name first, and opened it: then the context ends. */
+/* One without a name gets one that nobody can guess, by which other identities of its uid come in, and is its user's to
+ * link only from within, as the kernel's is. Another user may have made a keyring of the name first, and opened it: then
+ * the context ends. */
 struct session *session_join(struct context *context, struct user *user, const char *name,
                              const struct admission_process *begun) {
     struct kr_session named;
+    struct kr_attributes attributes;
     struct kr *connection = context_connection(context);
     if (!connection || kr_name_session(&named, name) < 0) return NULL;
     int32_t serial = kr_join(connection, context->number, named.name);
     if (serial < 0) return NULL;
     struct session *session = FIND(all.sessions, at, at->serial == serial && !session_is_lost(at));
     if (session && session->user->identity.uid == user->identity.uid) return session;
-    bool is_own = !session && is_own_session(context, serial, name, user->identity.uid);
+    bool is_own = !session && (name ? read_own(context, serial, user->identity.uid, &attributes)
+                                    : kr_setperm(connection, context->number, serial, MASK_WITHOUT_NAME) == 0);
     if (is_own && (session = add_session(context, user, serial, named.name, begun)) != NULL) return session;
     int error = is_own ? errno : context_connection(context) ? EACCES : ECONNRESET;
     context_end(context);
@@ -160,18 +151,16 @@ static unsigned count_unused(void) {
 
 bool sessions_want_sweep(void) { return count_unused() > 0; }
 
-static void see_tag(pid_t process, bool (*keeps)(pid_t, const struct session *)) {
-    uint64_t soft;
-    struct session *session = proc_read_locks(process, &soft) ? session_of_tag(soft) : NULL;
-    if (session && session->uses == 0 && keeps(process, session)) session->absent = 0;
-}
-
 static bool see_tags(bool (*keeps)(pid_t, const struct session *)) {
     DIR *processes = opendir("/proc");
     struct dirent *entry;
+    uint64_t soft;
     if (!processes) return false;
-    while ((entry = readdir(processes)) != NULL)
-        if (isdigit((unsigned char)*entry->d_name)) see_tag((pid_t)strtol(entry->d_name, NULL, DECIMAL), keeps);
+    while ((entry = readdir(processes)) != NULL) {
+        pid_t process = (pid_t)strtol(entry->d_name, NULL, DECIMAL); /* or 0 */
+        struct session *session = process > 0 && proc_read_locks(process, &soft) ? session_of_tag(soft) : NULL;
+        if (session && session->uses == 0 && keeps(process, session)) session->absent = 0;
+    }
     closedir(processes);
     return true;
 }

@@ -90,25 +90,17 @@ static struct kr_memory *make_memory(pid_t *owner) {
     return memory;
 }
 
-static int prepare(struct kr *connection, const struct kr_where *where, unsigned flags) {
-    _Static_assert(sizeof where->path == sizeof connection->address.sun_path, "a path of unix(7)");
-    if (flags & ~(unsigned)KR_ANY_SERVER) return fail_as(EINVAL);
-    connection->socket.descriptor = -1;
-    connection->patience = USUAL_PATIENCE;
-    connection->until = KR_NEVER;
-    connection->trusts_anybody = flags & KR_ANY_SERVER;
-    connection->place = where->place;
-    connection->address.sun_family = AF_UNIX;
-    memcpy(connection->address.sun_path, where->path, sizeof where->path);
-    connection->memory = make_memory(&connection->owner);
-    return connection->memory && kr_take_file(&connection->socket, open_socket()) ? 0 : -1;
-}
-
 struct kr *kr_prepare(const struct kr_where *where, unsigned flags, uid_t user) {
+    _Static_assert(sizeof where->path == sizeof(((struct sockaddr_un *)NULL)->sun_path), "a path of unix(7)");
+    if (flags & ~(unsigned)KR_ANY_SERVER) return fail_as(EINVAL), NULL;
     struct kr *connection = calloc(1, sizeof *connection);
     if (!connection) return NULL;
-    connection->user = user;
-    if (prepare(connection, where, flags) == 0) return connection;
+    *connection = (struct kr){ .socket.descriptor = -1, .patience = USUAL_PATIENCE, .until = KR_NEVER, .user = user,
+                               .trusts_anybody = flags & KR_ANY_SERVER, .place = where->place,
+                               .address.sun_family = AF_UNIX };
+    memcpy(connection->address.sun_path, where->path, sizeof where->path);
+    connection->memory = make_memory(&connection->owner);
+    if (connection->memory && kr_take_file(&connection->socket, open_socket())) return connection;
     kr_close(connection);
     return NULL;
 }

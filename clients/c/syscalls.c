@@ -38,12 +38,6 @@ long key_set_reqkey(int *chosen, int choice) {
     return before;
 }
 
-/* Nobody ever has an authority, as nothing is constructed by upcalls. */
-static long assume_authority(int32_t id) {
-    if (id == 0) return 0;
-    return fail_as(id < 0 ? EINVAL : ENOKEY);
-}
-
 static long check_request(values at) {
     if (!at[0] || !at[1]) return fail_as(EFAULT);
     return at[3] && strlen(text_of(at[3])) >= (size_t)sysconf(_SC_PAGESIZE) ? fail_as(EINVAL) : 0;
@@ -63,25 +57,26 @@ static long check(const struct key_row *row, values at) {
     }
 }
 
-/* Whether a call is answered here, with *answer. */
+/* Whether a call is answered here, with *answer. Nobody ever has an authority, as nothing is constructed by upcalls. */
 static bool is_answered_here(const struct key_row *row, values at, long *answer) {
     static __thread int chosen;
+    int32_t id = id_of(at[0]);
     if (row->refused) return *answer = fail_as(row->refused), true;
-    if (row->call == KEYCTL_ASSUME_AUTHORITY) return *answer = assume_authority(id_of(at[0])), true;
+    if (row->call == KEYCTL_ASSUME_AUTHORITY) return *answer = id ? fail_as(id < 0 ? EINVAL : ENOKEY) : 0, true;
     if (row->call == KEYCTL_SET_REQKEY_KEYRING) return *answer = key_set_reqkey(&chosen, (int)at[0]), true;
     return false;
 }
 
 /* ---- What the daemon answers ---- */
 
-/* The kernel makes a missing thread or process keyring for more commands than the daemon does. */
-static void make_special(struct caller *caller, const struct key_row *row, int32_t id) {
-    if (row->makes_special && (id == KEY_SPEC_THREAD_KEYRING || id == KEY_SPEC_PROCESS_KEYRING))
-        kr_get_id(caller->connection, caller->context, id, 1);
-}
-
 /* A search for a type or a description that no key has: the kernel finds none, the daemon refuses it. */
-static long searched(long serial, const char *type, const char *description) {
+static long search(struct caller *caller, int call, values at) {
+    values texts = call == CALL_REQUEST_KEY ? at : at + 1;
+    const char *type = text_of(texts[0]), *description = text_of(texts[1]);
+    int32_t ring = id_of(texts[2]);
+    long serial = call == CALL_REQUEST_KEY
+                      ? kr_request(caller->connection, caller->context, type, description, ring)
+                      : kr_search(caller->connection, caller->context, id_of(at[0]), type, description, ring);
     bool finds_none = errno == ENODEV || (errno == EINVAL && *type && !*description);
     return serial < 0 && finds_none ? fail_as(ENOKEY) : serial;
 }
@@ -128,18 +123,6 @@ static long capabilities(unsigned char *buffer, size_t room) {
     return sizeof known;
 }
 
-static long search(struct caller *caller, values at) {
-    const char *type = text_of(at[1]), *description = text_of(at[2]);
-    return searched(kr_search(caller->connection, caller->context, id_of(at[0]), type, description, id_of(at[3])),
-                    type, description);
-}
-
-static long request(struct caller *caller, values at) {
-    const char *type = text_of(at[0]), *description = text_of(at[1]);
-    return searched(kr_request(caller->connection, caller->context, type, description, id_of(at[2])), type,
-                    description);
-}
-
 static long answer(struct caller *caller, int call, values at) {
     struct kr *connection = caller->connection;
     uint32_t context = caller->context;
@@ -147,7 +130,8 @@ static long answer(struct caller *caller, int call, values at) {
     switch (call) {
     case CALL_ADD_KEY:
         return kr_add(connection, context, text_of(at[0]), text_of(at[1]), (void *)at[2], at[3], id_of(at[4]));
-    case CALL_REQUEST_KEY: return request(caller, at);
+    case CALL_REQUEST_KEY:
+    case KEYCTL_SEARCH: return search(caller, call, at);
     case KEYCTL_GET_KEYRING_ID: return kr_get_id(connection, context, id, (int)at[1] != 0);
     case KEYCTL_JOIN_SESSION_KEYRING: return caller_join(caller, text_of(at[0]));
     case KEYCTL_UPDATE: return kr_update(connection, context, id, (void *)at[1], at[2]);
@@ -158,7 +142,6 @@ static long answer(struct caller *caller, int call, values at) {
     case KEYCTL_CLEAR: return kr_clear(connection, context, id);
     case KEYCTL_LINK: return kr_link(connection, context, id, id_of(at[1]));
     case KEYCTL_UNLINK: return kr_unlink(connection, context, id, id_of(at[1]));
-    case KEYCTL_SEARCH: return search(caller, at);
     case KEYCTL_READ: return read_key(caller, id, (void *)at[1], at[2]);
     case KEYCTL_SET_TIMEOUT: return kr_set_timeout(connection, context, id, (uint32_t)at[1]);
     case KEYCTL_GET_SECURITY: return get_security(caller, id, (char *)at[1], at[2]);
@@ -190,8 +173,11 @@ static void know_serials(struct caller *caller, const struct key_row *row, value
 }
 
 static long ask(struct caller *caller, const struct key_row *row, values at) {
+    int32_t id = id_of(at[0]);
     if ((caller->lost_session && wants_session(row, at)) || names_stale(caller, row, at)) return fail_as(EKEYREVOKED);
-    make_special(caller, row, id_of(at[0]));
+    /* the kernel makes a missing thread or process keyring for more commands than the daemon does */
+    if (row->makes_special && (id == KEY_SPEC_THREAD_KEYRING || id == KEY_SPEC_PROCESS_KEYRING))
+        kr_get_id(caller->connection, caller->context, id, 1);
     long result = answer(caller, row->call, at);
     know_serials(caller, row, at, result);
     /* what nobody has here: the key of an authority, and the keyring of its requestor */

@@ -18,16 +18,14 @@ void end_seats(struct task *task) {
     while (task->count > 0) drop_seat(task, task->count - 1);
 }
 
-static bool is_made_for(const struct seat *seat, const struct asker *asker) {
-    return seat->is_elsewhere == asker->is_elsewhere &&
-           memcmp(&seat->made_for, &asker->process, sizeof asker->process) == 0;
-}
-
 /* Those whose connection has ended are dropped. */
 struct seat *find_seat(struct task *task, const struct user *user, const struct asker *asker) {
     for (unsigned i = task->count; i > 0; i--)
         if (!context_connection(&task->seats[i - 1].context)) drop_seat(task, i - 1);
-    return FIND_SEAT(task, seat, seat->user == user && (seat->has_joined || is_made_for(seat, asker)));
+    const struct admission_process *now = &asker->process;
+    return FIND_SEAT(task, seat, seat->user == user &&
+                                     (seat->has_joined || (seat->is_elsewhere == asker->is_elsewhere &&
+                                                           memcmp(&seat->made_for, now, sizeof *now) == 0)));
 }
 
 static struct seat *find_in_session(struct task *task, const struct user *user, struct admitted admitted) {
@@ -83,11 +81,6 @@ struct seat *have_seat(struct task *task, struct user *user, struct admitted adm
     return seat;
 }
 
-static bool has_state(const struct context *context) {
-    return context_has_keyring(context, KEY_SPEC_THREAD_KEYRING) ||
-           context_has_keyring(context, KEY_SPEC_PROCESS_KEYRING);
-}
-
 void seat_set_session(struct seat *seat, struct session *session) {
     struct session *before = seat->session;
     seat->session = session_use(session);
@@ -98,7 +91,8 @@ void bring_seats(struct task *task, struct session *session) {
     for (unsigned i = task->count; i > 0; i--) {
         struct seat *seat = &task->seats[i - 1];
         if (seat->session == session) continue;
-        if (has_state(&seat->context)) {
+        if (context_has_keyring(&seat->context, KEY_SPEC_THREAD_KEYRING) ||
+            context_has_keyring(&seat->context, KEY_SPEC_PROCESS_KEYRING)) {
             bool is_in = session_enter_by_name(&seat->context, seat->user, session);
             seat_set_session(seat, is_in ? session : NULL);
             seat->is_lost = !is_in;

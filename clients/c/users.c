@@ -37,15 +37,12 @@ void user_let_go(struct user *user) {
 
 /* ---- Giving up ---- */
 
-static bool is_kept_by_another(const struct user *user) {
-    return FIND(all, other, other != user && other->identity.uid == user->identity.uid &&
-                                context_connection(&other->context)) != NULL;
-}
-
 /* The user-session keyring has a link to the user keyring, and nothing else at first. */
 static bool would_lose_keys(const struct user *user) {
     struct kr *connection = context_connection(&user->context);
-    if (!connection || is_kept_by_another(user)) return false;
+    const struct user *keeper = FIND(all, other, other != user && other->identity.uid == user->identity.uid &&
+                                                     context_connection(&other->context));
+    if (!connection || keeper) return false;
     return kr_read(connection, user->context.number, KEY_SPEC_USER_KEYRING, NULL, 0) != 0 ||
            kr_read(connection, user->context.number, KEY_SPEC_USER_SESSION_KEYRING, NULL, 0) != LINK_BYTES;
 }

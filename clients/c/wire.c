@@ -136,21 +136,13 @@ enum kr_decoded kr_decode_reply(const uint8_t *in, size_t length, struct kr_repl
     return KR_WHOLE;
 }
 
-static bool is_error(uint32_t status, int *error) {
-    for (size_t i = 0; i < kr_status_count; i++) {
-        if (kr_statuses[i].number == status) {
-            *error = kr_statuses[i].error;
-            return true;
-        }
-    }
-    return false;
-}
-
 bool kr_is_serial(uint32_t number) { return number > 0 && number <= INT32_MAX; }
 
 bool kr_reply_fits(const struct kr_reply *reply, const struct kr_ask_form *form, int *error) {
-    *error = 0;
-    if (reply->status != 0) return reply->length == 0 && is_error(reply->status, error);
+    const struct kr_status *status = kr_statuses, *end = kr_statuses + kr_status_count;
+    while (status < end && status->number != reply->status) status++;
+    *error = status < end ? status->error : 0;
+    if (reply->status != 0) return reply->length == 0 && status < end;
     switch (form->answer) {
     case KR_NOTHING: return reply->length == 0;
     case KR_NUMBER: return reply->length == 4;
