@@ -4,7 +4,7 @@ from __future__ import annotations
 import errno
 import time
 from collections.abc import Iterator
-from typing import Any, Optional, Sequence, Union
+from typing import Any, Optional, Sequence, Union, cast
 
 from .connection import Connection, Deadline, wipe
 from .errors import Malformed, Refused
@@ -93,14 +93,10 @@ class Client:
             wipe(reply.body)
 
     def _number(self, name: str, context: int, *values: Any) -> int:
-        answer = self.ask(name, context, *values)
-        assert isinstance(answer, int)
-        return answer
+        return cast(int, self.ask(name, context, *values))
 
     def _bytes(self, name: str, context: int, *values: Any) -> bytes:
-        answer = self.ask(name, context, *values)
-        assert isinstance(answer, bytes)
-        return answer
+        return cast(bytes, self.ask(name, context, *values))
 
     # Contexts: the first three answer the number that other asks take as `context`.
 
@@ -190,9 +186,7 @@ class Client:
         """Puts the payload of a key into a buffer that the caller may wipe, and answers its length. If it is longer
         than the buffer, nothing is put there. No other copy stays in the program."""
         with memoryview(buffer) as whole, whole.cast("B") as room:
-            length = self._answer_of("READ", self._exchange("READ", context, (key,)), room)
-        assert isinstance(length, int)
-        return length
+            return cast(int, self._answer_of("READ", self._exchange("READ", context, (key,)), room))
 
     def read_ring(self, context: int, ring: int) -> list[int]:
         """The serials that a keyring links. Malformed where the key reads as none: it isn't a keyring."""

@@ -180,9 +180,13 @@ class Connection:
 
     def end(self, why: str, forget: bool = False) -> None:
         """From here on each call raises Lost, and says why; but first receive() gives the answers that have come,
-        unless they are to be forgotten."""
+        unless they are to be forgotten. A program may have closed the descriptor, and have something else under its
+        number."""
         self._lost = self._lost or why
-        self._close()
+        if self._identity == _identity_of(self._socket):
+            self._socket.close()
+        else:
+            self._socket.detach()
         self._received = _behind(self._received, len(self._received))
         self._drop_answer()
         if forget:
@@ -194,13 +198,6 @@ class Connection:
         if self._answer is not None:
             wipe(self._answer.body)
         self._answer = None
-
-    def _close(self) -> None:
-        """Closes the socket. A program may have closed its descriptor, and have something else under the number."""
-        if self._identity == _identity_of(self._socket):
-            self._socket.close()
-        else:
-            self._socket.detach()
 
     def check(self) -> None:
         """Lost where the connection can't be used."""

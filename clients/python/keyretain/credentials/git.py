@@ -126,15 +126,8 @@ def erase(given: Attributes) -> None:
 # ---- The program
 
 
-class Words(NamedTuple):
-    """What the command's words say."""
-
-    operation: str
-    timeout: int
-
-
-def read_words(words: Sequence[str]) -> Optional[Words]:
-    """None where they are none that it takes."""
+def read_words(words: Sequence[str]) -> Optional[tuple[str, int]]:
+    """The operation and the timeout; None where they are none that it takes."""
     timeout, rest = str(SECONDS), list(words)
     if rest and rest[0].startswith("--timeout="):
         timeout = rest.pop(0).partition("=")[2]
@@ -143,16 +136,16 @@ def read_words(words: Sequence[str]) -> Optional[Words]:
     is_number = timeout.isascii() and timeout.isdecimal() and len(timeout) <= len(str(MOST_SECONDS))
     if len(rest) != 1 or rest[0].startswith("-") or not is_number or int(timeout) > MOST_SECONDS:
         return None
-    return Words(rest[0], int(timeout))
+    return rest[0], int(timeout)
 
 
-def carry_out(words: Words) -> None:
+def carry_out(operation: str, timeout: int) -> None:
     """An operation that isn't known is ignored: git may have more of them."""
-    if words.operation == "get":
+    if operation == "get":
         get(read_attributes())
-    elif words.operation == "store":
-        store(read_attributes(), words.timeout)
-    elif words.operation == "erase":
+    elif operation == "store":
+        store(read_attributes(), timeout)
+    elif operation == "erase":
         erase(read_attributes())
 
 
@@ -168,7 +161,7 @@ def main(words: Optional[Sequence[str]] = None) -> int:
         return WRONG_WORDS
     keep_no_core()
     try:
-        carry_out(asked)
+        carry_out(*asked)
     except (OSError, Unusable) as error:
         complain(f"{PROGRAM}: {words_of(error)}")
         return FAILED
