@@ -56,7 +56,7 @@ static struct link *find_place(uint32_t uid, unsigned *has) {
 }
 
 /* False for those who have no number here, and share one. */
-static bool is_somebody(int client, struct ucred *peer) {
+static bool is_somebody(int client, struct peer *peer) {
     if (!find_peer(client, peer)) return false;
     if (peer->uid != unknown_uid) return true;
     tell(OF_CLIENTS, "refused: a uid without a number here\n");
@@ -64,7 +64,7 @@ static bool is_somebody(int client, struct ucred *peer) {
 }
 
 static void begin_client(int client) {
-    struct ucred peer;
+    struct peer peer;
     unsigned has;
     if (!is_somebody(client, &peer)) {
         close(client);

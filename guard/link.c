@@ -59,7 +59,7 @@ static size_t screen_ask(struct link *link, uint8_t *bytes, size_t length, struc
     return passed;
 }
 
-static void tell_refusal(const struct ucred *peer, const struct screen_claim *claim) {
+static void tell_refusal(const struct peer *peer, const struct screen_claim *claim) {
     tell(OF_CLIENTS, "refused: uid %u, gid %u (pid %d) named uid %u, gid %u, %u groups\n", peer->uid, peer->gid,
          peer->pid, claim->uid, claim->gid, claim->count);
 }
@@ -310,7 +310,7 @@ bool make_links(struct link *links, unsigned count) {
     return are_made;
 }
 
-void begin_link(struct link *link, int client, const struct ucred *peer, int64_t deadline) {
+void begin_link(struct link *link, int client, const struct peer *peer, int64_t deadline) {
     pthread_mutex_lock(&link->lock);
     link->is_used = true;
     link->client = client;

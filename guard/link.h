@@ -19,7 +19,7 @@ struct link {
     bool is_ended; /* it was silent for too long */
     bool has_greeted;
     int client, server; /* -1 before the first frame; the place's thread alone opens and closes them */
-    struct ucred peer;
+    struct peer peer;
     bool is_trusted;
     int64_t deadline;  /* for the first HELLO */
     sem_t has_client;  /* what the thread waits for where there is none */
@@ -35,7 +35,7 @@ extern int freed;
 bool make_links(struct link *links, unsigned count);
 
 /* Gives a free place to this client. */
-void begin_link(struct link *link, int client, const struct ucred *peer, int64_t deadline);
+void begin_link(struct link *link, int client, const struct peer *peer, int64_t deadline);
 
 /* Whether a place is taken, and by whom. */
 bool find_owner(struct link *link, uint32_t *uid);

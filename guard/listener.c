@@ -85,7 +85,7 @@ int open_listener(const char *path, unsigned mode, enum descriptors descriptors)
 }
 
 bool is_own_peer(int connection) {
-    struct ucred peer;
+    struct peer peer;
     socklen_t length = sizeof peer;
     return getsockopt(connection, SOL_SOCKET, SO_PEERCRED, &peer, &length) == 0 && peer.uid == geteuid();
 }

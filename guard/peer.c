@@ -39,7 +39,7 @@ void find_unknown_ids(void) {
     unknown_gid = unknown_of("/proc/self/gid_map", "/proc/sys/kernel/overflowgid");
 }
 
-bool find_peer(int client, struct ucred *peer) {
+bool find_peer(int client, struct peer *peer) {
     socklen_t length = sizeof *peer;
     return getsockopt(client, SOL_SOCKET, SO_PEERCRED, peer, &length) == 0 && length == sizeof *peer;
 }

@@ -16,7 +16,7 @@ extern uint32_t unknown_uid, unknown_gid;
 void find_unknown_ids(void);
 
 /* False where the kernel doesn't say. */
-bool find_peer(int client, struct ucred *peer);
+bool find_peer(int client, struct peer *peer);
 
 /* The supplementary groups that the peer had when it connected; none where the kernel doesn't say. They stay until they
  * are given back, and meanwhile no other thread gets any. */

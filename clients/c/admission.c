@@ -1,6 +1,6 @@
 /* admission.c: the facts of which krs_admission.h judges. Nothing is judged here: what can't be read is said to be
  * so. */
-#include "admission.h"
+#include "entries.h"
 
 static bool is_in_container;
 

@@ -1,5 +1,5 @@
 /* contexts.c: the connections of a supervisor, and the contexts in them. */
-#include "contexts.h"
+#include "sessions.h"
 
 /* The daemon ends a connection after 16,777,216 reads of at most 4,096 bytes each. What is left of them is for
  * contexts that stay on it. */

@@ -3,8 +3,6 @@
 
 #include <sys/epoll.h>
 
-#include "proc.h"
-
 enum { BUCKETS = 1024, SPARE_DESCRIPTORS = 40, OF_PROCESS = 2 };
 
 static struct {

@@ -74,7 +74,7 @@ int filter_decode(const struct seccomp_data *data, unsigned long at[5]) {
     case 0:
         for (int i = 0; i < 5; i++) at[i] = args[i];
         return CALL_ADD_KEY;
-    case 1: /* rows.h has the call-out information last */
+    case 1: /* rows.c has the call-out information last */
         at[0] = args[0], at[1] = args[1], at[2] = args[3], at[3] = args[2];
         return CALL_REQUEST_KEY;
     case 2:

@@ -1,7 +1,6 @@
 /* keyutils.c: the functions of libkeyutils 1.6.3. */
 #include "caller.h"
 #include "keyutils.h"
-#include "rows.h"
 #include "session.h"
 
 #include <stdarg.h>

@@ -1,5 +1,5 @@
 /* maps.c: the ids of user_namespaces(7). */
-#include "admission.h"
+#include "entries.h"
 
 #include <linux/nsfs.h>
 #include <sched.h>

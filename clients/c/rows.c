@@ -1,5 +1,5 @@
 /* rows.c: the calls. */
-#include "rows.h"
+#include "caller.h"
 
 enum { ADD_MAX = 1024 * 1024 - 1 };
 

@@ -139,11 +139,9 @@ static void at_end_of_thread(void *unused) {
 
 __attribute__((constructor)) static void begin(void) {
     const char *text = secure_getenv(KR_SESSION_VARIABLE);
-    if (text && *text && (process.session = malloc(sizeof *process.session)) != NULL &&
-        !kr_parse_session(process.session, text)) {
-        free(process.session);
-        process.session = NULL;
-    }
+    struct kr_session named;
+    bool is_named = text && kr_parse_session(&named, text);
+    if (is_named && (process.session = malloc(sizeof named)) != NULL) *process.session = named;
     if (process.session) process.handed = kr_handed_holder(process.session);
     pthread_atfork(before_fork, after_fork, in_child);
     process.has_end_of_thread = pthread_key_create(&process.end_of_thread, at_end_of_thread) == 0;

@@ -1,7 +1,5 @@
 /* syscalls.c: what add_key(2), request_key(2) and keyctl(2) answer, from what keyretaind answers. Where the two
  * differ, the kernel's answer is given, as programs know it. */
-#include "rows.h"
-
 #include "caller.h"
 #include "session.h"
 

@@ -1,7 +1,5 @@
 /* task_contexts.c: the contexts of threads. */
-#include "entries.h"
-
-#include "tracees.h"
+#include "serve.h"
 
 enum { LOOKED_AT = 64, GIVEN_UP = 8, MOST = KR_CONTEXTS * 3 / 4 };
 

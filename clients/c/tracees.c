@@ -1,8 +1,5 @@
 /* tracees.c: the threads whose calls are served, one at a time. */
-#include "tracees.h"
-
-#include "admission.h"
-#include "caller.h"
+#include "serve.h"
 
 static struct entered all;
 static struct serials serials;

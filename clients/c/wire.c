@@ -1,5 +1,5 @@
 /* wire.c: the frames of keyretain-protocol(7), and the records of queues. All numbers are little-endian. */
-#include "wire.h"
+#include "connection.h"
 
 enum { VERSION = 2, REPLY_HEAD = 16 };
 

@@ -16,10 +16,7 @@
 #include "../clients.d/check.h"
 #include "calls.h"
 #include "connection.h"
-#include "admission.h"
-#include "proc.h"
-#include "rows.h"
-#include "tracees.h"
+#include "serve.h"
 
 enum { NUMBER = 100, THREAD = 200, MOST_DESCRIPTORS = 256 };
 

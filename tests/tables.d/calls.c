@@ -2,7 +2,7 @@
  * `refused` where nothing is asked, and what its arguments are. */
 #include <stdio.h>
 
-#include "rows.h"
+#include "caller.h"
 
 static const char *const kinds[] = { [KEY_NUMBER] = "number", [KEY_ID] = "id",        [KEY_TYPE] = "text",
                                      [KEY_TEXT] = "text",     [KEY_PAYLOAD] = "blob", [KEY_ROOM] = "room" };

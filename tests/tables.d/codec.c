@@ -5,7 +5,7 @@
 #include <stdlib.h>
 #include <string.h>
 
-#include "wire.h"
+#include "connection.h"
 
 static const char *const form_names[] = { "", "id", "u8", "u32", "i32", "text", "blob", "groups", "entries" };
 static const char *const answer_names[] = { "nothing", "number", "serial", "bytes" };

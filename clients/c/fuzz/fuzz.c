@@ -8,7 +8,7 @@
 #include <string.h>
 
 #include "server.h"
-#include "wire.h"
+#include "connection.h"
 
 int LLVMFuzzerTestOneInput(const uint8_t *input, size_t length);
 

@@ -8,7 +8,7 @@
 #include "fuzz.h"
 #include "keyretain.h"
 #include "server.h"
-#include "wire.h"
+#include "connection.h"
 
 enum { CALLS = 12, PATIENCE = 30000, ANYBODY = 1, LONGEST_ANSWER = 262140 };
 

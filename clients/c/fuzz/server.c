@@ -23,7 +23,7 @@
 #include <unistd.h>
 
 #include "keyretain.h"
-#include "wire.h"
+#include "connection.h"
 
 enum { DESCRIPTOR = 1000, OPENED_MAX = 6, MAPPED_MAX = 16, STEPS_MAX = 1500, STRANGER = 4242, KEEPER = 1 << 30 };
 enum { ASKS_ROOM = 1 << 18, REPLIES_ROOM = 1 << 20, BODY_ROOM = 270000 };

@@ -17,7 +17,6 @@
 #include <unistd.h>
 
 #include "caller.h"
-#include "contexts.h"
 #include "serve.h"
 
 enum { PAGE = 4096, PAGES = 96, BEHIND = 65, WORDS = 5, HEAD = 2 + WORDS * 8 };
