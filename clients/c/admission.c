@@ -44,10 +44,6 @@ void admission_put_identity(struct kr_identity *identity, const struct proc_stat
         if (maps_have_gid(status->groups[i])) identity->groups[identity->count++] = maps_gid(status->groups[i]);
 }
 
-bool admission_has_ids(const struct proc_status *status) {
-    return maps_have_uid(status->uids.real) && maps_have_uid(status->uids.files);
-}
-
 /* A runtime's user is the container's, or its root. */
 void admission_put_first(struct kr_identity *identity) {
     memset(identity, 0, sizeof *identity);
@@ -81,17 +77,14 @@ static bool tell(const struct session *session, struct admission_session *told) 
 enum { LOOKS = 3 };
 
 /* What a runtime has begun for all of a container is above all in it. */
-static struct session *session_above(pid_t id, bool *is_known) {
-    const struct process *above = find_above(id, is_known);
-    for (int i = 1; i < LOOKS && !*is_known; i++) above = find_above(id, is_known);
-    return above ? above->first->session : is_in_container ? sessions_first() : NULL;
-}
-
 struct admitted admission_admit(const struct task *task, const struct admission_process *process) {
     struct admission_arrival arrival;
     struct session *tagged, *above;
     memset(&arrival, 0, sizeof arrival);
-    above = session_above(task->process->id, &arrival.knows_above);
+    const struct process *process_above = find_above(task->process->id, &arrival.knows_above);
+    for (int i = 1; i < LOOKS && !arrival.knows_above; i++)
+        process_above = find_above(task->process->id, &arrival.knows_above);
+    above = process_above ? process_above->first->session : is_in_container ? sessions_first() : NULL;
     arrival.process = *process;
     arrival.has_limit = proc_read_locks(task->process->id, &arrival.soft);
     tagged = arrival.has_limit ? session_of_tag(arrival.soft) : NULL;

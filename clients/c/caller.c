@@ -24,19 +24,16 @@ static int set_no_daemon(void) {
     return is_lacking || errno == EACCES || errno == ETIMEDOUT ? -1 : fail_as(ENOSYS);
 }
 
-static struct daemon daemon_of(const struct kr *connection) {
-    struct stat status;
-    if (connection->peer.pid != 0 || stat(connection->address.sun_path, &status) < 0)
-        return (struct daemon){ .process = connection->peer.pid };
-    return (struct daemon){ .device = (int64_t)status.st_dev, .inode = (int64_t)status.st_ino,
-                            .made = status.st_mtim.tv_sec, .and_nanoseconds = status.st_mtim.tv_nsec };
-}
-
 /* Whom this seat asks from now on. What a user's own daemon was told isn't told to the system's in its place. Serials
  * of another daemon than the last one's mean nothing. */
 static int meet_daemon(struct seat *seat) {
     struct kr *connection = seat->connection;
-    const struct daemon none = { 0 }, daemon = daemon_of(connection);
+    const struct daemon none = { 0 };
+    struct daemon daemon = { .process = connection->peer.pid };
+    struct stat file;
+    if (connection->peer.pid == 0 && stat(connection->address.sun_path, &file) == 0)
+        daemon = (struct daemon){ .device = (int64_t)file.st_dev, .inode = (int64_t)file.st_ino,
+                                  .made = file.st_mtim.tv_sec, .and_nanoseconds = file.st_mtim.tv_nsec };
     bool is_other = memcmp(&seat->daemon, &none, sizeof none) != 0 &&
                     memcmp(&seat->daemon, &daemon, sizeof daemon) != 0;
     if (seat->is_own && connection->place == KR_SYSTEM) return fail_as(ENOSYS);
@@ -92,9 +89,9 @@ static int begin_seat(struct seat *seat) {
     return 0;
 }
 
-/* On a new connection after fork(2), after the daemon ended it, and after the program closed it. One on which no context
- * was made is ended, and what the daemon may do for it with it. Where the guard has no place for the user's connections,
- * one may be free in a moment. It says so, or in a crowd ends some without a word. */
+/* On a new connection after fork(2), after the daemon ended it, and after the program closed it. One on which no
+ * context was made is ended, and what the daemon may do for it with it. Where the guard has no place for the user's
+ * connections, one may be free in a moment. It says so, or in a crowd ends some without a word. */
 static int have_shared_context(struct seat *seat, int64_t call_end) {
     int64_t opening_end = kr_now() + OPENING_MILLISECONDS, end = opening_end < call_end ? opening_end : call_end;
     for (int pause = 1;; pause = pause < LONGEST_PAUSE ? 2 * pause : pause) {

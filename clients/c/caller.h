@@ -6,8 +6,8 @@
 #include "common.h"
 #include "keyretain.h"
 
-/* ---- rows.c: the calls, a row each: all that the supervisor and libkeyutils.so.1 want to know of one before it is carried
- * out; and who carries it out ---- */
+/* ---- rows.c: the calls, a row each: all that the supervisor and libkeyutils.so.1 want to know of one before it is
+ * carried out; and who carries it out ---- */
 
 /* The commands of keyctl(2), and behind them the two other system calls. */
 enum { CALL_ADD_KEY = 256, CALL_REQUEST_KEY };

@@ -71,10 +71,10 @@ static long copy_out(const struct key_row *row, unsigned long to, unsigned long 
 
 /* `length` is what was answered before it was copied out. */
 static void wipe(const struct key_row *row, const unsigned long *at, long length) {
-    int payload = key_row_argument(row, KEY_PAYLOAD);
+    int payload = key_row_argument(row, KEY_PAYLOAD), room = key_row_argument(row, KEY_ROOM);
     for (int i = 0; i < TEXTS; i++) explicit_bzero(copies->texts[i], strlen(copies->texts[i]));
     if (payload >= 0) explicit_bzero(copies->payload, least(at[payload + 1], PAYLOAD_MAX));
-    if (key_row_argument(row, KEY_ROOM) >= 0 && length > 0) explicit_bzero(copies->room, least((unsigned long)length, ROOM_MAX));
+    if (room >= 0 && length > 0) explicit_bzero(copies->room, least((unsigned long)length, ROOM_MAX));
 }
 
 /* ---- Answers that are kept ---- */

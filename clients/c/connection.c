@@ -181,25 +181,20 @@ int kr_send(struct kr *connection, unsigned operation, uint32_t context, const s
     return sent;
 }
 
-/* Sends what goes out without waiting. */
-static int flush_at_once(struct kr *connection) {
-    int64_t deadline = connection->deadline;
-    connection->deadline = 0;
-    int sent = kr_flush(connection);
-    connection->deadline = deadline;
-    return sent < 0 && connection->broken ? -1 : 0;
-}
-
 /* Waits for bytes, and sends meanwhile what is still to go out: a daemon that waits for its replies to be taken reads
  * nothing. */
 static int send_and_receive(struct kr *connection) {
+    const int64_t deadline = connection->deadline;
     while (connection->out_start < connection->out_end) {
         struct pollfd wait = { .fd = connection->socket.descriptor, .events = POLLIN | POLLOUT };
         int ready = poll(&wait, 1, kr_milliseconds_left(connection));
         if (ready == 0) return fail_as(ETIMEDOUT);
         if (ready < 0 && (errno != EINTR || connection->interruptible)) return -1;
         if (ready > 0 && wait.revents & ~POLLOUT) break;
-        if (ready > 0 && flush_at_once(connection) < 0) return -1;
+        connection->deadline = 0;
+        int sent = ready > 0 ? kr_flush(connection) : 0; /* what goes out without waiting */
+        connection->deadline = deadline;
+        if (sent < 0 && connection->broken) return -1;
     }
     return kr_receive_bytes(connection);
 }

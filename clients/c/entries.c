@@ -165,18 +165,13 @@ bool has_executed(const struct process *process, uint64_t image) {
 
 bool entries_want_sweep(void) { return all.swept > 0; }
 
-static void sweep(struct process *process) {
-    if (!process->may_have_keyrings) return;
-    for (struct task *task = process->tasks, *next; task; task = next) {
-        next = task->next;
-        if (task->descriptor >= 0 && proc_has_ended(task->descriptor)) end_task(task);
-    }
-    if (has_executed(process, proc_image(process->id))) note_executed(process);
-}
-
 void entries_sweep(void) {
-    for (struct process *process = entries_oldest(), *next; process && all.swept > 0; process = next) {
-        next = entries_next(process);
-        sweep(process);
+    for (struct process *process = entries_oldest(); process && all.swept > 0; process = entries_next(process)) {
+        if (!process->may_have_keyrings) continue;
+        for (struct task *task = process->tasks, *next; task; task = next) {
+            next = task->next;
+            if (task->descriptor >= 0 && proc_has_ended(task->descriptor)) end_task(task);
+        }
+        if (has_executed(process, proc_image(process->id))) note_executed(process);
     }
 }

@@ -197,9 +197,6 @@ void admission_set(struct admission_process *process, uint32_t uid);
 /* As who a call is asked that names the user keyrings, begins a session, or neither. */
 void admission_put_identity(struct kr_identity *identity, const struct proc_status *status, bool is_of_user);
 
-/* Whether a thread's uids have numbers in the user namespace that is served: else it can't be told from others. */
-bool admission_has_ids(const struct proc_status *status);
-
 /* Whose the first session of a container is. */
 void admission_put_first(struct kr_identity *identity);
 

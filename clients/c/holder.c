@@ -10,16 +10,11 @@
 
 enum { KEPT_DESCRIPTOR = 200, READING = 0, WRITING = 1, LOOK_MILLISECONDS = 1 };
 
-/* Two pipes: the keeper waits on the reading end of one, and says on the other what it has made. */
-struct pipes {
-    int life[2], answer[2];
-};
-
-static void close_pipes(struct pipes *pipes) {
-    for (int i = READING; i <= WRITING; i++) {
-        close_one(&pipes->life[i]);
-        close_one(&pipes->answer[i]);
-    }
+/* A pipe of which each end is closed at the end of the block, if it still is open. */
+#define PIPE(name) int name[2] __attribute__((cleanup(close_pipe))) = { -1, -1 }
+static void close_pipe(int (*ends)[2]) {
+    close_one(&(*ends)[READING]);
+    close_one(&(*ends)[WRITING]);
 }
 
 /* A pipe whose numbers are none of the three that programs read from and write to. */
@@ -36,15 +31,15 @@ static int open_pipe(int ends[2]) {
 /* ---- Starting ---- */
 
 /* An error, or 0. The process that is started has no terminal; it goes to the background by itself, and ends. */
-static int spawn(const struct pipes *pipes, char *const words[], pid_t *started) {
+static int spawn(int life, int answer, char *const words[], pid_t *started) {
     char *environment[] = { NULL };
     posix_spawn_file_actions_t actions;
     posix_spawnattr_t attributes;
     int error;
     posix_spawn_file_actions_init(&actions); /* this and the next take no memory */
     posix_spawnattr_init(&attributes);
-    if (!(error = posix_spawn_file_actions_adddup2(&actions, pipes->life[READING], STDIN_FILENO)) &&
-        !(error = posix_spawn_file_actions_adddup2(&actions, pipes->answer[WRITING], STDOUT_FILENO)) &&
+    if (!(error = posix_spawn_file_actions_adddup2(&actions, life, STDIN_FILENO)) &&
+        !(error = posix_spawn_file_actions_adddup2(&actions, answer, STDOUT_FILENO)) &&
         !(error = posix_spawn_file_actions_addopen(&actions, STDERR_FILENO, "/dev/null", O_RDWR, 0)) &&
         !(error = posix_spawnattr_setflags(&attributes, POSIX_SPAWN_SETSID)))
         error = posix_spawn(started, KEYRETAIN_KEEPER, &actions, &attributes, words, environment);
@@ -90,7 +85,6 @@ static int read_line(int from, char *text, size_t room, int64_t deadline) {
 static int read_answer(int from, struct kr_session *session, int64_t deadline, enum kr_refusal *why) {
     char text[KR_SESSION_NAME_ROOM + KR_PATH_ROOM + 64];
     int error;
-    *why = KR_NO_KEEPER;
     if (read_line(from, text, sizeof text, deadline) < 0) return -1;
     text[strcspn(text, "\n")] = '\0';
     if (kr_parse_session(session, text) && session->serial > 0) return 0;
@@ -101,42 +95,31 @@ static int read_answer(int from, struct kr_session *session, int64_t deadline, e
 
 /* ---- A holder ---- */
 
-/* What is inherited: not closed by execve(2), and out of the way of shells. */
-static int keep(struct kr_file *holder, int life) {
-    int kept = fcntl(life, F_DUPFD, KEPT_DESCRIPTOR);
-    if (kept < 0) kept = fcntl(life, F_DUPFD, STDERR_FILENO + 1); /* fewer descriptors are allowed than that */
-    return kr_take_file(holder, kept) ? 0 : -1;
-}
-
-static int start(struct pipes *pipes, char *const words[], struct kr_session *session, int64_t deadline,
-                 enum kr_refusal *why) {
-    pid_t started;
-    *why = KR_NO_KEEPER;
-    if (open_pipe(pipes->life) < 0 || open_pipe(pipes->answer) < 0) return -1;
-    int error = spawn(pipes, words, &started);
-    close_one(&pipes->life[READING]);
-    close_one(&pipes->answer[WRITING]);
-    if (error) return fail_as(error);
-    int result = read_answer(pipes->answer[READING], session, deadline, why);
-    reap(started, deadline);
-    return result;
-}
-
+/* The keeper waits on the reading end of one pipe, and says on the other what it has made. What is inherited is not
+ * closed by execve(2), and out of the way of shells. */
 int kr_start_keeper(struct kr_file *holder, struct kr_session *session, const char *socket, bool links_user,
                     int64_t deadline, enum kr_refusal *why) {
-    struct pipes pipes = { { -1, -1 }, { -1, -1 } };
+    PIPE(life);
+    PIPE(answer);
     char *words[8] = { "keyretain-keeper", "--deaf", "--socket", (char *)socket };
     int count = 4;
-    if (strchr(session->name, '\n')) { /* the keeper answers with a line */
-        *why = KR_REFUSED;
-        return fail_as(EINVAL);
-    }
+    pid_t started;
+    bool is_line = !strchr(session->name, '\n'); /* the keeper answers with one */
+    *why = is_line ? KR_NO_KEEPER : KR_REFUSED;
+    if (!is_line) return fail_as(EINVAL);
     if (!links_user) words[count++] = "--no-link";
     if (*session->name) words[count++] = "--name", words[count++] = session->name;
-    int result = start(&pipes, words, session, deadline, why);
-    if (result == 0) result = keep(holder, pipes.life[WRITING]);
-    close_pipes(&pipes);
-    return result;
+    if (open_pipe(life) < 0 || open_pipe(answer) < 0) return -1;
+    int error = spawn(life[READING], answer[WRITING], words, &started);
+    close_one(&life[READING]);
+    close_one(&answer[WRITING]);
+    if (error) return fail_as(error);
+    int result = read_answer(answer[READING], session, deadline, why);
+    reap(started, deadline);
+    if (result < 0) return -1;
+    int kept = fcntl(life[WRITING], F_DUPFD, KEPT_DESCRIPTOR);
+    if (kept < 0) kept = fcntl(life[WRITING], F_DUPFD, STDERR_FILENO + 1); /* fewer descriptors are allowed than that */
+    return kr_take_file(holder, kept) ? 0 : -1;
 }
 
 /* ---- Handing on ---- */

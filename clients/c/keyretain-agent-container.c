@@ -207,10 +207,11 @@ static struct container *find(const char *id, pid_t first) {
 }
 
 static struct container *begin(const char *id, pid_t first) {
-    struct container *container = all.containers, *end = all.containers + all.settings.most;
+    struct container *container = all.containers, *last = all.containers + all.settings.most - 1;
+    const int kind = SOCK_SEQPACKET | SOCK_CLOEXEC | SOCK_NONBLOCK;
     int ends[2];
-    while (container < end && *container->id) container++;
-    if (container == end || socketpair(AF_UNIX, SOCK_SEQPACKET | SOCK_CLOEXEC | SOCK_NONBLOCK, 0, ends) < 0) return NULL;
+    while (container < last && *container->id) container++;
+    if (*container->id || socketpair(AF_UNIX, kind, 0, ends) < 0) return NULL;
     int process = first > 0 ? proc_open(first) : -1;
     *container = (struct container){ .first = first, .process = process, .in = ends[0], .out = ends[1] };
     strcpy(container->id, id);

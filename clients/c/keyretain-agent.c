@@ -87,7 +87,7 @@ static void read_options(int count, char **words) {
 /* ---- A runtime that has connected, and what has come from it so far ---- */
 
 /* The annotations of a container are in its state, and may be long. */
-enum { VISITOR_STATE_MAX = 1024 * 1024, VISITOR_DESCRIPTORS_MAX = 16, VISITOR_PATIENCE = 2000 };
+enum { VISITOR_STATE_MAX = 1024 * 1024, VISITOR_DESCRIPTORS_MAX = 16, VISITOR_PATIENCE = 2000, LOOK = 100 };
 
 struct visitor {
     bool is_here;
@@ -226,21 +226,17 @@ static void end_late_visitors(void) {
 
 /* ---- The loop ---- */
 
-static int milliseconds_to_wait(void) {
-    int64_t next = KR_NEVER, now = kr_now();
-    for (int i = 0; i < VISITORS_MAX; i++)
-        if (visitors[i].is_here && visitors[i].deadline < next) next = visitors[i].deadline;
-    if (next == KR_NEVER) return -1;
-    return next > now ? (int)(next - now) : 0;
-}
-
-/* Negative descriptors are not waited for: free places, and the socket while there is none. */
+/* Negative descriptors are not waited for: free places, and the socket while there is none. While somebody is here it
+ * is looked again and again who is late. */
 static void wait_for_events(struct pollfd waits[WAITS]) {
-    for (int i = 0; i < VISITORS_MAX; i++)
+    int milliseconds = -1;
+    for (int i = 0; i < VISITORS_MAX; i++) {
         waits[i] = (struct pollfd){ .fd = visitors[i].is_here ? visitors[i].connection : -1, .events = POLLIN };
+        if (visitors[i].is_here) milliseconds = LOOK;
+    }
     waits[LISTENING] = (struct pollfd){ .fd = free_place() ? listening : -1, .events = POLLIN };
     waits[SIGNALS] = (struct pollfd){ .fd = signals, .events = POLLIN };
-    while (poll(waits, WAITS, milliseconds_to_wait()) < 0)
+    while (poll(waits, WAITS, milliseconds) < 0)
         if (errno != EINTR) fail("poll");
 }
 

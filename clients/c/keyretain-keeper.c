@@ -90,8 +90,8 @@ static void let_go_of(int descriptor) {
     if (nothing != descriptor) close(nothing);
 }
 
-/* Nothing of whoever started it stays: no descriptor but the two, no terminal, no signals that are ignored or held back,
- * no other ids. */
+/* Nothing of whoever started it stays: no descriptor but the two, no terminal, no signals that are ignored or held
+ * back, no other ids. */
 static void stand_alone(void) {
     sigset_t none;
     sigemptyset(&none);
@@ -133,16 +133,6 @@ static void answer(struct kr *connection, int32_t serial, const char *name, cons
     kr_set_patience(connection, PATIENCE_MILLISECONDS);
 }
 
-/* The link to the user keyring is the one that pam_keyinit(8) makes too. */
-static void begin(struct kr *connection, uint32_t context, const struct options *options,
-                  struct kr_session *session) {
-    if (kr_name_session(session, options->name) < 0) say(REFUSED, "refused", "the name");
-    session->serial = kr_begin_session(connection, context, session->name, geteuid());
-    if (session->serial < 0) fail_ask(connection, session->name);
-    if (options->links_user && kr_link(connection, context, KEY_SPEC_USER_KEYRING, KEY_SPEC_SESSION_KEYRING) < 0)
-        fail_ask(connection, "linking the user keyring");
-}
-
 /* Waits for the end of the pipe, or unless it is deaf for a byte; or for the end of the connection. Answers the byte,
  * or 0. What is deaf reads nothing: whoever inherits the pipe may write to it. */
 static char wait_for_end(const struct kr *connection, bool is_deaf) {
@@ -154,12 +144,17 @@ static char wait_for_end(const struct kr *connection, bool is_deaf) {
     return byte;
 }
 
+/* The link to the user keyring is the one that pam_keyinit(8) makes too. */
 static void hold_session(const struct options *options) {
     static struct kr_session session;
     struct kr_where where;
     uint32_t context;
     struct kr *connection = connect_to(options, &where, &context);
-    begin(connection, context, options, &session);
+    if (kr_name_session(&session, options->name) < 0) say(REFUSED, "refused", "the name");
+    session.serial = kr_begin_session(connection, context, session.name, geteuid());
+    if (session.serial < 0) fail_ask(connection, session.name);
+    if (options->links_user && kr_link(connection, context, KEY_SPEC_USER_KEYRING, KEY_SPEC_SESSION_KEYRING) < 0)
+        fail_ask(connection, "linking the user keyring");
     answer(connection, session.serial, session.name, where.path);
     if (wait_for_end(connection, options->is_deaf) == 'r')
         kr_revoke(connection, context, KEY_SPEC_SESSION_KEYRING);

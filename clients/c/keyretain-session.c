@@ -150,19 +150,16 @@ static const char *library_folder(void) {
     return named && *named ? named : KEYRETAIN_LIBRARY_FOLDER;
 }
 
-/* Whether nobody else may change what is there. Of a folder above the library's another user may write to one such as
- * /tmp, where each may rename its own alone; and who owns / is root, which may have no number in a user namespace. */
-static bool is_safe(const struct stat *status, bool is_above) {
+/* Ends where somebody else may change what is there. Of a folder above the library's another user may write to one such
+ * as /tmp, where each may rename its own alone; and who owns / is root, which may have no number in a user namespace.
+ * */
+static void refuse_others(const char *path, const struct stat *status, bool is_above) {
     struct stat root;
     bool is_own = status->st_uid == geteuid() || status->st_uid == 0 ||
                   (is_above && stat("/", &root) == 0 && status->st_uid == root.st_uid);
     mode_t writers = is_above || status->st_gid == getegid() ? S_IWOTH : S_IWGRP | S_IWOTH;
-    return is_own && (!(status->st_mode & writers) || (is_above && status->st_mode & S_ISVTX));
-}
-
-static void refuse_others(const char *path, const struct stat *status, bool is_above) {
     errno = EACCES;
-    if (!is_safe(status, is_above)) fail(NO_CONNECTION, path);
+    if (!is_own || (status->st_mode & writers && !(is_above && status->st_mode & S_ISVTX))) fail(NO_CONNECTION, path);
 }
 
 /* What the environment names may be another user's, as after su(1), and what is run would load it. So each folder on

@@ -42,14 +42,6 @@ static unsigned length_of(const struct map *map) {
     return length;
 }
 
-static unsigned read_unknown(void) {
-    unsigned unknown;
-    FILE *file = fopen("/proc/sys/kernel/overflowuid", "re");
-    if (!file || fscanf(file, "%u", &unknown) != 1) unknown = OVERFLOW_ID;
-    if (file) fclose(file);
-    return unknown;
-}
-
 /* The outermost user namespace around a process that isn't ours, if our user has made it, as runtimes do; else -1. What
  * runs in it may have made others, as it may have before this is looked at. */
 static int open_outermost(pid_t process, const struct stat *ours) {
@@ -90,8 +82,10 @@ static bool read_maps_of(int namespace, pid_t first) {
 }
 
 void maps_begin(pid_t first) {
-    static const struct map ours = { .count = 1, .ranges = { { 0, 0, UINT32_MAX } } }; /* ids are read as they are here */
-    all.unknown = read_unknown();
+    static const struct map ours = { .count = 1, .ranges = { { 0, 0, UINT32_MAX } } }; /* ids are as they are read */
+    FILE *file = fopen("/proc/sys/kernel/overflowuid", "re");
+    if (!file || fscanf(file, "%u", &all.unknown) != 1) all.unknown = OVERFLOW_ID;
+    if (file) fclose(file);
     all.length = read_map(getpid(), "uid_map", &all.uids) ? length_of(&all.uids) : 0;
     if (find_namespace(getpid(), &all.namespace) < 0) return;
     all.uids = all.gids = ours;

@@ -29,8 +29,8 @@ static bool put_runtime_folder(char *path, size_t room) {
     return length >= 0 && (size_t)length < room;
 }
 
-/* A daemon that the user has set up is meant even while it is down: what its user keeps isn't told to the system's daemon
- * because of that. */
+/* A daemon that the user has set up is meant even while it is down: what its user keeps isn't told to the system's
+ * daemon because of that. */
 int kr_locate(struct kr_where *where, const char *path) {
     bool is_set_uid = getauxval(AT_SECURE) != 0;
     const char *named = is_set_uid ? NULL : getenv("KEYRETAIN_SOCKET");

@@ -91,24 +91,19 @@ bool proc_is_ours(void) {
 /* ---- stat ---- */
 
 /* The parent and the flags, which stand behind the program's name in parentheses. */
-static bool read_stat(pid_t process, pid_t *parent, unsigned *flags) {
+static struct said {
+    pid_t parent;
+    unsigned flags;
+} read_stat(pid_t process) {
     char text[1024];
-    if (!proc_read(process, "stat", text, sizeof text)) return false;
-    const char *end = strrchr(text, ')');
-    return end && sscanf(end + 1, " %*c %d %*d %*d %*d %*d %u", parent, flags) == 2;
+    struct said said;
+    const char *end = proc_read(process, "stat", text, sizeof text) ? strrchr(text, ')') : NULL;
+    bool is_read = end && sscanf(end + 1, " %*c %d %*d %*d %*d %*d %u", &said.parent, &said.flags) == 2;
+    return is_read ? said : (struct said){ .parent = -1 };
 }
 
-pid_t proc_parent(pid_t process) {
-    pid_t parent;
-    unsigned flags;
-    return read_stat(process, &parent, &flags) ? parent : -1;
-}
-
-bool proc_has_only_forked(pid_t process) {
-    pid_t parent;
-    unsigned flags;
-    return read_stat(process, &parent, &flags) && flags & FORKED_AND_NOT_EXECUTED;
-}
+pid_t proc_parent(pid_t process) { return read_stat(process).parent; }
+bool proc_has_only_forked(pid_t process) { return read_stat(process).flags & FORKED_AND_NOT_EXECUTED; }
 
 /* Only what the kernel says is another's memory is not shared. */
 bool proc_may_share_memory(pid_t process, pid_t parent) {

@@ -47,8 +47,8 @@ bool seats_is_first_thread(void) {
     return thread.kind == FIRST;
 }
 
-/* Whether this thread is behind LOCKED, up to the end of the block. A handler of a signal that forks there finds the lock taken by its own
- * thread, and must not wait for it. */
+/* Whether this thread is behind LOCKED, up to the end of the block. A handler of a signal that forks there finds the
+ * lock taken by its own thread, and must not wait for it. */
 static __thread volatile sig_atomic_t is_inside;
 
 #define LOCKED int locked __attribute__((cleanup(unlock), unused)) = lock()

@@ -110,8 +110,8 @@ static int watch(int descriptor, void *source) {
     return epoll_ctl(all.epoll, EPOLL_CTL_ADD, descriptor, &event);
 }
 
-/* It owns the descriptor. What a listener that is there twice has told would be waited for once more. Linux 6.6 wakes the
- * caller on the processor that has its answer; others don't know that. */
+/* It owns the descriptor. What a listener that is there twice has told would be waited for once more. Linux 6.6 wakes
+ * the caller on the processor that has its answer; others don't know that. */
 static int add_listener(int descriptor) {
     const pid_t self = getpid();
     bool is_new = !FIND(all.listeners, at, syscall(SYS_kcmp, self, self, KCMP_FILE, descriptor, at->descriptor) == 0);
@@ -125,15 +125,6 @@ static int add_listener(int descriptor) {
     *listener = (struct listener){ descriptor, all.listeners };
     all.listeners = listener;
     return 0;
-}
-
-/* A runtime, or the agent, may have it for a moment longer: then epoll(7) doesn't forget it by itself, and would go on
- * to tell of an entry that is freed. */
-static void end_listener(struct listener *listener) {
-    TAKE_OUT(all.listeners, listener);
-    epoll_ctl(all.epoll, EPOLL_CTL_DEL, listener->descriptor, NULL);
-    close_one(&listener->descriptor);
-    free(listener);
 }
 
 static void take_listener(void) {
@@ -162,16 +153,22 @@ static void reap(void) {
 
 /* ---- The loop ---- */
 
+/* A runtime, or the agent, may have a listener that ends for a moment longer: then epoll(7) doesn't forget it by
+ * itself, and would go on to tell of an entry that is freed. */
 static void take_event(const struct epoll_event *event) {
     struct listener *listener = event->data.ptr;
-    if (event->data.ptr == &all.signals)
+    if (event->data.ptr == &all.signals) {
         reap();
-    else if (event->data.ptr == &all.more)
+    } else if (event->data.ptr == &all.more) {
         take_listener();
-    else if (event->events & EPOLLIN)
+    } else if (event->events & EPOLLIN) {
         take_notification(listener->descriptor);
-    else
-        end_listener(listener);
+    } else {
+        TAKE_OUT(all.listeners, listener);
+        epoll_ctl(all.epoll, EPOLL_CTL_DEL, listener->descriptor, NULL);
+        close_one(&listener->descriptor);
+        free(listener);
+    }
 }
 
 /* Ends of processes come first, and one at a time: what else is ready may go with it. */

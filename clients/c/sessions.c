@@ -32,13 +32,6 @@ void session_let_go(struct session *session) {
     if (session && --session->uses == 0) session->absent = 0;
 }
 
-static void end_session(struct session *session) {
-    TAKE_OUT(all.sessions, session);
-    context_end(&session->holder);
-    user_let_go(session->user);
-    free(session);
-}
-
 void sessions_forget(const void *beginner) {
     for (struct session *session = all.sessions; session; session = session->next)
         if (session->beginner == beginner) session->beginner = NULL;
@@ -75,8 +68,8 @@ int session_leave(const struct context *context) {
 }
 
 /* One without a name gets one that nobody can guess, by which other identities of its uid come in, and is its user's to
- * link only from within, as the kernel's is. Another user may have made a keyring of the name first, and opened it: then
- * the context ends. */
+ * link only from within, as the kernel's is. Another user may have made a keyring of the name first, and opened it:
+ * then the context ends. */
 struct session *session_join(struct context *context, struct user *user, const char *name,
                              const struct admission_process *begun) {
     struct kr_session named;
@@ -172,7 +165,11 @@ void sessions_sweep(bool (*keeps)(pid_t, const struct session *)) {
     if (!see_tags(keeps)) return;
     for (struct session *session = all.sessions, *next; session; session = next) {
         next = session->next;
-        if (session->uses == 0 && session->absent >= ABSENT_SWEEPS) end_session(session);
+        if (session->uses > 0 || session->absent < ABSENT_SWEEPS) continue;
+        TAKE_OUT(all.sessions, session);
+        context_end(&session->holder);
+        user_let_go(session->user);
+        free(session);
     }
 }
 

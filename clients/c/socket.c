@@ -120,8 +120,8 @@ static int connect_in_time(struct kr *connection) {
     }
 }
 
-/* Who listens may be told what the connection's user keeps: not who owns a path, which may be turned. Another thread may
- * have taken another identity since, and would trust its own daemon. */
+/* Who listens may be told what the connection's user keeps: not who owns a path, which may be turned. Another thread
+ * may have taken another identity since, and would trust its own daemon. */
 int kr_connect(struct kr *connection) {
     const struct peer *peer = &connection->peer;
     bool is_anybody = connection->place == KR_NAMED && connection->trusts_anybody;

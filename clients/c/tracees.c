@@ -18,12 +18,12 @@ struct arrival {
 };
 
 /* Opens by number what is wanted of a thread, and changes nothing. Descriptors stay bound to what they were opened
- * for, whoever gets the number later. */
+ * for, whoever gets the number later. One whose uids have no numbers there can't be told from others. */
 static bool look_at(pid_t thread, struct arrival *arrival) {
     const struct proc_status *status = &all.status;
     *arrival = (struct arrival){ .process_descriptor = -1, .thread_descriptor = -1 };
-    if (memory_open(&all.memory, thread) < 0 || !proc_read_status(thread, &all.status) || !admission_has_ids(status))
-        return false;
+    if (memory_open(&all.memory, thread) < 0 || !proc_read_status(thread, &all.status)) return false;
+    if (!maps_have_uid(status->uids.real) || !maps_have_uid(status->uids.files)) return false;
     admission_read(&all.asker.process, thread, status);
     all.asker.is_elsewhere = maps_are_others(thread);
     arrival->process = find_process(status->process);
@@ -134,16 +134,12 @@ static struct seat *have_context(void) {
 
 /* Serials of another daemon than the last one's mean nothing. Behind a guard it has the same process, so it may be
  * another whenever nothing was left of the connections to the last. */
-static int meet_daemon(void) {
-    static unsigned last; /* the daemon is the one met since then */
-    unsigned beginnings = contexts_beginnings();
-    if (last != 0 && beginnings != last && serials_begin_anew(&serials) < 0) return -1;
-    last = beginnings;
-    return 0;
-}
-
 static int have_connection(void) {
-    if (contexts_begin_call() < 0 || meet_daemon() < 0) return -1;
+    static unsigned last; /* the daemon is the one met since then */
+    if (contexts_begin_call() < 0) return -1;
+    bool is_other = last != 0 && contexts_beginnings() != last;
+    if (is_other && serials_begin_anew(&serials) < 0) return -1;
+    last = contexts_beginnings();
     if (contexts_are_worn() && contexts_renew() == 0) {
         users_renew();
         sessions_renew();

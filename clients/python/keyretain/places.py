@@ -67,7 +67,7 @@ def _is_secure() -> bool:
         return os.getuid() != os.geteuid() or os.getgid() != os.getegid()
 
 
-# Whether the kernel gave this program rights that whoever started it hadn't, as secure_getenv(3) asks: as long as it runs.
+# Whether the kernel gave this program rights that whoever started it hadn't, as secure_getenv(3) asks. It stays so.
 RUNS_SET_UID = _is_secure()
 
 

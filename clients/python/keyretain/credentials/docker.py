@@ -116,13 +116,8 @@ def list_all() -> None:
         print_json({server: found.username for server, found in kept if server is not None and found is not None})
 
 
-def print_version() -> None:
-    print(version_of(PROGRAM))
-
-
-ACTIONS: dict[str, Callable[[], None]] = {
-    "store": store, "get": get, "erase": erase, "list": list_all, "version": print_version, "--version": print_version,
-}
+ACTIONS: dict[str, Callable[[], None]] = {"store": store, "get": get, "erase": erase, "list": list_all,
+                                          "version": lambda: print(version_of(PROGRAM))}
 
 
 def main(words: Optional[Sequence[str]] = None) -> int:
@@ -135,9 +130,10 @@ def main(words: Optional[Sequence[str]] = None) -> int:
     try:
         if len(words) != 1:
             raise Unusable(USAGE)
-        if words[0] not in ACTIONS:
+        action = ACTIONS.get("version" if words[0] == "--version" else words[0])
+        if action is None:
             raise Unusable(f"{PROGRAM}: unknown action: {words[0]}")
-        ACTIONS[words[0]]()
+        action()
     except (OSError, Unusable) as error:
         print(words_of(error))
         return FAILED

@@ -4,7 +4,7 @@ from __future__ import annotations
 
 import sys
 import time
-from typing import NamedTuple, Optional, Sequence
+from typing import Optional, Sequence
 from urllib.parse import quote_from_bytes, unquote_to_bytes
 
 from .helper import Unusable, complain, keep_no_core, print_bytes, read_line, version_of, words_of
@@ -67,17 +67,10 @@ def lines_of(attributes: Attributes) -> bytes:
 # ---- Operations
 
 
-class Found(NamedTuple):
-    """An entry, and what it is of."""
-
-    entry: Entry
-    names: Attributes
-
-
-def matching(locker: Locker, given: Attributes) -> list[Found]:
-    """Those that have each name as given, where it is given. The newest comes first."""
+def matching(locker: Locker, given: Attributes) -> list[tuple[Entry, Attributes]]:
+    """Those that have each name as given, where it is given, and what each is of. The newest comes first."""
     parsed = ((entry, parse_description(entry.description)) for entry in locker.entries())
-    return [Found(entry, names) for entry, names in parsed if names is not None
+    return [(entry, names) for entry, names in parsed if names is not None
             and all(name not in given or given[name] == names.get(name) for name in NAMES)]
 
 
@@ -90,10 +83,10 @@ def get(given: Attributes) -> None:
     if not names_a_place(given):
         return
     with Locker(KEYRING) as locker:
-        for found in matching(locker, given):
-            kept = parse_payload(locker.payload(found.entry) or b"")
-            if b"password" in kept and b"username" in found.names:
-                print_bytes(lines_of({b"username": found.names[b"username"], **kept}))
+        for entry, names in matching(locker, given):
+            kept = parse_payload(locker.payload(entry) or b"")
+            if b"password" in kept and b"username" in names:
+                print_bytes(lines_of({b"username": names[b"username"], **kept}))
                 return
 
 
@@ -117,10 +110,10 @@ def erase(given: Attributes) -> None:
     if not set(given) & set(NAMES):
         return
     with Locker(KEYRING) as locker:
-        for found in matching(locker, given):
-            kept = parse_payload(locker.payload(found.entry) or b"")
+        for entry, _ in matching(locker, given):
+            kept = parse_payload(locker.payload(entry) or b"")
             if given.get(b"password") in (None, kept.get(b"password")):
-                locker.drop(found.entry)
+                locker.drop(entry)
 
 
 # ---- The program

@@ -38,8 +38,8 @@ def _pipe() -> tuple[int, int]:
 def _spawn(words: list[str], variables: dict[str, str], life: int) -> subprocess.Popen[bytes]:
     """Starts it: descriptor 0 is the pipe that it waits on, 1 the one that it answers on."""
     try:
-        return subprocess.Popen([os.path.basename(words[0]), *words[1:]], executable=words[0], env=variables, stdin=life,
-                                stdout=subprocess.PIPE, stderr=subprocess.DEVNULL, start_new_session=True)
+        return subprocess.Popen([os.path.basename(words[0]), *words[1:]], executable=words[0], env=variables,
+                                start_new_session=True, stdin=life, stdout=subprocess.PIPE, stderr=subprocess.DEVNULL)
     finally:
         os.close(life)
 
@@ -71,7 +71,7 @@ def _check(line: bytes) -> None:
 
 def _answer(child: subprocess.Popen[bytes], end: float) -> bytes:
     """What it says. The process that was started goes to the background at once: what stays is another's child. Its
-    user, whose effective uid a program of root's may have taken, may have stopped it: then it is left at this moment."""
+    user, whose effective uid a program of root's may have taken, may have stopped it: then it's left at this moment."""
     line = b""
     try:
         with child.stdout as answer:  # type: ignore[union-attr] # there is one
