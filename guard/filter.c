@@ -1,17 +1,9 @@
-/* filter.c: see filter.h. Any other call ends the process. */
-#define _GNU_SOURCE
-#include "filter.h"
+/* filter.c: see guard.h. Any other call ends the process. */
+#include "guard.h"
 
-#include <fcntl.h>
 #include <linux/audit.h>
 #include <linux/filter.h>
 #include <linux/seccomp.h>
-#include <stddef.h>
-#include <stdint.h>
-#include <sys/prctl.h>
-#include <sys/socket.h>
-#include <sys/syscall.h>
-#include <unistd.h>
 
 #ifndef __x86_64__
 #error "the numbers are those of x86-64"

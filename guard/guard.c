@@ -1,30 +1,13 @@
 /* guard.c: keyretain-guard stands before a keyretaind that believes its clients, asks the kernel who each of them is,
  * and lets through only what they may say of themselves. This thread accepts clients, counts them, and ends those that
  * stay silent; each place for one has a thread of its own, which begins before the first client comes. */
-#define _GNU_SOURCE
-#include <errno.h>
-#include <fcntl.h>
-#include <poll.h>
-#include <signal.h>
-#include <stdio.h>
-#include <stdlib.h>
-#include <sys/eventfd.h>
-#include <sys/prctl.h>
-#include <sys/resource.h>
-#include <sys/signalfd.h>
-#include <sys/socket.h>
-#include <unistd.h>
+#include "guard.h"
 
-#include "filter.h"
-#include "link.h"
-#include "listener.h"
-#include "options.h"
-#include "peer.h"
-#include "refused.h"
+#include <sys/eventfd.h>
+#include <sys/signalfd.h>
 
 enum {
     ACCEPTS_A_TURN = 16,
-    PAUSE = 20,  /* milliseconds, before what lacked something is tried again */
     ENOUGH = 16, /* places that a uid gets without a look at how many are left */
     SPARE = 4 + REFUSED_FEW, /* descriptors: the listening socket, and what is open for a moment */
 };
@@ -55,18 +38,13 @@ static struct link *find_place(uint32_t uid, unsigned *has) {
     return may || is_trusted_uid(uid) ? found : NULL;
 }
 
-/* False for those who have no number here, and share one. */
-static bool is_somebody(int client, struct peer *peer) {
-    if (!find_peer(client, peer)) return false;
-    if (peer->uid != unknown_uid) return true;
-    tell(OF_CLIENTS, "refused: a uid without a number here\n");
-    return false;
-}
-
+/* Those who have no number here share one. */
 static void begin_client(int client) {
     struct peer peer;
     unsigned has;
-    if (!is_somebody(client, &peer)) {
+    bool is_known = find_peer(client, &peer), is_somebody = is_known && peer.uid != unknown_uid;
+    if (is_known && !is_somebody) tell(OF_CLIENTS, "refused: a uid without a number here\n");
+    if (!is_somebody) {
         close(client);
         return;
     }
@@ -78,7 +56,7 @@ static void begin_client(int client) {
         return;
     }
     int64_t deadline = INT64_MAX;
-    if (options.hello_seconds > 0) deadline = milliseconds() + 1000 * (int64_t)options.hello_seconds;
+    if (options.hello_seconds > 0) deadline = kr_now() + 1000 * (int64_t)options.hello_seconds;
     if (deadline < next_deadline) next_deadline = deadline;
     used++;
     begin_link(place, client, &peer, deadline);
@@ -107,16 +85,11 @@ static void end_silent(int64_t now) {
     }
 }
 
-static void count_freed(void) {
-    uint64_t count = 0;
-    if (read(freed, &count, sizeof count) == (ssize_t)sizeof count) used -= (unsigned)count;
-}
-
 /* ---- The loop ---- */
 
 static int time_to_wait(int64_t next) {
     if (next == INT64_MAX) return -1;
-    int64_t left = next - milliseconds();
+    int64_t left = next - kr_now();
     return left < 0 ? 0 : left < 1000 ? (int)left + 1 : 1000;
 }
 
@@ -124,6 +97,7 @@ static int time_to_wait(int64_t next) {
 static void run(void) {
     struct pollfd waited[REFUSED + REFUSED_MAX] = { [SIGNALS] = { .fd = signals, .events = POLLIN },
                                                     [FREED] = { .fd = freed, .events = POLLIN } };
+    uint64_t count;
     bool lacks = false;
     for (;;) {
         bool may_accept = used < options.connections && !lacks;
@@ -132,9 +106,10 @@ static void run(void) {
         if (next_deadline < next) next = next_deadline;
         int ready = poll(waited, REFUSED + (nfds_t)refused_most, lacks ? PAUSE : time_to_wait(next));
         if (ready > 0 && waited[SIGNALS].revents) return;
-        if (ready > 0 && waited[FREED].revents) count_freed();
-        end_silent(milliseconds());
-        end_refused(waited + REFUSED, milliseconds());
+        if (ready > 0 && waited[FREED].revents && read(freed, &count, sizeof count) == (ssize_t)sizeof count)
+            used -= (unsigned)count;
+        end_silent(kr_now());
+        end_refused(waited + REFUSED, kr_now());
         lacks = !accept_clients();
     }
 }

@@ -1,16 +1,5 @@
-/* link.c: see link.h. What is passed on, and as what, krs_screen says, which is proved: here are the sockets alone. */
-#define _GNU_SOURCE
-#include "link.h"
-
-#include <errno.h>
-#include <fcntl.h>
-#include <poll.h>
-#include <string.h>
-#include <sys/un.h>
-#include <unistd.h>
-
-#include "options.h"
-#include "peer.h"
+/* link.c: see guard.h. What is passed on, and as what, krs_screen says, which is proved: here are the sockets alone. */
+#include "guard.h"
 
 enum {
     STACK_SIZE = 262144, /* of a thread; a few pages of it are used */
@@ -20,6 +9,14 @@ enum {
 
 int freed = -1;
 static sem_t begun; /* once by each thread */
+
+/* From here to the end of the block this thread has the lock of a link. */
+#define LOCKED(link) pthread_mutex_t *locked __attribute__((cleanup(unlock), unused)) = lock(link)
+static pthread_mutex_t *lock(struct link *link) {
+    pthread_mutex_lock(&link->lock);
+    return &link->lock;
+}
+static void unlock(pthread_mutex_t *const *locked) { pthread_mutex_unlock(*locked); }
 
 static void wait_for(sem_t *semaphore) {
     while (sem_wait(semaphore) < 0) continue; /* EINTR */
@@ -59,18 +56,8 @@ static size_t screen_ask(struct link *link, uint8_t *bytes, size_t length, struc
     return passed;
 }
 
-static void tell_refusal(const struct peer *peer, const struct screen_claim *claim) {
-    tell(OF_CLIENTS, "refused: uid %u, gid %u (pid %d) named uid %u, gid %u, %u groups\n", peer->uid, peer->gid,
-         peer->pid, claim->uid, claim->gid, claim->count);
-}
-
-static void note_greeting(struct link *link) {
-    pthread_mutex_lock(&link->lock);
-    link->has_greeted = true;
-    pthread_mutex_unlock(&link->lock);
-}
-
 static void screen_asks(struct link *link) {
+    const struct peer *peer = &link->peer;
     struct way *asks = &link->asks;
     size_t passed = 1;
     while (asks->passed < asks->there && passed > 0) {
@@ -78,9 +65,14 @@ static void screen_asks(struct link *link) {
         uint32_t refused = link->screen.count;
         passed = screen_ask(link, asks->bytes + asks->passed, asks->there - asks->passed, &claim);
         asks->passed += passed;
-        if (link->screen.count > refused) tell_refusal(&link->peer, &claim);
+        if (link->screen.count == refused) continue;
+        tell(OF_CLIENTS, "refused: uid %u, gid %u (pid %d) named uid %u, gid %u, %u groups\n", peer->uid, peer->gid,
+             peer->pid, claim.uid, claim.gid, claim.count);
     }
-    if (link->screen.greeted && !link->has_greeted) note_greeting(link);
+    if (link->screen.greeted && !link->has_greeted) {
+        LOCKED(link);
+        link->has_greeted = true;
+    }
     if (link->screen.ask_fault) asks->is_over = true;
 }
 
@@ -97,16 +89,10 @@ static void screen_replies(struct link *link) {
     tell(OF_DAEMON, "what the daemon at %s answers is no reply\n", options.daemon.sun_path);
 }
 
-/* Whether all whole asks are answered, and no ask or reply has come in part. */
-static bool is_quiet(const struct link *link) {
+/* Whether so many whole asks await their reply, and no ask or reply has come in part. */
+static bool awaits(const struct link *link, uint64_t count) {
     const struct screen *screen = &link->screen;
-    return screen->asked == screen->answered && screen->ask_left == 0 && screen->reply_left == 0;
-}
-
-/* Whether the last ask is all there, and its reply alone is to come. */
-static bool waits_for_one(const struct link *link) {
-    const struct screen *screen = &link->screen;
-    return screen->asked == screen->answered + 1 && screen->ask_left == 0 && screen->reply_left == 0;
+    return screen->asked == screen->answered + count && screen->ask_left == 0 && screen->reply_left == 0;
 }
 
 /* ---- The connection to the daemon ---- */
@@ -114,45 +100,31 @@ static bool waits_for_one(const struct link *link) {
 /* A connection to the daemon; -1 with errno, which is EAGAIN where its queue of connections is full. */
 static int connect_once(void) {
     int server = socket(AF_UNIX, SOCK_STREAM | SOCK_NONBLOCK | SOCK_CLOEXEC, 0);
-    if (server < 0) return -1;
-    if (connect(server, (struct sockaddr *)&options.daemon, sizeof options.daemon) == 0 &&
-        fcntl(server, F_SETFL, 0) == 0)
-        return server;
-    int error = errno;
-    close(server);
-    errno = error;
-    return -1;
+    if (server >= 0 && (connect(server, (struct sockaddr *)&options.daemon, sizeof options.daemon) < 0 ||
+                        fcntl(server, F_SETFL, 0) < 0))
+        close_one(&server);
+    return server;
 }
 
-/* From here on the connection ends with its client's. False where that has ended already. */
+/* From here on the connection, or none with -1, ends with its client's. False where that has ended already. */
 static bool set_server(struct link *link, int server) {
-    pthread_mutex_lock(&link->lock);
-    bool goes_on = !link->is_ended;
-    if (goes_on) link->server = server;
-    pthread_mutex_unlock(&link->lock);
-    return goes_on;
-}
-
-static bool has_ended(struct link *link) {
-    pthread_mutex_lock(&link->lock);
-    bool has = link->is_ended;
-    pthread_mutex_unlock(&link->lock);
-    return has;
+    LOCKED(link);
+    if (!link->is_ended) link->server = server;
+    return !link->is_ended;
 }
 
 /* Once for each client: there is no daemon, or none of its lanes is free. */
 static void tell_daemon(struct link *link, const char *what) {
-    int error = errno;
+    ERRNO_STAYS;
     if (!link->is_told) tell(OF_DAEMON, "the daemon at %s: %s\n", options.daemon.sun_path, what);
     link->is_told = true;
-    errno = error;
 }
 
 static bool open_server(struct link *link) {
     int server;
     while ((server = connect_once()) < 0) {
         if (errno != EINTR) tell_daemon(link, errno == EAGAIN ? "too many wait for it" : strerrordesc_np(errno));
-        if (!may_be_again() || has_ended(link)) return false;
+        if (!may_be_again() || !set_server(link, -1)) return false;
     }
     if (!set_server(link, server)) {
         close(server);
@@ -177,7 +149,7 @@ static bool give_asks(struct link *link) {
 static bool give_replies(struct link *link) {
     struct way *replies = &link->replies;
     if (!give(replies)) return false;
-    bool may_stay = is_quiet(link) && !link->asks.is_over;
+    bool may_stay = awaits(link, 0) && !link->asks.is_over;
     return may_stay ? false : take(replies);
 }
 
@@ -208,14 +180,14 @@ static void pass_replies(struct link *link) {
 /* A reply that nobody has asked for is one, whatever is asked next: so the last ones are taken first. */
 static void read_asks(struct link *link) {
     struct way *asks = &link->asks;
-    bool has_asks = bring(asks, asks->there == 0 && is_quiet(link));
+    bool has_asks = bring(asks, asks->there == 0 && awaits(link, 0));
     if (take(&link->replies)) pass_replies(link);
     if (has_asks) pass_asks(link);
 }
 
 static void read_replies(struct link *link) {
     struct way *replies = &link->replies;
-    if (take(replies) || bring(replies, replies->there == 0 && waits_for_one(link))) pass_replies(link);
+    if (take(replies) || bring(replies, replies->there == 0 && awaits(link, 1))) pass_replies(link);
 }
 
 /* What is waited for at a socket: something to read, where the last has been given and taken; or room for more. */
@@ -224,14 +196,9 @@ static short events_of(const struct way *read, const struct way *given) {
     return (short)((reads ? POLLIN : 0) | (given->passed > 0 ? POLLOUT : 0));
 }
 
-/* Whether the daemon is to answer this client for the first time, and nobody was told yet that it doesn't. */
-static bool waits_for_first(const struct link *link) {
-    const struct screen *screen = &link->screen;
-    return link->server >= 0 && screen->asked > 0 && screen->answered == 0 && screen->ask_left == 0 && !link->is_told;
-}
-
 /* While a client is to have the word, the daemon may still end. */
 static void wait_and_move(struct link *link) {
+    const struct screen *screen = &link->screen;
     struct way *asks = &link->asks, *replies = &link->replies;
     struct pollfd client = { .fd = link->client, .events = events_of(asks, replies) };
     struct pollfd server = { .fd = link->server, .events = events_of(replies, asks) };
@@ -239,7 +206,9 @@ static void wait_and_move(struct link *link) {
     if (client.events == 0) client.fd = -1; /* or its end would be told for ever */
     if (server.events == 0) server.fd = -1;
     struct pollfd both[] = { client, server };
-    int ready = poll(both, 2, waits_for_first(link) ? FIRST_REPLY : -1);
+    /* the daemon is to answer this client for the first time, and nobody was told yet that it doesn't */
+    bool is_first = link->server >= 0 && screen->asked > 0 && screen->answered == 0 && screen->ask_left == 0;
+    int ready = poll(both, 2, is_first && !link->is_told ? FIRST_REPLY : -1);
     if (ready == 0) tell_daemon(link, "no answer, as where it has no free lane or no memory");
     if (ready <= 0) return;
     short of_client = both[0].revents, of_server = both[1].revents;
@@ -292,55 +261,44 @@ static void *serve(void *given) {
 
 /* ---- Places ---- */
 
-static bool make_link(const pthread_attr_t *attributes, struct link *link) {
-    pthread_t thread;
-    link->client = link->server = -1;
-    return pthread_mutex_init(&link->lock, NULL) == 0 && sem_init(&link->has_client, 0, 0) == 0 &&
-           pthread_create(&thread, attributes, serve, link) == 0;
-}
-
 bool make_links(struct link *links, unsigned count) {
     pthread_attr_t attributes;
+    pthread_t thread;
     if (sem_init(&begun, 0, 0) < 0 || pthread_attr_init(&attributes) != 0) return false;
     bool are_made = pthread_attr_setstacksize(&attributes, STACK_SIZE) == 0 &&
                     pthread_attr_setdetachstate(&attributes, PTHREAD_CREATE_DETACHED) == 0;
-    for (unsigned i = 0; are_made && i < count; i++) are_made = make_link(&attributes, &links[i]);
+    for (struct link *link = links; are_made && link < links + count; link++) {
+        link->client = link->server = -1;
+        are_made = pthread_mutex_init(&link->lock, NULL) == 0 && sem_init(&link->has_client, 0, 0) == 0 &&
+                   pthread_create(&thread, &attributes, serve, link) == 0;
+    }
     for (unsigned i = 0; are_made && i < count; i++) wait_for(&begun);
     pthread_attr_destroy(&attributes);
     return are_made;
 }
 
 void begin_link(struct link *link, int client, const struct peer *peer, int64_t deadline) {
-    pthread_mutex_lock(&link->lock);
+    LOCKED(link);
     link->is_used = true;
     link->client = client;
     link->peer = *peer;
     link->is_trusted = is_trusted_uid(peer->uid);
     link->deadline = deadline;
-    pthread_mutex_unlock(&link->lock);
     sem_post(&link->has_client);
 }
 
 bool find_owner(struct link *link, uint32_t *uid) {
-    pthread_mutex_lock(&link->lock);
-    bool is_used = link->is_used;
+    LOCKED(link);
     *uid = link->peer.uid;
-    pthread_mutex_unlock(&link->lock);
-    return is_used;
+    return link->is_used;
 }
 
 int64_t end_if_silent(struct link *link, int64_t now) {
-    int64_t next = INT64_MAX;
-    pthread_mutex_lock(&link->lock);
-    if (link->is_used && !link->is_ended && !link->has_greeted) {
-        if (link->deadline > now) {
-            next = link->deadline;
-        } else {
-            link->is_ended = true;
-            shutdown(link->client, SHUT_RDWR);
-            if (link->server >= 0) shutdown(link->server, SHUT_RDWR);
-        }
-    }
-    pthread_mutex_unlock(&link->lock);
-    return next;
+    LOCKED(link);
+    if (!link->is_used || link->is_ended || link->has_greeted) return INT64_MAX;
+    if (link->deadline > now) return link->deadline;
+    link->is_ended = true;
+    shutdown(link->client, SHUT_RDWR);
+    if (link->server >= 0) shutdown(link->server, SHUT_RDWR);
+    return INT64_MAX;
 }

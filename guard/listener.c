@@ -1,14 +1,7 @@
 /* listener.c: see listener.h. */
-#define _GNU_SOURCE
-#include "listener.h"
+#include "../clients/c/common.h"
 
-#include <errno.h>
-#include <fcntl.h>
-#include <stdlib.h>
-#include <string.h>
-#include <sys/socket.h>
-#include <sys/stat.h>
-#include <unistd.h>
+#include "listener.h"
 
 enum { FIRST_PASSED_DESCRIPTOR = 3 };
 
@@ -57,13 +50,6 @@ static bool is_stale(const struct sockaddr_un *address) {
     return refused && lstat(address->sun_path, &status) == 0 && S_ISSOCK(status.st_mode);
 }
 
-static bool bind_at(int listener, const struct sockaddr_un *address) {
-    const struct sockaddr *there = (const struct sockaddr *)address;
-    if (bind(listener, there, sizeof *address) == 0) return true;
-    if (errno != EADDRINUSE || !is_stale(address) || unlink(address->sun_path) < 0) return false;
-    return bind(listener, there, sizeof *address) == 0;
-}
-
 void refuse_descriptors(int listener) {
     const int are_passed = 0;
     setsockopt(listener, SOL_SOCKET, SO_PASSRIGHTS, &are_passed, sizeof are_passed);
@@ -71,12 +57,15 @@ void refuse_descriptors(int listener) {
 
 int open_listener(const char *path, unsigned mode, enum descriptors descriptors) {
     struct sockaddr_un address;
+    const struct sockaddr *there = (const struct sockaddr *)&address;
     if (!put_address(&address, path)) return -1;
     int listener = socket(AF_UNIX, SOCK_STREAM | SOCK_NONBLOCK | SOCK_CLOEXEC, 0);
     if (listener < 0) return -1;
     if (descriptors == DESCRIPTORS_REFUSED) refuse_descriptors(listener);
     umask(~mode & 0777);
-    bool is_bound = bind_at(listener, &address);
+    bool is_bound = bind(listener, there, sizeof address) == 0 ||
+                    (errno == EADDRINUSE && is_stale(&address) && unlink(path) == 0 &&
+                     bind(listener, there, sizeof address) == 0);
     umask(0077);
     if (is_bound && listen(listener, SOMAXCONN) == 0) return listener;
     if (is_bound) unlink(path);
@@ -86,6 +75,5 @@ int open_listener(const char *path, unsigned mode, enum descriptors descriptors)
 
 bool is_own_peer(int connection) {
     struct peer peer;
-    socklen_t length = sizeof peer;
-    return getsockopt(connection, SOL_SOCKET, SO_PEERCRED, &peer, &length) == 0 && peer.uid == geteuid();
+    return find_peer(connection, &peer) && peer.uid == geteuid();
 }

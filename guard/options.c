@@ -1,19 +1,7 @@
-/* options.c: see options.h. */
-#define _GNU_SOURCE
-#include "options.h"
+/* options.c: see guard.h. */
+#include "guard.h"
 
-#include <errno.h>
 #include <getopt.h>
-#include <stdio.h>
-#include <stdlib.h>
-#include <string.h>
-#include <sys/socket.h>
-
-#include "listener.h"
-
-#ifndef KEYRETAIN_VERSION
-#define KEYRETAIN_VERSION "unknown"
-#endif
 
 static const char USAGE_TEXT[] =
     "usage: keyretain-guard --daemon PATH [--listen PATH] [--mode OCTAL] [--connections N] [--per-uid N]\n"
@@ -51,27 +39,13 @@ static _Noreturn void refuse_word(const char *why, const char *word) {
     fail_usage();
 }
 
-static _Noreturn void tell(const char *text, const char *more) {
-    printf("%s%s", text, more);
-    exit(fflush(stdout) == 0 ? 0 : NO_SOCKET);
-}
-
 static unsigned number(const char *text, int base, unsigned long least, unsigned long most) {
-    char *end;
-    errno = 0;
-    unsigned long value = strtoul(text, &end, base);
-    if (*text < '0' || *text > '9' || *end || errno || value < least || value > most) {
-        const char *form = base == 8 ? "keyretain-guard: an octal number from %lo to %lo is wanted\n"
-                                     : "keyretain-guard: a number from %lu to %lu is wanted\n";
-        fprintf(stderr, form, least, most);
-        refuse_word("this is none", text);
-    }
+    int64_t value = number_in(text, base, least, most);
+    const char *form = base == 8 ? "keyretain-guard: an octal number from %lo to %lo is wanted\n"
+                                 : "keyretain-guard: a number from %lu to %lu is wanted\n";
+    if (value < 0) fprintf(stderr, form, least, most);
+    if (value < 0) refuse_word("this is none", text);
     return (unsigned)value;
-}
-
-static void trust(const char *text) {
-    if (options.trusted_count == TRUSTED_MAX) refuse_word("more than 16 times --trust", text);
-    options.trusted[options.trusted_count++] = number(text, 10, 0, UINT32_MAX - 1);
 }
 
 static void read_option(int option) {
@@ -84,10 +58,13 @@ static void read_option(int option) {
     case 'u': options.per_uid = number(optarg, 10, 1, CONNECTIONS_MAX); break;
     case 's': options.hello_seconds = number(optarg, 10, 0, 1000000); break;
     case 'm': options.mode = number(optarg, 8, 0, 0777); break;
-    case 't': trust(optarg); break;
+    case 't':
+        if (options.trusted_count == TRUSTED_MAX) refuse_word("more than 16 times --trust", optarg);
+        options.trusted[options.trusted_count++] = number(optarg, 10, 0, UINT32_MAX - 1);
+        break;
     case 'n': options.has_filter = false; break;
-    case 'h': tell(USAGE_TEXT, HELP_TEXT);
-    case 'v': tell("keyretain-guard " KEYRETAIN_VERSION "\n", "");
+    case 'h': answer_option("--help", USAGE_TEXT, HELP_TEXT, ""); break;
+    case 'v': answer_option("--version", USAGE_TEXT, HELP_TEXT, "keyretain-guard " KEYRETAIN_VERSION); break;
     default: fail_usage();
     }
 }

@@ -1,13 +1,7 @@
-/* peer.c: see peer.h. */
-#define _GNU_SOURCE
-#include "peer.h"
+/* peer.c: see guard.h. */
+#include "guard.h"
 
-#include <poll.h>
-#include <pthread.h>
 #include <stdarg.h>
-#include <stdio.h>
-#include <time.h>
-#include <unistd.h>
 
 enum {
     GROUPS_MAX = 65536, /* of a process: NGROUPS_MAX */
@@ -39,11 +33,6 @@ void find_unknown_ids(void) {
     unknown_gid = unknown_of("/proc/self/gid_map", "/proc/sys/kernel/overflowgid");
 }
 
-bool find_peer(int client, struct peer *peer) {
-    socklen_t length = sizeof *peer;
-    return getsockopt(client, SOL_SOCKET, SO_PEERCRED, peer, &length) == 0 && length == sizeof *peer;
-}
-
 uint32_t *borrow_groups(int client, size_t *count) {
     static uint32_t groups[GROUPS_MAX];
     socklen_t size = sizeof groups;
@@ -62,24 +51,9 @@ void return_groups(void) {
     pthread_mutex_unlock(&groups_lock);
 }
 
-int64_t milliseconds(void) {
-    struct timespec time;
-    clock_gettime(CLOCK_MONOTONIC_COARSE, &time);
-    return time.tv_sec * 1000 + time.tv_nsec / 1000000;
-}
-
-static bool may_tell(enum lines most) {
-    static int64_t second;
-    static int told;
-    int64_t now = milliseconds() / 1000;
-    if (now != second) told = 0;
-    second = now;
-    if (told >= (int)most) return false;
-    told++;
-    return true;
-}
-
 void tell(enum lines most, const char *format, ...) {
+    static int64_t second; /* under the lock, as what comes next */
+    static enum lines told;
     char line[256]; /* it has at most a path of sockets, and 140 bytes */
     struct pollfd error = { .fd = STDERR_FILENO, .events = POLLOUT };
     va_list values;
@@ -87,8 +61,12 @@ void tell(enum lines most, const char *format, ...) {
     int length = vsnprintf(line, sizeof line, format, values);
     va_end(values);
     pthread_mutex_lock(&tell_lock);
+    if (kr_now() / 1000 != second) told = 0;
+    second = kr_now() / 1000;
+    bool may_tell = told < most;
+    told += may_tell;
     /* a pipe that takes something takes a short line */
-    bool takes = may_tell(most) && poll(&error, 1, 0) == 1 && (error.revents & POLLOUT);
+    bool takes = may_tell && poll(&error, 1, 0) == 1 && (error.revents & POLLOUT);
     if (takes && write(STDERR_FILENO, line, (size_t)length) < length) length = 0;
     pthread_mutex_unlock(&tell_lock);
 }

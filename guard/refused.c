@@ -1,16 +1,5 @@
-/* refused.c: see refused.h. */
-#define _GNU_SOURCE
-#include "refused.h"
-
-#include <errno.h>
-#include <stdbool.h>
-#include <stddef.h>
-#include <string.h>
-#include <sys/socket.h>
-#include <unistd.h>
-
-#include "krs_screen.h"
-#include "peer.h"
+/* refused.c: see guard.h. */
+#include "guard.h"
 
 enum { PATIENCE = 5000 /* milliseconds */, VERSION = 4, TAG = 12, ASK_MIN = 12, TAGGED_MIN = 20, STATUS_END = 8 };
 
@@ -41,7 +30,7 @@ static struct refused *find_room(uint32_t uid) {
 void refuse_client(int client, uint32_t uid) {
     struct refused *room = find_room(uid);
     if (room->deadline > 0) end(room);
-    *room = (struct refused){ client, uid, milliseconds() + PATIENCE };
+    *room = (struct refused){ client, uid, kr_now() + PATIENCE };
 }
 
 int64_t put_refused(struct pollfd *waited) {

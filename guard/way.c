@@ -1,13 +1,5 @@
-/* way.c: see way.h. */
-#define _GNU_SOURCE
-#include "way.h"
-
-#include <errno.h>
-#include <poll.h>
-#include <string.h>
-#include <sys/socket.h>
-
-enum { PAUSE = 20 }; /* milliseconds, before what lacked something is tried again */
+/* way.c: see guard.h. */
+#include "guard.h"
 
 bool may_be_again(void) {
     switch (errno) {

@@ -13,7 +13,7 @@
 #include <sys/wait.h>
 #include <unistd.h>
 
-#include "filter.h"
+#include "guard.h"
 
 enum { X32_BIT = 0x40000000, EXIT_OF_I386 = 1 };
 
