@@ -2,23 +2,11 @@
  * passwords, would run as the user. Between fork and execve(2) there is such a copy. It calls nothing but the system,
  * as other threads of the application may hold the C library's locks; and as its ids have changed, the kernel lets
  * nobody but root look at it. */
-#define _GNU_SOURCE
-#include "keeper.h"
+#include "../clients/c/common.h"
 
-#include <errno.h>
-#include <fcntl.h>
 #include <grp.h>
-#include <poll.h>
-#include <signal.h>
-#include <stdio.h>
-#include <stdlib.h>
-#include <string.h>
-#include <sys/prctl.h>
-#include <sys/stat.h>
-#include <sys/syscall.h>
-#include <sys/wait.h>
-#include <time.h>
-#include <unistd.h>
+
+#include "keeper.h"
 
 #ifndef KEYRETAIN_KEEPER
 #define KEYRETAIN_KEEPER "/usr/local/libexec/keyretain/keyretain-keeper"
@@ -38,25 +26,12 @@ enum { READING = 0, WRITING = 1, FIRST_FREE = STDERR_FILENO + 1 };
 
 const struct keeper no_keeper = { { -1, 0, 0 }, { -1, 0, 0 } };
 
-static int64_t now(void) {
-    struct timespec moment;
-    clock_gettime(CLOCK_MONOTONIC, &moment);
-    return (int64_t)moment.tv_sec * 1000 + moment.tv_nsec / 1000000;
-}
-
 /* ---- Descriptors ---- */
 
 /* What a keeper is given, and what is kept: two pipes and /dev/null. */
 struct descriptors {
     int life[2], answers[2], nothing;
 };
-
-static void close_one(int *descriptor) {
-    int error = errno;
-    if (*descriptor >= 0) close(*descriptor);
-    *descriptor = -1;
-    errno = error;
-}
 
 static void close_all(struct descriptors *all) {
     for (int i = READING; i <= WRITING; i++) {
@@ -132,16 +107,12 @@ static int find_ids(struct launch *launch, const struct passwd *user) {
     launch->sets_groups = geteuid() == 0;
     launch->uid = user->pw_uid;
     launch->gid = launch->sets_groups ? user->pw_gid : getgid();
-    if (!launch->sets_groups && (geteuid() != user->pw_uid || getuid() != user->pw_uid)) {
-        errno = EPERM;
-        return -1;
-    }
+    if (!launch->sets_groups && (geteuid() != user->pw_uid || getuid() != user->pw_uid)) return fail_as(EPERM);
     getgrouplist(user->pw_name, user->pw_gid, NULL, &launch->count);
     launch->groups = calloc(launch->count > 0 ? (size_t)launch->count : 1, sizeof *launch->groups);
     if (!launch->groups) return -1;
     if (getgrouplist(user->pw_name, user->pw_gid, launch->groups, &launch->count) >= 0) return 0;
-    errno = EAGAIN; /* there are more of them now */
-    return -1;
+    return fail_as(EAGAIN); /* there are more of them now */
 }
 
 /* The C library would have the other threads do so too, which aren't in this process. */
@@ -205,7 +176,7 @@ static int split_twice(const struct launch *launch) {
 static int read_lines(int from, char text[ANSWER_ROOM], int64_t deadline) {
     size_t got = 0;
     while (got < ANSWER_ROOM - 1) {
-        int64_t left = deadline - now();
+        int64_t left = deadline - kr_now();
         struct pollfd wait = { .fd = from, .events = POLLIN };
         int ready = poll(&wait, 1, left > 0 ? (int)left : 0);
         if (ready == 0) errno = ETIMEDOUT;
@@ -251,7 +222,7 @@ static void take_apart(struct answer *answer) {
 
 /* -1 with errno where it isn't executed or says nothing in time. */
 static int launch_keeper(struct launch *launch, const struct passwd *user, char text[ANSWER_ROOM]) {
-    int64_t deadline = now() + START_MILLISECONDS;
+    int64_t deadline = kr_now() + START_MILLISECONDS;
     if (open_descriptors(&launch->all) < 0 || find_ids(launch, user) < 0 || split_twice(launch) < 0) return -1;
     close_one(&launch->all.answers[WRITING]);
     return read_lines(launch->all.answers[READING], text, deadline);
@@ -291,9 +262,9 @@ static void tell(int life, char word) {
 }
 
 static void wait_for_end(int answers) {
-    int64_t deadline = now() + END_MILLISECONDS, left;
+    int64_t deadline = kr_now() + END_MILLISECONDS, left;
     struct pollfd wait = { .fd = answers };
-    while ((left = deadline - now()) > 0 && poll(&wait, 1, (int)left) < 0 && errno == EINTR) continue;
+    while ((left = deadline - kr_now()) > 0 && poll(&wait, 1, (int)left) < 0 && errno == EINTR) continue;
 }
 
 void end_keeper(const struct keeper *keeper, enum ending how) {
