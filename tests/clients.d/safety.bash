@@ -108,7 +108,7 @@ END
 held:0 1 0 1 answered
 crowd:1
 thread:1 0 the same
-many 40:40 of 40
+many 24:24 of 24
 END
   done
   try_counted
