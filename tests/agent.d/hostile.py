@@ -5,7 +5,6 @@ import socket
 import sys
 import time
 
-sys.path.insert(0, os.path.join(os.path.dirname(os.path.abspath(__file__)), '../clients.d'))
 from compare import compare, conclude
 
 GOOD = b'{"fds":["seccompFd"],"state":{"id":"h"}}'

@@ -4,12 +4,10 @@ The folder of what is tried is FOLDER in the environment: bin/ has the helpers a
 lies in PACKAGE. KEYRETAIND is the daemon."""
 import os
 import subprocess
-import sys
 import tempfile
 import time
 from contextlib import contextmanager
 
-sys.path.insert(0, os.path.join(os.path.dirname(os.path.abspath(__file__)), "../clients.d"))
 from compare import compare, conclude
 import keyretain
 

@@ -231,7 +231,7 @@ int main(int count, char **words) {
         for (size_t i = 0; i < asks; i++) length += put_ask(data + length);
         LLVMFuzzerTestOneInput(data, length);
     }
-    printf("fuzz: %lu streams, none wrong\n", streams);
+    printf("fuzz: %lu streams passed, 0 failed\n", streams);
     return 0;
 }
 

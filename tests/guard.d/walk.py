@@ -8,7 +8,6 @@ import select
 import subprocess
 import sys
 
-sys.path.insert(0, os.path.join(os.path.dirname(os.path.abspath(__file__)), "../clients.d"))
 from compare import compare, conclude
 
 public, page, folders = sys.argv[1:]

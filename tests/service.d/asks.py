@@ -1,9 +1,6 @@
 """The frames of asks and replies for attacks.py: those of the Python client, and what a daemon answers to any bytes."""
-import os
 import struct
-import sys
 
-sys.path.insert(0, os.path.join(os.path.dirname(os.path.abspath(__file__)), "../clients.d"))
 from versions import decode_reply, encode_ask, frame, keyretain
 
 HELLO = encode_ask("HELLO", 0, (1000, 1000, ()))

@@ -7,7 +7,6 @@ import os
 import subprocess
 import sys
 
-sys.path.insert(0, os.path.join(os.path.dirname(os.path.abspath(__file__)), "../clients.d"))
 from compare import compare, conclude
 import keyretain
 

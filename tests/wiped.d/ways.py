@@ -4,14 +4,11 @@ from __future__ import annotations
 import os
 import socket
 import struct
-import sys
 import time
-from pathlib import Path
 
-sys.path.insert(0, str(Path(__file__).resolve().parents[1] / "clients.d"))
-from versions import encode_ask, keyretain  # noqa: E402
+from versions import encode_ask, keyretain
 
-from memory import Secret  # noqa: E402
+from memory import Secret
 
 PATIENCE = 180  # seconds in which a reply comes, on a busy machine
 U, S, P, T = keyretain.USER, keyretain.SESSION, keyretain.PROCESS, keyretain.THREAD
