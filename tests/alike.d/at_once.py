@@ -8,7 +8,6 @@ import mmap
 import os
 import pickle
 import random
-import socket
 import struct
 import sys
 import time
@@ -17,6 +16,7 @@ from collections import defaultdict
 from typing import NamedTuple
 
 from compare import compare, conclude
+from daemons import connect
 import keyretain
 import versions
 
@@ -58,9 +58,8 @@ class Client:
         self.number, self.board = number, board
         self.chance = random.Random(f"{seed} {number}")
         self.version = 1 + number % 2
-        self.end = socket.socket(socket.AF_UNIX)
+        self.end = connect(path)
         self.end.settimeout(120)
-        self.end.connect(path)
         self.received, self.events, self.made = b"", [], 0
         self.uid = 1000 + number % 4
         self.context = self.ask("HELLO", 0, self.uid, self.uid, [])

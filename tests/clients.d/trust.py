@@ -11,9 +11,9 @@ import sys
 import tempfile
 from contextlib import contextmanager
 
+import daemons
 import servers
-from servers import compare, outcome
-import keyretain
+from servers import compare, keyretain, outcome
 
 OWN, DAEMON, OTHER = os.geteuid(), 65533, 65534  # uids
 places = getattr(keyretain, "places", keyretain)
@@ -35,9 +35,7 @@ def in_child(run):
 
 def become(uid):
     if uid != os.geteuid():
-        os.setgroups([])
-        os.setresgid(uid, uid, uid)
-        os.setresuid(uid, uid, uid)
+        daemons.become(uid)
 
 
 @contextmanager

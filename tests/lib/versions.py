@@ -24,10 +24,21 @@ def frame(number, context, body=b"", version=1, tag=0):
     return in_version(version, keyretain.frame(number, context, body, tag))
 
 
+def number(value):
+    """What a number is in the body of a reply."""
+    return struct.pack("<I", value)
+
+
+def reply(tag, body=b"", status=0, version=2):
+    """A reply's frame around any bytes."""
+    rest = number(status) + (struct.pack("<Q", tag) if version == 2 else b"") + body
+    return number(len(rest)) + rest
+
+
 def decode_reply(received, version=1):
     """As the client's; the tag is None in version 1."""
     if version == 2 or len(received) < 4:
         return keyretain.decode_reply(received)
     length = struct.unpack_from("<I", received)[0]
-    reply = keyretain.decode_reply(struct.pack("<I", length + 8) + received[4:8] + bytes(8) + received[8:4 + length])
-    return reply and reply._replace(tag=None, length=4 + length)
+    found = keyretain.decode_reply(number(length + 8) + received[4:8] + bytes(8) + received[8:4 + length])
+    return found and found._replace(tag=None, length=4 + length)
