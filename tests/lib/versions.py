@@ -20,6 +20,15 @@ def encode_ask(name, context, values=(), version=1, tag=0):
     return in_version(version, keyretain.encode_ask(name, context, values, tag))
 
 
+def asked(name, context, values=(), tag=None):
+    """An ask's frame, of the first version where it has no tag."""
+    return encode_ask(name, context, values, 1 if tag is None else 2, tag or 0)
+
+
+def hello(uid, gid, groups=(), tag=None):
+    return asked("HELLO", 0, (uid, gid, groups), tag)
+
+
 def frame(number, context, body=b"", version=1, tag=0):
     return in_version(version, keyretain.frame(number, context, body, tag))
 
