@@ -29,7 +29,7 @@ def main():
     only = sys.argv[5] if len(sys.argv) > 5 else ""
     try:
         for part in (claims, streams, told, limits, behind, processes):
-            for name, function in vars(part).items():
+            for name, function in list(vars(part).items()):
                 if name.startswith("try_") and only in name:
                     run_all(function)
     finally:

@@ -10,6 +10,7 @@ step=0.02   # seconds between two looks
 passed=0 failed=0 runs=0
 path='' log='' daemon='' status='' tried=''
 declare -A to=() from=() # ends of clients that stand open here
+trap 'exit 1' INT TERM HUP
 
 # ---- A folder, and the end
 
@@ -21,7 +22,6 @@ begin() {
   mkdir -m 1777 "$dir/tmp"
   export TMPDIR=$dir/tmp
   trap clean EXIT
-  trap 'exit 1' INT TERM HUP
 }
 
 # below PID: all that a process and those that it has begun have begun

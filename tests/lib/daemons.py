@@ -1,10 +1,53 @@
-"""One daemon and one guard, as the tests in Python start and end them, and connections of any user to these."""
+"""A folder and its end, one daemon and one guard, and connections of any user to these, for the tests in Python."""
+import contextlib
 import os
+import shutil
+import signal
 import socket
 import subprocess
+import sys
+import tempfile
 import time
 
+ENDS = signal.SIGINT, signal.SIGTERM, signal.SIGHUP
 PATIENCE = 60  # seconds that anything may take on a busy machine
+
+
+def begun_in(folder):
+    """The processes that have their temporary files in a folder, but this one."""
+    for pid in filter(str.isdigit, os.listdir("/proc")):
+        with contextlib.suppress(OSError), open(f"/proc/{pid}/environ", "rb") as file:
+            if f"\0TMPDIR={folder}/".encode() in b"\0" + file.read() and int(pid) != os.getpid():
+                yield int(pid)
+
+
+@contextlib.contextmanager
+def room():
+    """A folder for all that is tried, which other users may enter. At its end, and by a signal that ends these tests,
+    nothing is left of what was begun there."""
+    folder = tempfile.mkdtemp(prefix="keyretain.", dir="/tmp")
+    os.chmod(folder, 0o711)
+    os.mkdir(f"{folder}/tmp")
+    os.chmod(f"{folder}/tmp", 0o1777)
+    tempfile.tempdir = os.environ["TMPDIR"] = f"{folder}/tmp"
+
+    def end(number=0, _=None):
+        for it in ENDS:
+            signal.signal(it, signal.SIG_IGN)
+        for pid in begun_in(folder):
+            with contextlib.suppress(OSError):
+                os.kill(pid, signal.SIGKILL)
+        shutil.rmtree(folder, ignore_errors=True)
+        if number:
+            sys.stdout.flush()
+            os._exit(128 + number)
+
+    for it in ENDS:
+        signal.signal(it, end)
+    try:
+        yield folder
+    finally:
+        end()
 
 
 def until(holds, patience=PATIENCE):
