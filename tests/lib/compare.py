@@ -10,12 +10,27 @@ sys.dont_write_bytecode = True
 counts, turn = {True: 0, False: 0}, threading.Lock()
 
 
-def compare(what, wanted, got):
-    is_so = bool(wanted == got)
+def check(what, fault=None):
+    """A check, and what is wrong with it."""
     with turn:
-        counts[is_so] += 1
-        if not is_so:
-            print(f"fails: {what}: wanted {wanted!r}, got {got!r}", flush=True)
+        counts[not fault] += 1
+        if fault:
+            print(f"fails: {what}: {fault}", flush=True)
+
+
+def difference(wanted, got):
+    """What was wanted and what was got; of lists and texts of lines what the other hasn't."""
+    if isinstance(wanted, str) and isinstance(got, str) and "\n" in wanted:
+        wanted, got = wanted.splitlines(), got.splitlines()
+    if type(wanted) is type(got) and isinstance(wanted, (list, set, dict)) and len(wanted) > 1:
+        parts = [it.items() if isinstance(it, dict) else it for it in (wanted, got)]
+        only = [[it for it in one if it not in other] for one, other in (parts, parts[::-1])]
+        wanted, got = only if any(only) else (wanted, got)
+    return f"wanted {wanted!r}, got {got!r}"
+
+
+def compare(what, wanted, got):
+    check(what, None if wanted == got else difference(wanted, got))
 
 
 def skipped(what):

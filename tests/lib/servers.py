@@ -43,8 +43,8 @@ class End:
 
 def plain(name, values):
     """What is answered by a daemon whose keys hold their serials as text."""
-    text = b"%d" % (values[0] if values else 0)
-    return {"number": number(77), "serial": number(77), "nothing": b"", "bytes": text}[keyretain.ASKS[name].answer]
+    form = keyretain.ASKS[name].answer
+    return b"%d" % (values[0] if values else 0) if form == "bytes" else b"" if form == "nothing" else number(77)
 
 
 def answer_all(end):
