@@ -27,8 +27,8 @@ static void wait_for(sem_t *semaphore) {
 
 /* ---- What is judged ---- */
 
-/* Of a peer's groups those that a whole HELLO names, whose last fields they are: the rule compares each with each, and a
- * peer may be in 65,536. What is left are the peer's in any case. */
+/* Of a peer's groups those that a whole HELLO names, whose last fields they are: the rule compares each with each, and
+ * a peer may be in 65,536. What is left are the peer's in any case. */
 static size_t keep_named(uint32_t *groups, size_t count, const uint8_t *bytes, size_t length,
                          const struct screen_claim *claim) {
     uint32_t named[CLAIMED_MAX + 1] = { claim->gid }, frame;

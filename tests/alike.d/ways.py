@@ -32,8 +32,8 @@ def environment(**more):
 
 
 class Daemon:
-    """A daemon on a path of its own, and the file that has its moment. A clock that is set back counts as it was, so the
-    first moment is that with which lines begin."""
+    """A daemon on a path of its own, and the file that has its moment. A clock that is set back counts as it was, so
+    the first moment is that with which lines begin."""
 
     first_moment = FIRST_MOMENT
 
@@ -264,7 +264,8 @@ class Python(OneByOne):
 
 def name_of_error():
     number = ctypes.get_errno()
-    return next((name for status, name in keyretain.STATUSES.items() if status == number), errno.errorcode.get(number, str(number)))
+    return next((name for status, name in keyretain.STATUSES.items() if status == number),
+                errno.errorcode.get(number, str(number)))
 
 
 class Library(OneByOne):
@@ -321,9 +322,11 @@ class Calls(OfDaemon):
     """A program that makes the calls, in the one context that it has."""
 
     def begin(self):
-        env = environment(KEYRETAIN_SOCKET=self.daemon.path, KEYRETAIN_LIBRARY_FOLDER=os.path.dirname(Programs.keyutils),
+        env = environment(KEYRETAIN_SOCKET=self.daemon.path,
+                          KEYRETAIN_LIBRARY_FOLDER=os.path.dirname(Programs.keyutils),
                           PYTHONPATH=os.environ.get("PYTHONPATH", ""))
-        self.program = Process([*self.words(), "python3", "-B", f"{os.path.dirname(__file__)}/calls.py", self.by()], env)
+        self.program = Process([*self.words(), "python3", "-B", f"{os.path.dirname(__file__)}/calls.py", self.by()],
+                               env)
 
     def play_piece(self, lines):
         return self.program.play(lines)

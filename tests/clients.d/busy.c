@@ -170,7 +170,8 @@ static void *ask_once(void *unused) {
     return (void *)ask();
 }
 
-/* crowd: how many connections are made for threads that ask while the first one is being made, and a second isn't over. */
+/* crowd: how many connections are made for threads that ask while the first one is being made, and a second isn't
+ * over. */
 static void ask_as_crowd(char **words) {
     pthread_t threads[THREADS];
     struct timespec now;

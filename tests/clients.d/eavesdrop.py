@@ -1,5 +1,5 @@
-"""eavesdrop.py UID PATH [deaf]: becomes UID, and serves at PATH: says yes to everything, and prints a line for each ask:
-its number, and of HELLO (256) the uid. Prints `listening` first. One that is deaf accepts nothing."""
+"""eavesdrop.py UID PATH [deaf]: becomes UID, and serves at PATH: says yes to everything, and prints a line for each
+ask: its number, and of HELLO (256) the uid. Prints `listening` first. One that is deaf accepts nothing."""
 import os
 import signal
 import socket

@@ -13,8 +13,8 @@ program = sys.argv[1]
 
 
 def answering(answer, asked):
-    """A server that answers each ask by `answer(tag, name, values)`: bytes, or None to end the connection. What came is put
-    into `asked`."""
+    """A server that answers each ask by `answer(tag, name, values)`: bytes, or None to end the connection. What came is
+    put into `asked`."""
     def serve(end):
         for tag, name, values in end.asks():
             asked.append((name, end.context, values))
@@ -203,7 +203,8 @@ def try_python_first():
     compare("a first call of the Python client", ["ValueError", "TimeoutError", b"READ", b"READ"], answers)
 
 
-for case in (try_python, try_python_serials, try_python_late, try_python_first, try_all, try_late, try_first, try_restarted, try_child,
+for case in (try_python, try_python_serials, try_python_late, try_python_first, try_all, try_late, try_first,
+             try_restarted, try_child,
              try_statuses, try_broken):
     case()
 conclude()

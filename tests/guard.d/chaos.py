@@ -1,6 +1,7 @@
 #!/usr/bin/env python3
-"""chaos.py GUARD_PID SOCKET SECONDS SEED: clients of three uids that send good frames, broken ones, noise and pieces, read,
-don't read, half-close and vanish. Replies to good frames are checked as long as a connection wasn't spoilt. Wants root."""
+"""chaos.py GUARD_PID SOCKET SECONDS SEED: clients of three uids that send good frames, broken ones, noise and pieces,
+read, don't read, half-close and vanish. Replies to good frames are checked as long as a connection wasn't spoilt. Wants
+root."""
 
 import os
 import random

@@ -1,7 +1,7 @@
 #!/usr/bin/env python3
-"""inject.py GUARD KEYRETAIND: system calls of the guard that fail now and then, by strace; a refused and a good HELLO, sent
-byte by byte, and whole ones behind them are answered all the same. Without the guard's own filter, in which a call that
-strace makes fail has the number -1."""
+"""inject.py GUARD KEYRETAIND: system calls of the guard that fail now and then, by strace; a refused and a good HELLO,
+sent byte by byte, and whole ones behind them are answered all the same. Without the guard's own filter, in which a call
+that strace makes fail has the number -1."""
 
 import fcntl
 import os
@@ -19,7 +19,8 @@ from daemons import Daemon, Program, connect, received
 from versions import hello
 
 GUARD, DAEMON = sys.argv[1:3]
-FAULTS = [*(f"accept4:error={error}:when=1..3" for error in ("EAGAIN", "ENOMEM", "EMFILE", "ENFILE", "ECONNABORTED", "ENOBUFS")),
+FAULTS = [*(f"accept4:error={error}:when=1..3" for error in ("EAGAIN", "ENOMEM", "EMFILE", "ENFILE", "ECONNABORTED",
+                                                             "ENOBUFS")),
           "connect:error=EAGAIN:when=1..3", "connect:error=ENOMEM:when=1..2",
           *(f"recvfrom:error={error}:when=2+3" for error in ("EINTR", "EAGAIN", "ENOBUFS")),
           *(f"sendto:error={error}:when=1..3" for error in ("EAGAIN", "EINTR", "ENOBUFS")),
@@ -72,7 +73,8 @@ def ask_for_groups(path):
 
 def statuses(fault, ask=ask_often):
     path = f"{folder}/public"
-    traced = ["strace", "-f", "-qq", "-o", f"{folder}/trace", "-e", f"trace={fault.split(':')[0]}", "-e", f"inject={fault}"]
+    traced = ["strace", "-f", "-qq", "-o", f"{folder}/trace", "-e", f"trace={fault.split(':')[0]}", "-e",
+              f"inject={fault}"]
     with Program(*traced, *GUARD_HERE, "--listen", path, stderr=subprocess.DEVNULL) as traced:
         try:
             got = ask(path)
@@ -96,7 +98,8 @@ def wait_awhile(path):
 
 
 def fails_to_listen():
-    """How a guard ends that can't listen at the path that it has bound: its status, what it prints, and what it leaves."""
+    """How a guard ends that can't listen at the path that it has bound: its status, what it prints, and what it
+    leaves."""
     path = f"{folder}/unheard"
     words = ["strace", "-f", "-qq", "-o", "/dev/null", "-e", "trace=listen", "-e", "inject=listen:error=ENOBUFS",
              *GUARD_HERE, "--listen", path]

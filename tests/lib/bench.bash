@@ -1,5 +1,5 @@
-# What the tests in bash have in common: a folder and its end, checks, processes, one daemon, one guard, and programs that
-# are built. The modules beside this file are what those in Python have in common: they find them by PYTHONPATH.
+# What the tests in bash have in common: a folder and its end, checks, processes, one daemon, one guard, and programs
+# that are built. The modules beside this file are what those in Python have in common: they find them by PYTHONPATH.
 # shellcheck shell=bash disable=SC2034,SC2154
 
 lib=$(dirname "$(realpath "${BASH_SOURCE[0]}")")

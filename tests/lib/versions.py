@@ -1,5 +1,5 @@
-"""Frames of both versions, for tests of those who keep both: keyretaind and keyretain-guard. The clients speak the second
-alone; in the first there is no tag."""
+"""Frames of both versions, for tests of those who keep both: keyretaind and keyretain-guard. The clients speak the
+second alone; in the first there is no tag."""
 import struct
 
 from compare import compare  # noqa: F401 pylint: disable=unused-import # which says where the client is

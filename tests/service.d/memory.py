@@ -1,8 +1,8 @@
-"""memory.py PATH SIZE CLIENTS [ASK]: so many clients of a daemon under a limit of memory add keys with payloads of so many
-bytes, side by side, until each was refused with ENOMEM often. Where an ask is named, each then gives some keys back, and
-asks that until it was refused often once more. Prints `kept` if each of them was, every other answer was that of an ask
-that is accepted, each still has its connection and its first key, and each can add a key once all have given theirs back;
-else what was wrong."""
+"""memory.py PATH SIZE CLIENTS [ASK]: so many clients of a daemon under a limit of memory add keys with payloads of so
+many bytes, side by side, until each was refused with ENOMEM often. Where an ask is named, each then gives some keys
+back, and asks that until it was refused often once more. Prints `kept` if each of them was, every other answer was that
+of an ask that is accepted, each still has its connection and its first key, and each can add a key once all have given
+theirs back; else what was wrong."""
 import signal
 import struct
 import sys
@@ -108,7 +108,8 @@ class Client(threading.Thread):
             self.wrong = wrong
 
     def read_first(self):
-        """Reads its first key, for whose reply it gives other keys back where there is no memory. Returns the status."""
+        """Reads its first key, for whose reply it gives other keys back where there is no memory. Returns the
+        status."""
         status, body = ENOMEM, b""
         while status == ENOMEM:
             self.end.sendall(encode_ask("READ", self.context, (self.serials[0],)))

@@ -10,16 +10,17 @@ FILES = {"FORMAT": "docs/FORMAT.md", "vector": "docs/FORMAT.md", "keyretain-prot
          "the row of the code": "crates/krs_types/src/ask.rt", "the commands": "crates/krs_commands/src/command.rt",
          "keyretain --help": "crates/krs_commands/src/command.rt", "completion": "contrib/bash-completion/keyretain",
          "the Python client": "clients/python/keyretain/frames.py", "the C client": "clients/c/wire.c",
-         "rows.c": "clients/c/rows.c", "krs_admission.h": "clients/c/krs_admission.h", "bench/results": "bench/results/0.1.0.txt",
-         "COSTS": "docs/COSTS.md", "ASSURANCE": "docs/ASSURANCE.md"}
+         "rows.c": "clients/c/rows.c", "krs_admission.h": "clients/c/krs_admission.h",
+         "bench/results": "bench/results/0.1.0.txt", "COSTS": "docs/COSTS.md", "ASSURANCE": "docs/ASSURANCE.md"}
 
 
 def place_of(what, differs):
     """FILE:LINE: the line that has the most words of what differs, and of what is compared."""
-    path, words = next((it for name, it in FILES.items() if what.startswith(name)), None), re.findall(r"\w+", what + differs)
+    path = next((it for name, it in FILES.items() if what.startswith(name)), None)
+    words = {*re.findall(r"\w+", what + differs)}
     if not path:
         return what
-    lines = [len({*words} & {*re.findall(r"\w+", line)}) for line in text_of(path).split("\n")]
+    lines = [len(words & {*re.findall(r"\w+", line)}) for line in text_of(path).split("\n")]
     return f"{path}:{lines.index(max(lines)) + 1}: {what}"
 
 
