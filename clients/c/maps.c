@@ -6,7 +6,7 @@
 #include <sys/ioctl.h>
 #include <sys/wait.h>
 
-enum { OVERFLOW_ID = 65534, RANGE_LETTERS = 34 };
+enum { RANGE_LETTERS = 34 };
 
 static struct {
     struct map uids, gids;
@@ -42,14 +42,6 @@ static unsigned length_of(const struct map *map) {
     unsigned length = 0;
     for (unsigned i = 0; i < map->count; i++) length += map->ranges[i].length;
     return length;
-}
-
-static unsigned read_unknown(void) {
-    unsigned unknown;
-    FILE *file = fopen("/proc/sys/kernel/overflowuid", "re");
-    if (!file || fscanf(file, "%u", &unknown) != 1) unknown = OVERFLOW_ID;
-    if (file) fclose(file);
-    return unknown;
 }
 
 /* The outermost user namespace around a process that isn't ours, if our user has made it, as runtimes do; else -1. What
@@ -92,7 +84,7 @@ static bool read_maps_of(int namespace, pid_t first) {
 }
 
 void maps_begin(pid_t first) {
-    all.unknown = read_unknown();
+    all.unknown = kr_unknown_uid();
     all.is_ours = find_namespace(getpid(), &all.namespace) == 0;
     all.length = read_map(getpid(), "uid_map", &all.uids) ? length_of(&all.uids) : 0;
     int outermost = first > 0 && all.is_ours ? open_outermost(first, &all.namespace) : -1;

@@ -143,7 +143,7 @@ static int connect_in_time(struct kr *connection) {
  * since, and would trust its own daemon. */
 static bool may_be_told(const struct kr *connection) {
     if (connection->place == KR_NAMED && connection->trusts_anybody) return true;
-    return kr_is_trusted(connection->place, connection->user, connection->peer_uid);
+    return kr_is_trusted(connection->place, connection->address.sun_path, connection->user, connection->peer_uid);
 }
 
 /* Who listens: not who owns a path, which may be turned. */
