@@ -11,10 +11,30 @@ PRESETDIR = $(PREFIX)/lib/systemd
 SYSUSERSDIR = $(PREFIX)/lib/sysusers.d
 DATADIR = $(PREFIX)/share/keyretain
 COMPLETIONDIR = $(PREFIX)/share/bash-completion/completions
-COMPLETED = keyretain keyretaind keyretain-session keyretain-guard keyretain-agent keyretain-status
 ZSHDIR = $(PREFIX)/share/zsh/site-functions
 FISHDIR = $(PREFIX)/share/fish/vendor_completions.d
 PYTHON = python3
+
+# What `make install` puts there and `make uninstall` takes away: a source, its place and its mode; or a link to it. Who
+# may not read a program isn't shown the memory of what it runs.
+INSTALLED = 'bin/keyretain:$(BINDIR)/keyretain:755' 'bin/keyretaind:$(SBINDIR)/keyretaind:711' \
+  'man/keyretain.1:$(MANDIR)/man1/keyretain.1:644' \
+  'man/keyretain-protocol.7:$(MANDIR)/man7/keyretain-protocol.7:644' \
+  'man/keyretaind.8:$(MANDIR)/man8/keyretaind.8:644' \
+  'contrib/systemd/keyretaind.service:$(UNITDIR)/keyretaind.service:644' \
+  'contrib/systemd/keyretaind@.service:$(UNITDIR)/keyretaind@.service:644' \
+  'contrib/systemd/user/keyretaind.service:$(USERUNITDIR)/keyretaind.service:644' \
+  'contrib/systemd/keyretain.conf:$(SYSUSERSDIR)/keyretain.conf:644' \
+  'contrib/systemd/user-quota.conf:$(DATADIR)/user-quota.conf:644' \
+  $(foreach kind,system user,\
+    'contrib/systemd/80-keyretain.preset:$(PRESETDIR)/$(kind)-preset/80-keyretain.preset:644') \
+  $(foreach name,keyretain keyretaind keyretain-session,\
+    'contrib/bash-completion/$(name):$(COMPLETIONDIR)/$(name):644') \
+  $(foreach name,guard agent status,'keyretain-session:$(COMPLETIONDIR)/keyretain-$(name):link') \
+  'contrib/zsh-completion/_keyretain:$(ZSHDIR)/_keyretain:644' \
+  'contrib/fish-completion/keyretain.fish:$(FISHDIR)/keyretain.fish:644' \
+  $(foreach name,keyretaind keyretain-session keyretain-guard keyretain-agent keyretain-status,\
+    'keyretain.fish:$(FISHDIR)/$(name).fish:link')
 
 PROGRAMS = keyretain keyretaind
 
@@ -113,39 +133,10 @@ check-keyutils:
 install:
 	@cd bin 2>/dev/null && sha256sum --status -c proved 2>/dev/null || \
 	  { echo 'run make build first: what it proved is installed, and nothing else' >&2; exit 1; }
-	install -d "$(DESTDIR)$(BINDIR)" "$(DESTDIR)$(SBINDIR)" "$(DESTDIR)$(UNITDIR)" "$(DESTDIR)$(SYSUSERSDIR)" \
-	  "$(DESTDIR)$(COMPLETIONDIR)" "$(DESTDIR)$(MANDIR)/man1" "$(DESTDIR)$(MANDIR)/man7" "$(DESTDIR)$(MANDIR)/man8"
-	install -m 755 bin/keyretain "$(DESTDIR)$(BINDIR)/"
-	# who may not read a program isn't shown the memory of what it runs
-	install -m 711 bin/keyretaind "$(DESTDIR)$(SBINDIR)/"
-	install -m 644 man/keyretain.1 "$(DESTDIR)$(MANDIR)/man1/"
-	install -m 644 man/keyretain-protocol.7 "$(DESTDIR)$(MANDIR)/man7/"
-	install -m 644 man/keyretaind.8 "$(DESTDIR)$(MANDIR)/man8/"
-	sed '/^ExecStart=/s|@sbindir@|$(SBINDIR)|' contrib/systemd/keyretaind.service \
-	  >"$(DESTDIR)$(UNITDIR)/keyretaind.service"
-	chmod 644 "$(DESTDIR)$(UNITDIR)/keyretaind.service"
-	install -m 644 contrib/systemd/keyretain.conf "$(DESTDIR)$(SYSUSERSDIR)/"
-	install -m 644 contrib/bash-completion/* "$(DESTDIR)$(COMPLETIONDIR)/"
-	for name in guard agent status; do ln -sf keyretain-session "$(DESTDIR)$(COMPLETIONDIR)/keyretain-$$name"; done
-	install -d "$(DESTDIR)$(ZSHDIR)" "$(DESTDIR)$(FISHDIR)"
-	install -m 644 contrib/zsh-completion/_keyretain "$(DESTDIR)$(ZSHDIR)/"
-	install -m 644 contrib/fish-completion/keyretain.fish "$(DESTDIR)$(FISHDIR)/"
-	for name in $(filter-out keyretain,$(COMPLETED)); do \
-	  ln -sf keyretain.fish "$(DESTDIR)$(FISHDIR)/$$name.fish"; done
-	install -d "$(DESTDIR)$(USERUNITDIR)"
-	sed -e '/^ExecStart=/s|@sbindir@|$(SBINDIR)|' -e '/^ExecCondition=/s|@bindir@|$(BINDIR)|' \
-	  contrib/systemd/user/keyretaind.service \
-	  >"$(DESTDIR)$(USERUNITDIR)/keyretaind.service"
-	chmod 644 "$(DESTDIR)$(USERUNITDIR)/keyretaind.service"
-	install -d "$(DESTDIR)$(DATADIR)"
-	sed -e '/^ExecStart=/s|@sbindir@|$(SBINDIR)|' -e '/^ExecCondition=/s|@bindir@|$(BINDIR)|' \
-	  contrib/systemd/keyretaind@.service \
-	  >"$(DESTDIR)$(UNITDIR)/keyretaind@.service"
-	chmod 644 "$(DESTDIR)$(UNITDIR)/keyretaind@.service"
-	install -m 644 contrib/systemd/user-quota.conf "$(DESTDIR)$(DATADIR)/"
-	install -d "$(DESTDIR)$(PRESETDIR)/system-preset" "$(DESTDIR)$(PRESETDIR)/user-preset"
-	install -m 644 contrib/systemd/80-keyretain.preset "$(DESTDIR)$(PRESETDIR)/system-preset/"
-	install -m 644 contrib/systemd/80-keyretain.preset "$(DESTDIR)$(PRESETDIR)/user-preset/"
+	@set -e; IFS=:; for row in $(INSTALLED); do set -- $$row; to="$(DESTDIR)$$2"; install -d "$${to%/*}"; \
+	  case $$1:$$3 in *:link) ln -sf "$$1" "$$to" ;; *.service:*) sed -e '/^ExecStart=/s|@sbindir@|$(SBINDIR)|' \
+	    -e '/^ExecCondition=/s|@bindir@|$(BINDIR)|' "$$1" >"$$to"; chmod "$$3" "$$to" ;; \
+	  *) install -m "$$3" "$$1" "$$to" ;; esac; done
 	@if [ -x guard/build/keyretain-guard ]; then $(MAKE) -C guard install PREFIX="$(PREFIX)" DESTDIR="$(DESTDIR)"; \
 	  else echo 'the guard is not installed: make guard builds it'; fi
 	@if [ -d clients/c/build ]; then $(MAKE) -C clients/c install PREFIX="$(PREFIX)" DESTDIR="$(DESTDIR)"; \
@@ -177,15 +168,8 @@ uninstall:
 	$(MAKE) -C guard uninstall PREFIX="$(PREFIX)" DESTDIR="$(DESTDIR)"
 	$(MAKE) -C pam uninstall PREFIX="$(PREFIX)" DESTDIR="$(DESTDIR)"
 	$(MAKE) -C ssh-agent uninstall PREFIX="$(PREFIX)" DESTDIR="$(DESTDIR)"
-	rm -f "$(DESTDIR)$(UNITDIR)/keyretaind@.service" "$(DESTDIR)$(DATADIR)/user-quota.conf"
 	$(MAKE) -C clients/python uninstall PREFIX="$(PREFIX)" DESTDIR="$(DESTDIR)" PYTHON="$(PYTHON)"
-	rm -f "$(DESTDIR)$(USERUNITDIR)/keyretaind.service"
-	rm -f "$(DESTDIR)$(BINDIR)/keyretain" "$(DESTDIR)$(SBINDIR)/keyretaind" "$(DESTDIR)$(MANDIR)/man1/keyretain.1" \
-	  "$(DESTDIR)$(MANDIR)/man7/keyretain-protocol.7" "$(DESTDIR)$(MANDIR)/man8/keyretaind.8" \
-	  "$(DESTDIR)$(UNITDIR)/keyretaind.service" "$(DESTDIR)$(SYSUSERSDIR)/keyretain.conf" \
-	  $(COMPLETED:%="$(DESTDIR)$(COMPLETIONDIR)/%") "$(DESTDIR)$(ZSHDIR)/_keyretain" \
-	  $(COMPLETED:%="$(DESTDIR)$(FISHDIR)/%.fish") \
-	  "$(DESTDIR)$(PRESETDIR)/system-preset/80-keyretain.preset" "$(DESTDIR)$(PRESETDIR)/user-preset/80-keyretain.preset"
+	@IFS=:; for row in $(INSTALLED); do set -- $$row; rm -f "$(DESTDIR)$$2"; done
 	@for folder in "$(DESTDIR)$(PREFIX)/lib" "$(DESTDIR)$(PREFIX)/libexec" "$(DESTDIR)$(PREFIX)/share"; do \
 	  [ ! -d "$$folder/keyretain" ] || rmdir --ignore-fail-on-non-empty "$$folder/keyretain"; done
 	@[ ! -d "$(DESTDIR)/etc/systemd" ] || find "$(DESTDIR)/etc/systemd" -type l \

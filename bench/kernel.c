@@ -24,7 +24,8 @@ static long control(int operation, long first, long second, long third, long fou
 
 static long add(const char *type, const char *description, long ring) {
     bool has_payload = strcmp(type, "keyring") != 0;
-    return syscall(SYS_add_key, type, description, has_payload ? payload : NULL, has_payload ? sizeof payload : 0, ring);
+    return syscall(SYS_add_key, type, description, has_payload ? payload : NULL, has_payload ? sizeof payload : 0,
+                   ring);
 }
 
 /* A description that no key has. */

@@ -1,4 +1,5 @@
-"""How long a build takes: what each crate took when it was last measured, and the schedule of tools/build played through."""
+"""How long a build takes: what each crate took when it was last measured, and the schedule of tools/build played
+through."""
 
 # The part of a check that goes on in one process, however many jobs it has.
 ALONE = 0.25
@@ -9,8 +10,8 @@ BEFORE = 120
 
 
 def read_seconds(path):
-    """The processor seconds that each crate took, by its name, and how many times as long as foreseen that build took: a
-    line for each, as `krs_types 61`, and `* 1.5` for the second; # begins a comment."""
+    """The processor seconds that each crate took, by its name, and how many times as long as foreseen that build took:
+    a line for each, as `krs_types 61`, and `* 1.5` for the second; # begins a comment."""
     try:
         with open(path, encoding="utf-8") as file:
             lines = [line.partition("#")[0].split() for line in file]
@@ -31,8 +32,8 @@ def wall(seconds, jobs):
 
 
 def heights(seconds, below):
-    """The seconds of the longest chain of crates that begins with each crate and goes up. seconds: those of each crate by
-    its name; below: the names of all crates that each stands on."""
+    """The seconds of the longest chain of crates that begins with each crate and goes up. seconds: those of each crate
+    by its name; below: the names of all crates that each stands on."""
     known = {}
     for name in sorted(seconds, key=lambda it: -len(below[it])):
         known[name] = seconds[name] + max((known[it] for it in known if name in below[it]), default=0)
@@ -40,8 +41,8 @@ def heights(seconds, below):
 
 
 def left(seconds, below, most, running):
-    """The seconds by the clock until crates are built, `most` jobs at once. seconds: what each takes that isn't built yet;
-    running: for those that are begun, their jobs and for how long they have been running."""
+    """The seconds by the clock until crates are built, `most` jobs at once. seconds: what each takes that isn't built
+    yet; running: for those that are begun, their jobs and for how long they have been running."""
     height = heights(seconds, below)
     waiting = sorted((it for it in seconds if it not in running), key=lambda it: -height[it])
     ends = {it: (max(0, wall(seconds[it], jobs) - since), jobs) for it, (jobs, since) in running.items()}

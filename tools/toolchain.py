@@ -1,19 +1,20 @@
-"""The toolchain's command rt as a Python module, with two of its parts replaced at run time, for the tools beside this file.
+"""The toolchain's command rt as a Python module, with two of its parts replaced at run time, for the tools beside this
+file.
 
 - `rtlib.Crate.stamp`: each crate is summed up once a question. Some versions sum a library up once for each way down to
   it, which are thousands for the daemon.
-- `Crate.build_rlib`, for `rt ci` alone: a library keeps its checked modules, so that the wrong bodies of the crate may be
-  tried over its proof.
+- `Crate.build_rlib`, for `rt ci` alone: a library keeps its checked modules, so that the wrong bodies of the crate may
+  be tried over its proof.
 
 `rt ci` is also told, by its RT_JOBS, to run each check in one job.
 
 Needed of the toolchain: rt is a file of Python with `main` and `Crate`; a crate has `stamp`, `build_rlib`, `folder`,
-`rlib` and `cuts_libraries`; an rlib has `format`, `toolchain/checked.json` and `toolchain/checked.a`. Where one of these
-isn't there, `load` raises Unknown, or a check begins at nothing: plain rt then does the same, and the tools say so in one
-line.
+`rlib` and `cuts_libraries`; an rlib has `format`, `toolchain/checked.json` and `toolchain/checked.a`. Where one of
+these isn't there, `load` raises Unknown, or a check begins at nothing: plain rt then does the same, and the tools say
+so in one line.
 
-This file can go once rt itself sums each crate up once, and tries many mutants over one proof. Until then whoever takes a
-new toolchain compares one run of plain `rt ci` with the gate's.
+This file can go once rt itself sums each crate up once, and tries many mutants over one proof. Until then whoever takes
+a new toolchain compares one run of plain `rt ci` with the gate's.
 """
 import importlib.machinery
 import importlib.util
@@ -101,14 +102,14 @@ def has_one_job(crate):
 
 
 def give_one_job():
-    """Has each check of `rt ci` run in one job, and as many checks at once as there are processors and memory for: each job
-    of a check reads all libraries below it once more. RT_JOBS may give another number of checks."""
+    """Has each check of `rt ci` run in one job, and as many checks at once as there are processors and memory for: each
+    job of a check reads all libraries below it once more. RT_JOBS may give another number of checks."""
     os.environ.setdefault("RT_JOBS", str(checks_at_once()))
 
 
 def keep_proofs(rt):
-    """Has the libraries that `rt ci` builds keep their checked modules, as they do outside the gate, so that the wrong bodies
-    of a crate may be tried over its proof; but for those that are cut."""
+    """Has the libraries that `rt ci` builds keep their checked modules, as they do outside the gate, so that the wrong
+    bodies of a crate may be tried over its proof; but for those that are cut."""
     build = rt.Crate.build_rlib
 
     def build_with_proofs(crate, flags, anew):
@@ -119,8 +120,8 @@ def keep_proofs(rt):
 
 
 def build_library(rt, crate, flags):
-    """Proves a crate and builds its library, over what earlier checks kept; one that is cut from nothing, unless another
-    checkout on this machine has it. Returns the status."""
+    """Proves a crate and builds its library, over what earlier checks kept; one that is cut from nothing, unless
+    another checkout on this machine has it. Returns the status."""
     if not is_cut(crate) or crate.is_built():
         return crate.build_rlib(flags, False)
     if hasattr(rt, "take_rlib") and rt.take_rlib(crate):

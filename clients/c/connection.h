@@ -89,8 +89,11 @@ struct kr_where {
 /* Where a daemon listens: at this path, or for NULL at that which is found. -1 with errno. */
 int kr_locate(struct kr_where *where, const char *path);
 
-/* Whether a daemon that `peer` runs may be told what a user keeps. */
-bool kr_is_trusted(enum kr_place place, uid_t user, uid_t peer);
+/* Whether a daemon that `peer` runs at a path may be told what a user keeps. */
+bool kr_is_trusted(enum kr_place place, const char *path, uid_t user, uid_t peer);
+
+/* What stands for uids that have no number in a user namespace. */
+unsigned kr_unknown_uid(void);
 
 /* ---- Descriptors ---- */
 

@@ -136,9 +136,11 @@ bool entries_have_uid(uint32_t uid) {
     return false;
 }
 
+/* A process that has ended while it asked may have left its number to another one, of whatever user. */
 void set_session(struct task *task, struct session *session) {
+    const struct process *process = task->process;
     struct session *before = task->session;
-    if (task == task->process->first) session_put_tag(task->process->id, session);
+    if (task == process->first && !proc_has_ended(process->descriptor)) session_put_tag(process->id, session);
     task->session = session_use(session);
     session_let_go(before);
 }

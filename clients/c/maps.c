@@ -5,7 +5,7 @@
 #include <sched.h>
 #include <sys/ioctl.h>
 
-enum { OVERFLOW_ID = 65534, RANGE_LETTERS = 34 };
+enum { RANGE_LETTERS = 34 };
 
 static struct {
     struct map uids, gids;
@@ -83,9 +83,7 @@ static bool read_maps_of(int namespace, pid_t first) {
 
 void maps_begin(pid_t first) {
     static const struct map ours = { .count = 1, .ranges = { { 0, 0, UINT32_MAX } } }; /* ids are as they are read */
-    FILE *file = fopen("/proc/sys/kernel/overflowuid", "re");
-    if (!file || fscanf(file, "%u", &all.unknown) != 1) all.unknown = OVERFLOW_ID;
-    if (file) fclose(file);
+    all.unknown = kr_unknown_uid();
     all.length = read_map(getpid(), "uid_map", &all.uids) ? length_of(&all.uids) : 0;
     if (find_namespace(getpid(), &all.namespace) < 0) return;
     all.uids = all.gids = ours;

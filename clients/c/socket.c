@@ -126,7 +126,9 @@ int kr_connect(struct kr *connection) {
     const struct peer *peer = &connection->peer;
     bool is_anybody = connection->place == KR_NAMED && connection->trusts_anybody;
     if (connect_in_time(connection) < 0 || !find_peer(connection->socket.descriptor, &connection->peer)) return -1;
-    return is_anybody || kr_is_trusted(connection->place, connection->user, peer->uid) ? 0 : fail_as(EACCES);
+    const char *path = connection->address.sun_path;
+    bool is_trusted = is_anybody || kr_is_trusted(connection->place, path, connection->user, peer->uid);
+    return is_trusted ? 0 : fail_as(EACCES);
 }
 
 struct kr *kr_open_with(const char *path, unsigned flags, int milliseconds) {

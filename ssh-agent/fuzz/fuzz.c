@@ -1,5 +1,5 @@
-/* fuzz.c: messages to the agent, over a daemon in memory. An input is messages with their lengths, as they come over the
- * socket. What the agent answers must be one whole message, and its connection has ended by then. */
+/* fuzz.c: messages to the agent, over a daemon in memory. An input is messages with their lengths, as they come over
+ * the socket. What the agent answers must be one whole message, and its connection has ended by then. */
 #include <errno.h>
 #include <linux/keyctl.h>
 #include <stdio.h>

@@ -10,7 +10,8 @@ import sys
 import tempfile
 import threading
 
-KINDS = ("ed25519", "ed25519", "256"), ("p256", "ecdsa", "256"), ("p384", "ecdsa", "384"), ("p521", "ecdsa", "521"), ("rsa", "rsa", "1024")
+KINDS = (("ed25519", "ed25519", "256"), ("p256", "ecdsa", "256"), ("p384", "ecdsa", "384"), ("p521", "ecdsa", "521"),
+         ("rsa", "rsa", "1024"))
 
 
 def serve(listener: socket.socket, heard: list) -> None:

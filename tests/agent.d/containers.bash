@@ -70,18 +70,6 @@ has_one_container() { [ "$(find "$folder" -type s | wc -l)" = 1 ]; }
 # session_of COMMAND ..: what the command says of a session, without its mask
 session_of() { "$@" describe @s | sed 's/;[0-9a-f]*;_ses/; _ses/'; }
 
-# has_none NAME COMMAND ..: the last line says that nothing failed; what was skipped and what failed is printed here
-has_none() {
-  local name=$1 text
-  shift
-  text=$(timeout 300 "$@" 2>&1 </dev/null)
-  printf '%s\n' "$text" | grep '^skipped:'
-  case ${text##*$'\n'} in
-    *' passed, 0 failed' | *' compared, 0 different' | *' tried, 0 failed') is "$name" none none ;;
-    *) printf '%s\n' "$text" | head -n 40 && is "$name" none "${text##*$'\n'}" ;;
-  esac
-}
-
 # with_container ID COMMAND ..: a command while a container of this id has a key `kept` in its session and user keyring.
 # $first is its first process.
 with_container() {

@@ -5,17 +5,16 @@ import socket
 import sys
 import time
 
-sys.path.insert(0, os.path.join(os.path.dirname(os.path.abspath(__file__)), '../clients.d'))
 from compare import compare, conclude
+import daemons
 
 GOOD = b'{"fds":["seccompFd"],"state":{"id":"h"}}'
 SECONDS = 20  # in which a connection must end; the agent's patience is two
 
 
 def connect(path):
-    client = socket.socket(socket.AF_UNIX, socket.SOCK_STREAM)
+    client = daemons.connect(path)
     client.settimeout(SECONDS)
-    client.connect(path)
     return client
 
 

@@ -83,7 +83,7 @@ def main(judge, count, seed):
     if len(said) != count or taken * 20 < count or taken * 20 > count * 19:
         print(f'fails: {len(said)} answers, {taken} of them taken')
         different.append(None)
-    print(f'judge: {count} compared, {len(different)} different')
+    print(f'judge: {count - len(different)} passed, {len(different)} failed')
     return len(different) != 0
 
 

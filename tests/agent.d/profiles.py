@@ -5,7 +5,6 @@ import subprocess
 import sys
 import tempfile
 
-sys.path.insert(0, os.path.join(os.path.dirname(os.path.abspath(__file__)), '../clients.d'))
 from compare import compare, conclude
 
 CALLS = {'add_key', 'request_key', 'keyctl'}

@@ -40,6 +40,6 @@ int main(int count, char **words) {
             for (unsigned changes = below(6); changes > 0; changes--) length = change(bytes, length);
             LLVMFuzzerTestOneInput((const uint8_t *)bytes, length);
         }
-    printf("streams: %lu tried, 0 failed\n", runs);
+    printf("streams: %lu passed, 0 failed\n", runs);
     return 0;
 }

@@ -7,6 +7,7 @@ import os
 import random
 import struct
 import sys
+from pathlib import Path
 
 from compare import compare, conclude
 from draw import Lines
@@ -145,13 +146,13 @@ def try_clients(episode):
 
 
 def read_script(name):
-    """The lines of a script, and what they print. `rlist` is played as `print`, which gives a keyring's serials as bytes.
-    None where another way can't have a line: one that isn't UTF-8, has a null byte or no command, or sets a moment that
-    no clock has."""
+    """The lines of a script, and what they print. `rlist` is played as `print`, which gives a keyring's serials as
+    bytes. None where another way can't have a line: one that isn't UTF-8, has a null byte or no command, or sets a
+    moment that no clock has."""
     try:
-        with open(f"{folder}/{name}.in", encoding="utf-8") as given, open(f"{folder}/{name}.out", encoding="utf-8") as wanted:
-            lines = [it for it in given.read().splitlines() if it.strip() and not it.startswith("#")]
-            answers = wanted.read().splitlines()
+        given, wanted = (Path(f"{folder}/{name}.{kind}").read_text(encoding="utf-8") for kind in ("in", "out"))
+        lines = [it for it in given.splitlines() if it.strip() and not it.startswith("#")]
+        answers = wanted.splitlines()
         for at, line in enumerate(lines):
             if line.startswith("rlist "):
                 lines[at] = f"print {line[6:]}"

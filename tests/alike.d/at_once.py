@@ -1,6 +1,6 @@
-"""at_once.py PATH ASKS SEED: 16 clients of one daemon at once, which nobody else uses, with so many asks in all. Each is
-a process that sends up to 64 asks ahead. What must hold in whatever order they are served is checked afterwards, of what
-each client was answered, and when: one ask stands before another if it was answered before the other was sent.
+"""at_once.py PATH ASKS SEED: 16 clients of one daemon at once, which nobody else uses, with so many asks in all. Each
+is a process that sends up to 64 asks ahead. What must hold in whatever order they are served is checked afterwards, of
+what each client was answered, and when: one ask stands before another if it was answered before the other was sent.
 
 Prints each answer that can't be, and last how many were compared."""
 import bisect
@@ -8,7 +8,6 @@ import mmap
 import os
 import pickle
 import random
-import socket
 import struct
 import sys
 import time
@@ -17,6 +16,7 @@ from collections import defaultdict
 from typing import NamedTuple
 
 from compare import compare, conclude
+from daemons import connect
 import keyretain
 import versions
 
@@ -58,9 +58,8 @@ class Client:
         self.number, self.board = number, board
         self.chance = random.Random(f"{seed} {number}")
         self.version = 1 + number % 2
-        self.end = socket.socket(socket.AF_UNIX)
+        self.end = connect(path)
         self.end.settimeout(120)
-        self.end.connect(path)
         self.received, self.events, self.made = b"", [], 0
         self.uid = 1000 + number % 4
         self.context = self.ask("HELLO", 0, self.uid, self.uid, [])
@@ -68,7 +67,7 @@ class Client:
 
     def exchange(self, batch):
         sent = time.monotonic_ns()
-        frames = [versions.encode_ask(name, context, values, self.version, at) for at, (name, context, values) in enumerate(batch)]
+        frames = [versions.encode_ask(*asked, self.version, at) for at, asked in enumerate(batch)]
         self.end.sendall(b"".join(frames))
         answers = []
         for name, _, values in batch:
@@ -117,7 +116,8 @@ class Client:
 
     def turn(self):
         """Up to 64 asks ahead, and then what their answers lead to: the owner opens half of the new keys to all."""
-        batch = [(name, self.context, values) for name, values in (self.draw() for _ in range(self.chance.choice((1, 1, 4, 16, AHEAD))))]
+        drawn = [self.draw() for _ in range(self.chance.choice((1, 1, 4, 16, AHEAD)))]
+        batch = [(name, self.context, values) for name, values in drawn]
         follow = []
         for (name, _, _), answer in zip(batch, self.exchange(batch)):
             if name == "ADD" and isinstance(answer, int):

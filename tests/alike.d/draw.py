@@ -1,4 +1,5 @@
-"""Lines at random. What is drawn next depends on what the lines before were answered: so keys are named that are there."""
+"""Lines at random. What is drawn next depends on what the lines before were answered: so keys are named that are
+there."""
 from lines import COMMANDS, RINGS
 
 # The first 14 are of types that the kernel has as well.
@@ -12,8 +13,8 @@ KEPT = 40  # keys, contexts and queues that are named again
 
 
 class Lines:
-    """Draws lines; `note` is told what each was answered. `of_calls`: what keyctl(2) and its kin can ask, in one context
-    and as the kernel answers it."""
+    """Draws lines; `note` is told what each was answered. `of_calls`: what keyctl(2) and its kin can ask, in one
+    context and as the kernel answers it."""
 
     def __init__(self, chance, of_calls=False, others=()):
         self.chance, self.of_calls = chance, of_calls
@@ -26,7 +27,8 @@ class Lines:
 
     def draw(self):
         if self.has_no_context and self.chance.random() < 0.8:
-            return f"context {self.one(*self.contexts)}" if self.chance.random() < 0.7 else f"hello {self.one(*USERS)} 1000"
+            is_known = self.chance.random() < 0.7
+            return f"context {self.one(*self.contexts)}" if is_known else f"hello {self.one(*USERS)} 1000"
         word, draw = self.chance.choices(self.table, self.weights)[0]
         return f"{word} {draw(self)}".rstrip()
 
@@ -113,8 +115,8 @@ class Lines:
         return " ".join(self.entry() for _ in range(self.one(1, 1, 2, 17)))
 
     def entry(self):
-        return f"{self.one('1', '1', '0', '2')}:{self.one('0', '0', '100', '300')}:{self.one('0', 'ff00', '300', '7f')}:" \
-            f"{self.chance.randrange(256):x}"
+        drawn = self.one("1", "1", "0", "2"), self.one("0", "0", "100", "300"), self.one("0", "ff00", "300", "7f")
+        return f"{':'.join(drawn)}:{self.chance.randrange(256):x}"
 
     def next_moment(self):
         self.moment += self.chance.choice([0, 1, 1, 2, 5])

@@ -1,4 +1,5 @@
-"""The lines of scripts, as keyretain(1) has them: what each asks, how one is drawn, and what is printed for its answer."""
+"""The lines of scripts, as keyretain(1) has them: what each asks, how one is drawn, and what is printed for its
+answer."""
 import keyretain
 
 RINGS = {"@t": -1, "@p": -2, "@s": -3, "@u": -4, "@us": -5}

@@ -1,5 +1,5 @@
-/* The clock of a daemon under test: the moment that stands in the file which KEYRETAIN_MOMENT names, 8 bytes, as seconds
-   of each clock. For tests/alike, by LD_PRELOAD. */
+/* The clock of a daemon under test: the moment that stands in the file which KEYRETAIN_MOMENT names, 8 bytes, as
+ * seconds of each clock. For tests/alike, by LD_PRELOAD. */
 #include <fcntl.h>
 #include <stdint.h>
 #include <stdlib.h>

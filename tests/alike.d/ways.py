@@ -10,6 +10,7 @@ import struct
 import subprocess
 import tempfile
 
+import daemons
 import keyretain
 import versions
 from lines import Player, ask_of, printed
@@ -31,8 +32,8 @@ def environment(**more):
 
 
 class Daemon:
-    """A daemon on a path of its own, and the file that has its moment. A clock that is set back counts as it was, so the
-    first moment is that with which lines begin."""
+    """A daemon on a path of its own, and the file that has its moment. A clock that is set back counts as it was, so
+    the first moment is that with which lines begin."""
 
     first_moment = FIRST_MOMENT
 
@@ -42,29 +43,21 @@ class Daemon:
         self.moment = f"{self.folder}/moment"
         self.set_moment(self.first_moment)
         self.path = f"{self.folder}/sock"
-        self.processes = []
         with_clock = environment(KEYRETAIN_MOMENT=self.moment, LD_PRELOAD=Programs.moment)
-        self._start([Programs.keyretaind, "--socket", self.path, "--lanes", "32"], with_clock)
+        self.programs = [daemons.Daemon(Programs.keyretaind, self.path, env=with_clock)]
         if guarded:
-            self.path = f"{self.folder}/public"
-            self._start([Programs.guard, "--listen", self.path, "--daemon", f"{self.folder}/sock", "--trust",
-                         str(os.geteuid()), "--connections", "32"], environment())
-
-    def _start(self, words, env):
-        process = subprocess.Popen(words, env=env, stdin=subprocess.DEVNULL, stdout=subprocess.PIPE)
-        self.processes.insert(0, process)
-        if not process.stdout.readline().startswith(b"listening"):
-            raise OSError(f"{words[0]} doesn't listen")
+            trusts = "--trust", os.geteuid(), "--connections", 32
+            guard = daemons.Guard(Programs.guard, f"{self.folder}/public", self.path, *trusts, env=environment())
+            self.programs.insert(0, guard)
+            self.path = guard.path
 
     def set_moment(self, moment):
         with open(self.moment, "r+b" if os.path.exists(self.moment) else "wb") as file:
             file.write(struct.pack("<Q", moment))
 
     def end(self):
-        for process in self.processes:
-            process.kill()
-            process.wait()
-            process.stdout.close()
+        for program in self.programs:
+            program.end()
         shutil.rmtree(self.folder)
 
 
@@ -169,9 +162,8 @@ class Frames(OfDaemon):
     versions = (1,)
 
     def begin(self):
-        self.end_of_it = socket.socket(socket.AF_UNIX)
+        self.end_of_it = daemons.connect(self.daemon.path)
         self.end_of_it.settimeout(PATIENCE)
-        self.end_of_it.connect(self.daemon.path)
         self.received, self.context, self.asked = b"", 0, 0
 
     def play_piece(self, lines):
@@ -272,7 +264,8 @@ class Python(OneByOne):
 
 def name_of_error():
     number = ctypes.get_errno()
-    return next((name for status, name in keyretain.STATUSES.items() if status == number), errno.errorcode.get(number, str(number)))
+    return next((name for status, name in keyretain.STATUSES.items() if status == number),
+                errno.errorcode.get(number, str(number)))
 
 
 class Library(OneByOne):
@@ -329,9 +322,11 @@ class Calls(OfDaemon):
     """A program that makes the calls, in the one context that it has."""
 
     def begin(self):
-        env = environment(KEYRETAIN_SOCKET=self.daemon.path, KEYRETAIN_LIBRARY_FOLDER=os.path.dirname(Programs.keyutils),
+        env = environment(KEYRETAIN_SOCKET=self.daemon.path,
+                          KEYRETAIN_LIBRARY_FOLDER=os.path.dirname(Programs.keyutils),
                           PYTHONPATH=os.environ.get("PYTHONPATH", ""))
-        self.program = Process([*self.words(), "python3", "-B", f"{os.path.dirname(__file__)}/calls.py", self.by()], env)
+        self.program = Process([*self.words(), "python3", "-B", f"{os.path.dirname(__file__)}/calls.py", self.by()],
+                               env)
 
     def play_piece(self, lines):
         return self.program.play(lines)

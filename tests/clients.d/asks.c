@@ -1,7 +1,7 @@
-/* asks PATH VERSION MODE: calls of libkeyretain against the server of frames.py, with what they answer.
- * all: each function once. late: calls that are interrupted or out of patience, whose replies come late. first: the same
- * of the first call. restarted: signals that end no call. one: a call that is answered, and one more. fork: a call in a
- * child. */
+/* asks PATH VERSION MODE: calls of libkeyretain against the server of frames.py, with what they answer. all: each
+ * function once. late: calls that are interrupted or out of patience, whose replies come late. first: the same of the
+ * first call. restarted: signals that end no call. one: a call that is answered, and one more. fork: a call in a child.
+ * */
 #define _GNU_SOURCE
 #include <errno.h>
 #include <inttypes.h>

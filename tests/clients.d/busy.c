@@ -64,31 +64,6 @@ static void wait_beside_others(char **words) {
     else puts("fair");
 }
 
-/* ---- A crowd ---- */
-
-static atomic_int connections;
-
-int connect(int descriptor, const struct sockaddr *address, socklen_t length) {
-    int (*ours)(int, const struct sockaddr *, socklen_t) =
-        (int (*)(int, const struct sockaddr *, socklen_t))dlsym(RTLD_NEXT, "connect");
-    if (atomic_fetch_add(&connections, 1) == 0) usleep(1000000);
-    return ours(descriptor, address, length);
-}
-
-static void *ask_once(void *unused) {
-    (void)unused;
-    return (void *)ask();
-}
-
-/* crowd: how many connections are made for threads that ask while the first one is being made. */
-static void ask_as_crowd(char **words) {
-    pthread_t threads[THREADS];
-    (void)words;
-    for (int i = 0; i < THREADS; i++) pthread_create(&threads[i], NULL, ask_once, NULL);
-    for (int i = 0; i < THREADS; i++) pthread_join(threads[i], NULL);
-    printf("%d\n", atomic_load(&connections));
-}
-
 /* ---- A daemon that is stopped, while the clock runs ---- */
 
 static time_t step, passed;
@@ -177,6 +152,35 @@ static void want_contexts_stopped(char **words) {
     bool is_answered = kr_thread(connection, (uint32_t)context) > 0;
     printf("%d late, then %s\n", late, word_of(is_answered));
     kr_close(connection);
+}
+
+/* ---- A crowd ---- */
+
+static atomic_int connections;
+
+int connect(int descriptor, const struct sockaddr *address, socklen_t length) {
+    int (*ours)(int, const struct sockaddr *, socklen_t) =
+        (int (*)(int, const struct sockaddr *, socklen_t))dlsym(RTLD_NEXT, "connect");
+    if (atomic_fetch_add(&connections, 1) == 0) usleep(1000000);
+    return ours(descriptor, address, length);
+}
+
+static void *ask_once(void *unused) {
+    (void)unused;
+    return (void *)ask();
+}
+
+/* crowd: how many connections are made for threads that ask while the first one is being made, and a second isn't
+ * over. */
+static void ask_as_crowd(char **words) {
+    pthread_t threads[THREADS];
+    struct timespec now;
+    (void)words;
+    clock_gettime(CLOCK_MONOTONIC, &now);
+    stands = &now;
+    for (int i = 0; i < THREADS; i++) pthread_create(&threads[i], NULL, ask_once, NULL);
+    for (int i = 0; i < THREADS; i++) pthread_join(threads[i], NULL);
+    printf("%d\n", atomic_load(&connections));
 }
 
 /* ---- Many processes ---- */

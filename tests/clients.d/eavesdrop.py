@@ -1,37 +1,31 @@
-"""eavesdrop.py UID PATH [deaf]: becomes UID, and serves at PATH: says yes to everything, and prints a line for each ask:
-its number, and of HELLO (256) the uid. Prints `listening` first. One that is deaf accepts nothing."""
+"""eavesdrop.py UID PATH [deaf]: becomes UID, and serves at PATH: says yes to everything, and prints a line for each
+ask: its number, and of HELLO (256) the uid. Prints `listening` first. One that is deaf accepts nothing."""
 import os
 import signal
 import socket
-import struct
 import sys
 import threading
 
-NUMBERS = {0, 1, 10, 256, 257, 258, 262, 263, 264}
-BYTES = {6, 11, 266}
+from daemons import become
+from servers import End, keyretain, number, reply
+
+OTHERS = {"nothing": b"", "bytes": b"keyring;0;0;3f1b0000;x"}  # what isn't a number
 
 
 def serve(end):
-    while head := end.recv(4, socket.MSG_WAITALL):
-        rest = end.recv(struct.unpack("<I", head)[0], socket.MSG_WAITALL)
-        number = struct.unpack_from("<H", rest, 2)[0]
-        uid = struct.unpack_from("<I", rest, 16)[0] if number == 256 else ""
-        print(number, uid, flush=True)
-        body = struct.pack("<I", 9) if number in NUMBERS else b"keyring;0;0;3f1b0000;x" if number in BYTES else b""
-        end.sendall(struct.pack("<II", 12 + len(body), 0) + rest[8:16] + body)
-    end.close()
+    for tag, name, values in end.asks():
+        print(keyretain.ASKS[name].number, values[0] if name == "HELLO" else "", flush=True)
+        end.socket.sendall(reply(tag, OTHERS.get(keyretain.ASKS[name].answer, number(9))))
+    end.socket.close()
 
 
-uid, path = int(sys.argv[1]), sys.argv[2]
-os.setgroups([])
-os.setresgid(uid, uid, uid)
-os.setresuid(uid, uid, uid)
+become(int(sys.argv[1]))
 listener = socket.socket(socket.AF_UNIX)
-listener.bind(path)
-os.chmod(path, 0o777)
+listener.bind(sys.argv[2])
+os.chmod(sys.argv[2], 0o777)
 listener.listen(8)
 print("listening", flush=True)
 while sys.argv[3:] == ["deaf"]:
     signal.pause()
 while True:
-    threading.Thread(target=serve, args=(listener.accept()[0],), daemon=True).start()
+    threading.Thread(target=serve, args=(End(listener.accept()[0]),), daemon=True).start()

@@ -1,6 +1,7 @@
 """examples.py PATH FOLDER: compiles the program in C of libkeyretain(3) with what FOLDER has, runs it, and the one in
 Python of the package's own page, as they stand, with the daemon at PATH: in no session, and in one that is held
-meanwhile. Then those of keyretain-session(1), by its name in FOLDER. Prints a line for each difference, and last how many were compared."""
+meanwhile. Then those of keyretain-session(1), by its name in FOLDER. Prints a line for each difference, and last how
+many were compared."""
 import os
 import re
 import shutil
@@ -41,7 +42,8 @@ def run(words, session=""):
 
 
 def try_sessions():
-    """The examples of keyretain-session(1), but for the serials. Where the kernel lets no filter be set, that is said."""
+    """The examples of keyretain-session(1), but for the serials. Where the kernel lets no filter be set, that is
+    said."""
     page = r"\$ keyretain-session ?([^\n]*?) ?-- sh\n(.*?)\$ exit\n"
     found = blocks("man/keyretain-session.1", page)
     compare("the examples of keyretain-session(1)", ["", "--syscalls", ""], [option for option, _ in found])
@@ -73,7 +75,8 @@ with tempfile.TemporaryDirectory(prefix="keyretain.") as folder:
         source, program = folder + "/example.c", folder + "/example"
         with open(source, "w", encoding="utf-8") as file:
             file.write(text)
-        compiled = subprocess.run(["cc", "-Wall", "-Wextra", "-Werror", "-I", os.path.join(TOP, "clients/c"), source, "-o", program,
+        compiled = subprocess.run(["cc", "-Wall", "-Wextra", "-Werror", "-I", os.path.join(TOP, "clients/c"), source,
+                                   "-o", program,
                                    "-L", built, "-lkeyretain"], capture_output=True, text=True, check=False)
         compare(f"{where}: its program is compiled", (0, ""), (compiled.returncode, compiled.stderr))
         if compiled.returncode == 0:

@@ -1,5 +1,5 @@
-"""holding.py KEEPER: whether keyretain-keeper --hold goes on where a daemon doesn't say for a while what the keyring has,
-and ends where there is no keyring any more. Prints a line for each difference, and last how many were compared."""
+"""holding.py KEEPER: whether keyretain-keeper --hold goes on where a daemon doesn't say for a while what the keyring
+has, and ends where there is no keyring any more. Prints a line for each difference, and last how many were compared."""
 import errno
 import itertools
 import os
@@ -19,9 +19,9 @@ FORMS = {"number": SERIAL, "serial": SERIAL, "nothing": b"", "bytes": OWN}
 
 
 class Daemon:
-    """One whose keyring reads as these, one after the other: bytes, or the number of an error. Another user has the name
-    of the keeper's session, which a key of its own says. `ended` is set when the keeper has gone, which has read the
-    keyring `count` times then."""
+    """One whose keyring reads as these, one after the other: bytes, or the number of an error. Another user has the
+    name of the keeper's session, which a key of its own says. `ended` is set when the keeper has gone, which has read
+    the keyring `count` times then."""
 
     def __init__(self, readings):
         self.readings, self.count, self.ended = iter(readings), 0, threading.Event()

@@ -37,7 +37,8 @@ int main(void) {
     for (int32_t highest = 10; highest < 1000000; highest *= 10) {
         serials_add(&serials, highest);
         check("another daemon", serials_begin_anew(&serials) == 0);
-        check("serials of the one before", serials_is_stale(&serials, highest) && !serials_is_stale(&serials, highest + 1));
+        check("serials of the one before",
+              serials_is_stale(&serials, highest) && !serials_is_stale(&serials, highest + 1));
         serials_add(&serials, 7);
         check("one that this one has told", !serials_is_stale(&serials, 7));
     }

@@ -11,7 +11,8 @@
 #include "check.h"
 #include "keyutils.h"
 
-enum { AT_ONCE = 300, ALIVE = 1000, STACK = 1 << 16, CONTEXTS = 64, IN_TURN = 200, FORKS = 30, HAMMERS = 4, FILES = 300, OTHER_UID = 1001 };
+enum { AT_ONCE = 300, ALIVE = 1000, STACK = 1 << 16, CONTEXTS = 64, IN_TURN = 200, FORKS = 30, HAMMERS = 4, FILES = 300,
+      OTHER_UID = 1001 };
 enum { LONG = 5000 };
 
 static key_serial_t process_key, thread_ring;

@@ -8,8 +8,7 @@ import random
 import struct
 import sys
 
-from servers import compare, conclude
-import keyretain
+from servers import compare, conclude, keyretain, number, reply
 from keyretain import connection
 
 DOCUMENTED = (keyretain.Refused, keyretain.Lost, keyretain.Malformed, TimeoutError)
@@ -44,13 +43,14 @@ class Server:
     def body_of(self, name):
         """A body as it should be, or something like it."""
         dice, form = self.dice, keyretain.ASKS[name].answer
-        body = {"number": dice.randbytes(4), "serial": self.serial(), "nothing": b"", "bytes": dice.randbytes(4 * dice.randrange(9))}[form]
+        body = {"number": dice.randbytes(4), "serial": self.serial(), "nothing": b"",
+                "bytes": dice.randbytes(4 * dice.randrange(9))}[form]
         if name == "READ_QUEUE" and dice.random() < 0.8:
             body = b"".join(self.record() for _ in range(dice.randrange(4)))
         return body + dice.randbytes(dice.randrange(6)) if dice.random() < 0.05 else body
 
     def serial(self):
-        return self.dice.randbytes(4) if self.dice.random() < 0.1 else struct.pack("<I", self.dice.randrange(1, 1 << 31))
+        return self.dice.randbytes(4) if self.dice.random() < 0.1 else number(self.dice.randrange(1, 1 << 31))
 
     def record(self):
         dice = self.dice
@@ -73,8 +73,8 @@ class Server:
 
     def answer(self, ask):
         dice = self.dice
-        _, version, number, _ = struct.unpack_from("<IHHI", ask)
-        name = keyretain.name_of(number)
+        _, version, operation, _ = struct.unpack_from("<IHHI", ask)
+        name = keyretain.name_of(operation)
         if name is None or version != 2:
             return  # the rest of a frame that was sent in parts
         tag = struct.unpack_from("<Q", ask, 12)[0] if len(ask) >= 20 else 0
@@ -83,12 +83,11 @@ class Server:
         if dice.random() < 0.03:
             tag = dice.choice((tag + 1, max(tag, 1) - 1, dice.getrandbits(64)))
         self.sent[tag].append(body)
-        rest = struct.pack("<IQ", status, tag) + body
-        whole, chance = struct.pack("<I", len(rest)) + rest, dice.random()
+        whole, chance = reply(tag, body, status), dice.random()
         self.sends_frames = self.sends_frames and chance > 0.04
         if chance < 0.02:
-            length = dice.choice((0, 3, 11, len(rest) + 1, dice.getrandbits(32)))
-            whole = struct.pack("<I", length) + rest
+            length = dice.choice((0, 3, 11, len(whole) - 3, dice.getrandbits(32)))
+            whole = number(length) + whole[4:]
         elif chance < 0.04:
             whole = dice.choice((b"", whole[:7], dice.randbytes(30), whole * 2))
         self.out += whole

@@ -108,7 +108,7 @@ END
 held:0 1 0 1 answered
 crowd:1
 thread:1 0 the same
-many 40:40 of 40
+many 24:24 of 24
 END
   done
   try_counted
@@ -122,8 +122,8 @@ END
 }
 
 # calls_of RING COUNT [WORD ..]: how many system calls a program makes in all that reads a key of this ring so often, as
-# one that has no rights, run by these words: the least of three runs, as on a busy machine a connection may seem to be no
-# longer used, and is made once more
+# one that has no rights, run by these words: the least of three runs, as on a busy machine a connection may seem to be
+# no longer used, and is made once more
 calls_of() {
   local ring=$1 count=$2
   shift 2
@@ -260,7 +260,8 @@ try_hold() {
   is 'hold: it is a key all the same' '1 1' "$("$dir/acts" links credentials) $(keepers | wc -l)"
   kill_daemon TERM
   if python3 -c 1 2>/dev/null; then
-    has_none 'hold: what the daemon says of the keyring' python3 -B "$parts/holding.py" "$dir/keyretain/keyretain-keeper"
+    has_none 'hold: what the daemon says of the keyring' python3 -B "$parts/holding.py" \
+      "$dir/keyretain/keyretain-keeper"
   else
     skipped 'hold: what the daemon says of the keyring: no python3'
   fi

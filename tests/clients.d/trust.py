@@ -1,6 +1,7 @@
 """trust.py: whom the Python client tells anything: where it looks for a daemon, and who may listen. Wants to be root,
 or root of a user namespace that has other uids; `trust.py one` makes the checks that one user can. Prints a line for
 each difference, and last how many were compared."""
+import ctypes
 import os
 import shutil
 import signal
@@ -11,11 +12,12 @@ import sys
 import tempfile
 from contextlib import contextmanager
 
+import daemons
 import servers
-from servers import compare, outcome
-import keyretain
+from servers import compare, keyretain, outcome
 
 OWN, DAEMON, OTHER = os.geteuid(), 65533, 65534  # uids
+CLONE_NEWUSER = 0x10000000  # unshare(2)
 places = getattr(keyretain, "places", keyretain)
 
 
@@ -35,9 +37,7 @@ def in_child(run):
 
 def become(uid):
     if uid != os.geteuid():
-        os.setgroups([])
-        os.setresgid(uid, uid, uid)
-        os.setresuid(uid, uid, uid)
+        daemons.become(uid)
 
 
 @contextmanager
@@ -74,10 +74,22 @@ def hello(words, named):
     return "told"
 
 
-def tells(*words, uid=OWN, environment=None, **named):
+def leave_users():
+    """Has a user namespace in which nobody but this user has a number."""
+    uid, gid = os.geteuid(), os.getegid()
+    if ctypes.CDLL(None, use_errno=True).unshare(CLONE_NEWUSER):
+        raise OSError(ctypes.get_errno(), "unshare")
+    for name, text in (("setgroups", "deny"), ("uid_map", f"0 {uid} 1"), ("gid_map", f"0 {gid} 1")):
+        with open(f"/proc/self/{name}", "w", encoding="ascii") as file:
+            file.write(text)
+
+
+def tells(*words, uid=OWN, environment=None, is_apart=False, **named):
     """What becomes of a client with these arguments, which says HELLO as this user."""
     def run(write):
         become(uid)
+        if is_apart:
+            leave_users()
         os.environ.update(environment or {})
         os.write(write, str(outcome(hello, words, named)).encode())
 
@@ -258,6 +270,17 @@ def try_named():
             compare("root's", "told", tells(path, uid=OTHER))
 
 
+def try_unknown():
+    """In a user namespace users without a number look like one, so like the owner of the system's folder."""
+    with folders() as (_, system):
+        os.chown(system, DAEMON, DAEMON)
+        os.chmod(os.path.dirname(system), 0o777)
+        for path, who, wanted in ((system + "/keyretain.sock", DAEMON, "told"),
+                                  (os.path.dirname(system) + "/named.sock", OTHER, "PermissionError")):
+            with listening(path, who):
+                compare(f"who has no number, {wanted}", wanted, tells(path, is_apart=True))
+
+
 def peer_of(path):
     with keyretain.Client(path, trust="any") as client:
         return str(client.peer().uid)
@@ -356,7 +379,7 @@ if __name__ == "__main__":
     cases = [try_places, try_names, try_peer]
     if sys.argv[1:] != ["one"]:
         cases += [try_found, try_found_root, try_effective, try_another_runtime_directory, try_closed,
-                  try_named, try_system, try_set_uid, try_capabilities]
+                  try_named, try_unknown, try_system, try_set_uid, try_capabilities]
     for case in cases:
         case()
     servers.conclude()

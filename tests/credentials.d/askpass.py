@@ -12,7 +12,8 @@ LARGEST = 1 << 20  # the longest credential that systemd takes
 
 
 def asked_by_systemd(address, uid=None):
-    """The status and the answer where a systemd asks that connects from this address, as another user if one is named."""
+    """The status and the answer where a systemd asks that connects from this address, as another user if one is
+    named."""
     path = b"\0keyretain-credential-%d" % os.getpid()
     connect = f"import socket, sys; s = socket.socket(socket.AF_UNIX); {address!r} and s.bind({address!r}); " \
         f"s.connect({path!r}); sys.stdout.buffer.write(b''.join(iter(lambda: s.recv(65536), b'')))"

@@ -106,7 +106,8 @@ def try_bytes():
         status, _, err = run(helper("git", "store"), b"protocol=https\nhost=a\nusername=u\npassword=" + b"x" * 32767)
         compare("a password that no key can have", (1, True, False), (status, is_one_line(err, PROGRAM), b"xx" in err))
         for count in 4096, 70000:
-            status, _, err = run(helper("git", "store"), lines(f"protocol=https host={'x' * count} username=u password=s3c"))
+            status, _, err = run(helper("git", "store"),
+                                 lines(f"protocol=https host={'x' * count} username=u password=s3c"))
             compare(f"a host of {count} bytes", (1, True, False), (status, is_one_line(err, PROGRAM), b"s3c" in err))
         compare("nothing was kept of all that", 1, len(look()))
         longest = b"x" * (32767 - len(b"password=\n"))
@@ -313,7 +314,8 @@ def try_other_user():
 
 
 def try_linked_keyring():
-    """The user keyring has a link to a keyring of another user's, who has put there what a helper and a keeper look for."""
+    """The user keyring has a link to a keyring of another user's, who has put there what a helper and a keeper look
+    for."""
     with daemon(), keyretain.Client() as other, keyretain.Client() as client:
         theirs, own = other.hello(54321, 54321), client.hello(os.geteuid(), os.getegid())
         client.setperm(own, client.join(own, "work"), 0x3F3B0000)
@@ -391,6 +393,7 @@ def try_no_keeper():
 
 
 for case in (try_steps, try_bytes, try_others, try_expiry, try_words, try_silent_daemon, try_no_core, try_elsewhere,
-             try_crowd, try_keeper, try_groups, try_other_user, try_linked_keyring, try_killed_keeper, try_session, try_no_keeper):
+             try_crowd, try_keeper, try_groups, try_other_user, try_linked_keyring, try_killed_keeper, try_session,
+              try_no_keeper):
     case()
 conclude()

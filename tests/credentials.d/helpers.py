@@ -4,42 +4,23 @@ The folder of what is tried is FOLDER in the environment: bin/ has the helpers a
 lies in PACKAGE. KEYRETAIND is the daemon."""
 import os
 import subprocess
-import sys
 import tempfile
-import time
 from contextlib import contextmanager
 
-sys.path.insert(0, os.path.join(os.path.dirname(os.path.abspath(__file__)), "../clients.d"))
 from compare import compare, conclude
+from daemons import PATIENCE, Daemon, until
 import keyretain
 
 FOLDER, KEYRETAIND = os.environ["FOLDER"], os.environ["KEYRETAIND"]
-PATIENCE = 60  # seconds that anything may take
-
-
-def until(holds):
-    """Whether a condition has come to hold."""
-    end = time.monotonic() + PATIENCE
-    while not holds():
-        if time.monotonic() > end:
-            return False
-        time.sleep(0.02)
-    return True
 
 
 @contextmanager
 def daemon(lanes=32):
     """A daemon that nobody has used, named by the environment. Answers the process."""
     with tempfile.TemporaryDirectory(prefix="keyretain.") as folder:
-        path = folder + "/sock"
-        with subprocess.Popen([KEYRETAIND, "--socket", path, "--lanes", str(lanes)], stdout=subprocess.PIPE,
-                              stderr=subprocess.DEVNULL) as process:
-            os.environ["KEYRETAIN_SOCKET"] = path
-            try:
-                process.stdout.readline()  # it says that it listens; the path is there before
-                yield process
-            finally:
-                process.kill()
+        os.environ["KEYRETAIN_SOCKET"] = folder + "/sock"
+        with Daemon(KEYRETAIND, folder + "/sock", lanes, stderr=subprocess.DEVNULL) as begun:
+            yield begun.process
         until(lambda: not keepers())
 
 

@@ -1,6 +1,6 @@
 """Whether a keeper whose user stops it, before it is in the background, keeps who has started it waiting; what is left
-of one that isn't stopped; that the user's systemd starts it, where it does; and in which order an entry is made. Prints a line for each difference, and last how many
-were compared."""
+of one that isn't stopped; that the user's systemd starts it, where it does; and in which order an entry is made. Prints
+a line for each difference, and last how many were compared."""
 import errno
 import os
 import signal
@@ -73,8 +73,8 @@ def begun_by(folder, manager, uid=os.geteuid()):
 
 
 def try_managed(folder):
-    """A scope of the user's systemd has the keeper; where there is none, or it fails or says nothing, it is started all the
-    same."""
+    """A scope of the user's systemd has the keeper; where there is none, or it fails or says nothing, it is started all
+    the same."""
     own = f"{folder}/{os.geteuid()}"
     keeper.MANAGERS, keeper.MANAGED, keeper.PATIENCE = folder, (folder + "/systemd-run", *keeper.MANAGED[1:]), 4
     words = "keeper --hold ring --socket /sock "

@@ -1,6 +1,7 @@
 #!/usr/bin/env python3
-"""chaos.py GUARD_PID SOCKET SECONDS SEED: clients of three uids that send good frames, broken ones, noise and pieces, read,
-don't read, half-close and vanish. Replies to good frames are checked as long as a connection wasn't spoilt. Wants root."""
+"""chaos.py GUARD_PID SOCKET SECONDS SEED: clients of three uids that send good frames, broken ones, noise and pieces,
+read, don't read, half-close and vanish. Replies to good frames are checked as long as a connection wasn't spoilt. Wants
+root."""
 
 import os
 import random
@@ -9,6 +10,9 @@ import struct
 import sys
 import time
 
+from daemons import become, connect, received
+from versions import frame, hello
+
 pid, path, seconds, seed = int(sys.argv[1]), sys.argv[2], float(sys.argv[3]), int(sys.argv[4])
 chance = random.Random(seed)
 EPERM, EINVAL, ESRCH, EDQUOT = 1, 22, 3, 122
@@ -16,12 +20,7 @@ UIDS = [4001, 4002, 4003]
 
 
 def ask(op, context=0, body=b'', tag=None):
-    rest = struct.pack('<HHI', 1 if tag is None else 2, op, context) + (b'' if tag is None else struct.pack('<Q', tag))
-    return struct.pack('<I', len(rest + body)) + rest + body
-
-
-def hello(uid, gid, groups=(), tag=None):
-    return ask(256, 0, struct.pack(f'<III{len(groups)}I', uid, gid, len(groups), *groups), tag)
+    return frame(op, context, body, 1 if tag is None else 2, tag or 0)
 
 
 class Maker:
@@ -30,12 +29,10 @@ class Maker:
         self.ours, theirs = socket.socketpair()
         if os.fork() == 0:
             self.ours.close()
-            os.setgroups([]); os.setresgid(uid, uid, uid); os.setresuid(uid, uid, uid)
+            become(uid)
             while theirs.recv(1):
-                sock = socket.socket(socket.AF_UNIX)
-                sock.connect(path)
-                socket.send_fds(theirs, [b'x'], [sock.fileno()])
-                sock.close()
+                with connect(path) as sock:
+                    socket.send_fds(theirs, [b'x'], [sock.fileno()])
             os._exit(0)
         theirs.close()
 
@@ -163,10 +160,8 @@ assert descriptors() <= before, (descriptors(), before)
 sock = makers[4001].make()
 sock.settimeout(60)
 sock.sendall(hello(4002, 1) + hello(4001, 4001))
-first = b''
-while len(first) < 20:
-    first += sock.recv(100)
+first = received(sock, 20)
 assert struct.unpack('<II', first[:8]) == (4, EPERM) and struct.unpack('<II', first[8:16]) == (8, 0), first
 assert counts['replies'] > counts['places'], counts
-print(f'chaos: {counts["clients"]} clients, {counts["replies"]} replies, none wrong', flush=True)
+print(f'chaos: {counts["clients"]} clients, {counts["replies"]} replies passed, 0 failed', flush=True)
 os._exit(0)

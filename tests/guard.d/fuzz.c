@@ -98,7 +98,8 @@ static bool read_hello(const uint8_t *frame, const uint8_t *original, size_t her
 
 /* What a daemon gets, beside what the client sent. Answers how many whole asks there are, which of them were made void,
  * and which have tags. */
-static size_t read_passed(const uint8_t *sent, const uint8_t *passed, size_t length, uint8_t *is_void, uint8_t *tagged) {
+static size_t read_passed(const uint8_t *sent, const uint8_t *passed, size_t length, uint8_t *is_void,
+                          uint8_t *tagged) {
     size_t at = 0, asks = 0;
     while (at < length) {
         const uint8_t *frame = passed + at;
@@ -132,7 +133,8 @@ static size_t make_replies(uint8_t *replies, size_t asks, const uint8_t *is_void
 }
 
 /* Those come through in pieces, with EPERM where a HELLO was made void and nowhere else. */
-static void check_replies(struct screen *screen, const uint8_t *replies, size_t made, size_t asks, const uint8_t *is_void,
+static void check_replies(struct screen *screen, const uint8_t *replies, size_t made, size_t asks,
+                          const uint8_t *is_void,
                           const uint8_t *cuts, size_t cut_count) {
     static uint8_t told[REPLIES_MAX];
     uint8_t buffer[64];
@@ -169,7 +171,8 @@ int LLVMFuzzerTestOneInput(const uint8_t *data, size_t length) {
     if (length < 2 || length > IN_MAX || length < 1u + data[0] % 16u + 1) return 0;
     size_t cut_count = data[0] % 16u + 1, in_length = length - 1 - cut_count;
     const uint8_t *cuts = data + 1, *in = data + 1 + cut_count;
-    size_t a = run_asks(&whole, in, in_length, one, NULL, 0), b = run_asks(&pieces, in, in_length, two, cuts, cut_count);
+    size_t a = run_asks(&whole, in, in_length, one, NULL, 0);
+    size_t b = run_asks(&pieces, in, in_length, two, cuts, cut_count);
     assert(whole.ask_fault == pieces.ask_fault && whole.asked == pieces.asked && whole.greeted == pieces.greeted);
     assert(a == b && memcmp(one, two, a) == 0);
     size_t asks = read_passed(in, one, a, is_void, tagged);
@@ -231,7 +234,7 @@ int main(int count, char **words) {
         for (size_t i = 0; i < asks; i++) length += put_ask(data + length);
         LLVMFuzzerTestOneInput(data, length);
     }
-    printf("fuzz: %lu streams, none wrong\n", streams);
+    printf("fuzz: %lu streams passed, 0 failed\n", streams);
     return 0;
 }
 

@@ -1,13 +1,12 @@
 #!/usr/bin/env python3
-"""inject.py GUARD KEYRETAIND: system calls of the guard that fail now and then, by strace; a refused and a good HELLO, sent
-byte by byte, and whole ones behind them are answered all the same. Without the guard's own filter, in which a call that
-strace makes fail has the number -1."""
+"""inject.py GUARD KEYRETAIND: system calls of the guard that fail now and then, by strace; a refused and a good HELLO,
+sent byte by byte, and whole ones behind them are answered all the same. Without the guard's own filter, in which a call
+that strace makes fail has the number -1."""
 
 import fcntl
 import os
 import shutil
 import signal
-import socket
 import struct
 import subprocess
 import sys
@@ -15,35 +14,38 @@ import tempfile
 import termios
 import time
 
+from compare import compare, conclude
+from daemons import Daemon, Program, connect, received
+from versions import hello
+
 GUARD, DAEMON = sys.argv[1:3]
-FAULTS = [*(f"accept4:error={error}:when=1..3" for error in ("EAGAIN", "ENOMEM", "EMFILE", "ENFILE", "ECONNABORTED", "ENOBUFS")),
+FAULTS = [*(f"accept4:error={error}:when=1..3" for error in ("EAGAIN", "ENOMEM", "EMFILE", "ENFILE", "ECONNABORTED",
+                                                             "ENOBUFS")),
           "connect:error=EAGAIN:when=1..3", "connect:error=ENOMEM:when=1..2",
           *(f"recvfrom:error={error}:when=2+3" for error in ("EINTR", "EAGAIN", "ENOBUFS")),
           *(f"sendto:error={error}:when=1..3" for error in ("EAGAIN", "EINTR", "ENOBUFS")),
           "getsockopt:error=ENOPROTOOPT:when=2..3", "poll:error=EINTR:when=1..3",
           "fcntl:error=ENOMEM:when=1"]
-passed = failed = 0
 folder = tempfile.mkdtemp(prefix="keyretain.")
+GUARD_HERE = GUARD, "--no-filter", "--daemon", f"{folder}/private"
 
 
-def hello(uid, gid=os.getegid()):
-    return struct.pack("<IHHIIII", 20, 1, 256, 0, uid, gid, 0)
+def own(uid=os.geteuid(), gid=os.getegid()):
+    return hello(uid, gid)
 
 
 def status(client):
     """The status of the next reply."""
-    length, found = struct.unpack("<II", client.recv(8, socket.MSG_WAITALL))
-    client.recv(length - 4, socket.MSG_WAITALL)
+    length, found = struct.unpack("<II", received(client, 8))
+    received(client, length - 4)
     return found
 
 
 def ask_often(path):
     """The statuses of the replies to a foreign HELLO and four own ones."""
-    with socket.socket(socket.AF_UNIX) as client:
-        client.settimeout(60)
-        client.connect(path)
+    with connect(path) as client:
         waiting, end = bytearray(4), time.monotonic() + 60
-        for byte in hello(os.geteuid() + 1) + hello(os.geteuid()):
+        for byte in own(os.geteuid() + 1) + own():
             client.sendall(bytes([byte]))
             while time.monotonic() < end:  # until it has been read
                 fcntl.ioctl(client, termios.TIOCOUTQ, waiting)
@@ -51,7 +53,7 @@ def ask_often(path):
                     break
         statuses = status(client), status(client)
         for _ in range(3):  # whole
-            client.sendall(hello(os.geteuid()))
+            client.sendall(own())
             statuses += (status(client),)
         return statuses
 
@@ -63,20 +65,17 @@ def ask_for_groups(path):
         if os.geteuid() == 0:
             os.setgroups([])
             os.setgid(4242)
-        with socket.socket(socket.AF_UNIX) as client:
-            client.settimeout(60)
-            client.connect(path)
-            client.sendall(hello(os.geteuid(), 0) * 2)
+        with connect(path) as client:
+            client.sendall(own(gid=0) * 2)
             os._exit(10 * status(client) + status(client))
     return os.waitstatus_to_exitcode(os.waitpid(child, 0)[1])
 
 
 def statuses(fault, ask=ask_often):
     path = f"{folder}/public"
-    words = ["strace", "-f", "-qq", "-o", f"{folder}/trace", "-e", f"trace={fault.split(':')[0]}", "-e", f"inject={fault}",
-             GUARD, "--no-filter", "--listen", path, "--daemon", f"{folder}/private"]
-    with subprocess.Popen(words, stdout=subprocess.PIPE, stderr=subprocess.DEVNULL) as traced:
-        traced.stdout.readline()
+    traced = ["strace", "-f", "-qq", "-o", f"{folder}/trace", "-e", f"trace={fault.split(':')[0]}", "-e",
+              f"inject={fault}"]
+    with Program(*traced, *GUARD_HERE, "--listen", path, stderr=subprocess.DEVNULL) as traced:
         try:
             got = ask(path)
             return got if "(INJECTED)" in open(f"{folder}/trace", encoding="utf-8").read() else "no call failed"
@@ -86,54 +85,33 @@ def statuses(fault, ask=ask_often):
             guards = open(f"/proc/{traced.pid}/task/{traced.pid}/children", encoding="ascii").read().split()
             for guard in guards:
                 os.kill(int(guard), signal.SIGTERM)
-            if not guards:
-                traced.kill()
+            if guards:
+                traced.process.wait()
 
 
 def wait_awhile(path):
     """How often the guard tries to accept a client, for which there are no descriptors, in half a second."""
-    with socket.socket(socket.AF_UNIX) as client:
-        client.connect(path)
+    with connect(path):
         time.sleep(0.5)
     tries = open(f"{folder}/trace", encoding="utf-8").read().count("accept4(")
     return "often" if tries > 100 else "now and then"
 
 
 def fails_to_listen():
-    """How a guard ends that can't listen at the path that it has bound: its status, what it prints, and what it leaves."""
+    """How a guard ends that can't listen at the path that it has bound: its status, what it prints, and what it
+    leaves."""
     path = f"{folder}/unheard"
     words = ["strace", "-f", "-qq", "-o", "/dev/null", "-e", "trace=listen", "-e", "inject=listen:error=ENOBUFS",
-             GUARD, "--no-filter", "--listen", path, "--daemon", f"{folder}/private"]
+             *GUARD_HERE, "--listen", path]
     ended = subprocess.run(words, capture_output=True, timeout=60, check=False)
     return ended.returncode, ended.stdout, os.path.exists(path)
 
 
-with subprocess.Popen([DAEMON, "--socket", f"{folder}/private", "--lanes", "16"], stdout=subprocess.PIPE,
-                      stderr=subprocess.DEVNULL) as daemon:
-    daemon.stdout.readline()
+with Daemon(DAEMON, f"{folder}/private", 16, stderr=subprocess.DEVNULL):
     for one in FAULTS:
-        got = statuses(one)
-        if got == (1, 0, 0, 0, 0):
-            passed += 1
-        else:
-            failed += 1
-            print(f"fails: {one}: {got}", flush=True)
-    if (got := statuses("getsockopt:error=ENOPROTOOPT:when=2", ask_for_groups)) == 11:
-        passed += 1
-    else:
-        failed += 1
-        print(f"fails: groups that aren't told: {got}", flush=True)
-    if (got := statuses("accept4:error=EMFILE", wait_awhile)) == "now and then":
-        passed += 1
-    else:
-        failed += 1
-        print(f"fails: no descriptors at all: {got}", flush=True)
-    daemon.kill()
-if (got := fails_to_listen()) == (3, b"error: socket\n", False):
-    passed += 1
-else:
-    failed += 1
-    print(f"fails: listen: {got}", flush=True)
+        compare(one, (1, 0, 0, 0, 0), statuses(one))
+    compare("groups that aren't told", 11, statuses("getsockopt:error=ENOPROTOOPT:when=2", ask_for_groups))
+    compare("no descriptors at all", "now and then", statuses("accept4:error=EMFILE", wait_awhile))
+compare("listen", (3, b"error: socket\n", False), fails_to_listen())
 shutil.rmtree(folder)
-print(f"inject: {passed} passed, {failed} failed")
-sys.exit(failed != 0)
+conclude()

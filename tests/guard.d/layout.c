@@ -1,4 +1,5 @@
-/* layout: whether the structures of guard/krs_screen.h are those of the crate: it gives each field a number of its own. */
+/* layout: whether the structures of guard/krs_screen.h are those of the crate: it gives each field a number of its own.
+ * */
 #include <stdio.h>
 #include <string.h>
 

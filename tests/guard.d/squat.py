@@ -1,6 +1,6 @@
 #!/usr/bin/env python3
-"""squat.py SOCKET NAME: makes a session of this name that everybody may join and read, says so, and once its input ends says
-how many keys others have put into it."""
+"""squat.py SOCKET NAME: makes a session of this name that everybody may join and read, says so, and once its input ends
+says how many keys others have put into it."""
 
 import os
 import sys

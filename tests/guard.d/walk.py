@@ -1,6 +1,7 @@
-"""walk.py PUBLIC PAGE FOLDERS: types the walk of two users of keyretain-guard(8), which is PAGE, into a shell of each, by
-the uids 1000 and 1001, and compares what these print, line by line. PUBLIC stands for the path that it names; FOLDERS
-have the programs, as a PATH. Run by root. Prints a line for each difference, and last how many were compared."""
+"""walk.py PUBLIC PAGE FOLDERS: types the walk of two users of keyretain-guard(8), which is PAGE, into a shell of each,
+by the uids 1000 and 1001, and compares what these print, line by line. PUBLIC stands for the path that it names;
+FOLDERS have the programs, as a PATH. Run by root. Prints a line for each difference, and last how many were
+compared."""
 import os
 import pty
 import re
@@ -8,7 +9,6 @@ import select
 import subprocess
 import sys
 
-sys.path.insert(0, os.path.join(os.path.dirname(os.path.abspath(__file__)), "../clients.d"))
 from compare import compare, conclude
 
 public, page, folders = sys.argv[1:]
@@ -16,7 +16,8 @@ PATIENCE = 20
 
 
 class Shell:
-    """A shell of a user at a terminal of its own, which gives it and each shell that is started in it one line a read."""
+    """A shell of a user at a terminal of its own, which gives it and each shell that is started in it one line a
+    read."""
 
     def __init__(self, uid):
         self.keys, terminal = pty.openpty()

@@ -3,18 +3,6 @@
 
 first_process='' # of a system that was booted
 
-# has_none NAME COMMAND ..: its last line says that nothing failed; what was skipped and what failed is printed here
-has_none() {
-  local name=$1 text
-  shift
-  text=$("$@" 2>&1 </dev/null)
-  printf '%s\n' "$text" | grep '^skipped:'
-  case ${text##*$'\n'} in
-    *' passed, 0 failed') is "$name" none none ;;
-    *) printf '%s\n' "$text" | head -n 60 && is "$name" none "${text##*$'\n'}" ;;
-  esac
-}
-
 can_enter() { [ "$(id -u)" = 0 ] && unshare --mount --pid --net --fork true 2>/dev/null; }
 
 # in_namespaces ROOT FOLDER COMMAND ..: as root of ROOT, where FOLDER is as here, in mount, process and network

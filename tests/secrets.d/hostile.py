@@ -2,7 +2,6 @@
 line for each difference, and last how many were compared."""
 import os
 import subprocess
-import sys
 
 from stage import (COLLECTION, FOLDER, ITEM, PATIENCE, ROOT, SESSION, SESSION_COLLECTION, Caller, bus, compare,
                    conclude, daemon, secrets)

@@ -1,29 +1,17 @@
 """The frames of asks and replies for attacks.py: those of the Python client, and what a daemon answers to any bytes."""
-import os
 import struct
-import sys
 
-sys.path.insert(0, os.path.join(os.path.dirname(os.path.abspath(__file__)), "../clients.d"))
-from versions import decode_reply, encode_ask, frame, keyretain
+from versions import decode_reply, encode_ask, frame, keyretain, number, reply
 
 HELLO = encode_ask("HELLO", 0, (1000, 1000, ()))
 
 
-def text(of):
-    return struct.pack("<H", len(of)) + of
+def accepted(answer):
+    return reply(0, number(answer) if isinstance(answer, int) else answer, version=1)
 
 
-def reply(status, body, version, tag):
-    rest = struct.pack("<I", status) + (struct.pack("<Q", tag) if version == 2 else b"") + body
-    return struct.pack("<I", len(rest)) + rest
-
-
-def accepted(answer, version=1, tag=0):
-    return reply(0, struct.pack("<I", answer) if isinstance(answer, int) else answer, version, tag)
-
-
-def refused(status, version=1, tag=0):
-    return reply(status, b"", version, tag)
+def refused(status):
+    return reply(0, b"", status, 1)
 
 
 class Ask:

@@ -10,7 +10,8 @@ import sys
 import threading
 import time
 
-from asks import ASKS, HELLO, accepted, encode_ask, frame, is_reply, refused, reply, status_without_context, text
+from asks import ASKS, HELLO, accepted, encode_ask, frame, is_reply, refused, reply, status_without_context
+from daemons import received
 
 path, case, number = sys.argv[1], sys.argv[2], int(sys.argv[3])
 PATIENCE = 10  # seconds that one call may wait
@@ -39,7 +40,7 @@ def rest(end):
 
 def ask(end, asked, length):
     end.sendall(asked)
-    return end.recv(length, socket.MSG_WAITALL)
+    return received(end, length)
 
 
 def number_of(end, asked):
@@ -92,7 +93,7 @@ def cut_short():
     """One after the other: HELLO and a beginning of ADD, then the end. Every second one ends its side alone, and
     reads to the end; the others are gone once they have their reply."""
     context = first_context()
-    add = frame(262, 1, text(b"user") + text(b"alpha") + struct.pack("<I2si", 2, b"s3", -4))
+    add = encode_ask("ADD", 1, (b"user", b"alpha", b"s3", -4))
     for i in range(number):
         with connect() as end:
             end.sendall(HELLO + add[:1 + i % (len(add) - 1)])
@@ -123,11 +124,10 @@ def never_reads():
     for _ in range(number):
         end = connect()
         context = hello(end)
-        made = ask(end, frame(262, context, text(b"user") + text(b"long") + struct.pack("<I", len(payload)) + payload
-                              + struct.pack("<i", -4)), 12)
+        made = ask(end, encode_ask("ADD", context, (b"user", b"long", payload, -4)), 12)
         serial = int.from_bytes(made[8:], "little")
         answers.see(accepted(serial), made, "ADD")
-        waiting[end] = [frame(11, context, struct.pack("<i", serial)), 0]
+        waiting[end] = [encode_ask("READ", context, (serial,)), 0]
     while taking := select.select([], waiting, [], SHORT)[1]:
         for end in taking:
             end.send(waiting[end][0])
@@ -139,8 +139,7 @@ def never_reads():
     reader.shutdown(socket.SHUT_WR)
     for end in others:
         end.close()
-    reply = accepted(payload)
-    answers.see(True, rest(reader) == reply * waiting[reader][1], f"{waiting[reader][1]} replies that wait")
+    answers.see(True, rest(reader) == accepted(payload) * waiting[reader][1], f"{waiting[reader][1]} replies that wait")
 
 
 def full_socket():
@@ -149,9 +148,8 @@ def full_socket():
     payload = bytes(range(256)) * 127 + bytes(255)
     with connect() as end:
         context = hello(end)
-        serial = number_of(end, frame(262, context, text(b"user") + text(b"long") + struct.pack("<I", len(payload))
-                                      + payload + struct.pack("<i", -4)))
-        end.sendall(frame(11, context, struct.pack("<i", serial)) * number)
+        serial = number_of(end, encode_ask("ADD", context, (b"user", b"long", payload, -4)))
+        end.sendall(encode_ask("READ", context, (serial,)) * number)
         answers.see([end], select.select([end], [], [], PATIENCE)[0], "the first reply")
         time.sleep(SHORT)
         for _ in range(100):
@@ -262,7 +260,7 @@ def mixed():
         for name, where, values, status, body in itertools.islice(any_asks(source, context, ring, serial), number):
             version, tag = source.randint(1, 2), source.choice((0, 7, 1 << 32, (1 << 64) - 1, source.getrandbits(64)))
             asks.append(encode_ask(name, where, values, version, tag))
-            wanted.append((f"{name}, version {version}", reply(status, body, version, tag)))
+            wanted.append((f"{name}, version {version}", reply(tag, body, status, version)))
         sender = threading.Thread(target=send_in_pieces, args=(end, b"".join(asks), source))
         sender.start()
         for what, its_reply in wanted:

@@ -97,8 +97,8 @@ try_few_files() {
   is_served 'few files' 14
 }
 
-# are_others_shown MODE PROGRAM WANTED: whether a daemon's memory is shown to its uid, where its program has this mode. What
-# setpriv itself executes is executed with its capabilities, and so can be read.
+# are_others_shown MODE PROGRAM WANTED: whether a daemon's memory is shown to its uid, where its program has this mode.
+# What setpriv itself executes is executed with its capabilities, and so can be read.
 are_others_shown() {
   local as='setpriv --reuid 65534 --regid 65534 --clear-groups' program=$dir/of-mode-$1 keyretaind=$dir/as-nobody
   install -m "$1" "$2" "$program"
@@ -164,8 +164,8 @@ try_little_memory() {
 
 # injecting NAME ERROR WHEN: a program that is the daemon, whose accepts of these numbers fail with this error
 injecting() {
-  printf '#!%s\nexec strace -f -qq -o /dev/null -e trace=accept,accept4 -e inject=accept,accept4:error=%s:when=%s %q "$@"\n' \
-    "$BASH" "$2" "$3" "$keyretaind" >"$dir/$1"
+  printf '#!%s\nexec strace -f -qq -o /dev/null -e trace=accept,accept4 -e inject=%s:error=%s:when=%s %q "$@"\n' \
+    "$BASH" accept,accept4 "$2" "$3" "$keyretaind" >"$dir/$1"
   chmod +x "$dir/$1"
 }
 

@@ -1,15 +1,15 @@
-"""memory.py PATH SIZE CLIENTS [ASK]: so many clients of a daemon under a limit of memory add keys with payloads of so many
-bytes, side by side, until each was refused with ENOMEM often. Where an ask is named, each then gives some keys back, and
-asks that until it was refused often once more. Prints `kept` if each of them was, every other answer was that of an ask
-that is accepted, each still has its connection and its first key, and each can add a key once all have given theirs back;
-else what was wrong."""
+"""memory.py PATH SIZE CLIENTS [ASK]: so many clients of a daemon under a limit of memory add keys with payloads of so
+many bytes, side by side, until each was refused with ENOMEM often. Where an ask is named, each then gives some keys
+back, and asks that until it was refused often once more. Prints `kept` if each of them was, every other answer was that
+of an ask that is accepted, each still has its connection and its first key, and each can add a key once all have given
+theirs back; else what was wrong."""
 import signal
-import socket
 import struct
 import sys
 import threading
 
 from asks import encode_ask
+from daemons import connect, received
 
 path, size, count = sys.argv[1], int(sys.argv[2]), int(sys.argv[3])
 then = sys.argv[4] if len(sys.argv) > 4 else None
@@ -33,26 +33,19 @@ class Client(threading.Thread):
     def __init__(self, name):
         super().__init__(daemon=True)
         self.name, self.serials, self.named, self.asked, self.refusals, self.wrong = str(name), [], {}, 0, 0, None
-        self.end = socket.socket(socket.AF_UNIX)
+        self.end = connect(path)
         self.end.settimeout(20)
-        self.end.connect(path)
         self.uid = 1000 + name
         self.context = int.from_bytes(self.ask("HELLO", (self.uid, self.uid, ())), "little")
         self.places = [self.make_place(number) for number in range(PLACES if then in ("LINK", "WATCH") else 0)]
 
-    def exactly(self, length):
-        got = b""
-        while len(got) < length:
-            more = self.end.recv(length - len(got))
-            if not more:
-                raise Wrong(f"its connection has ended: {len(self.serials)} keys, {self.refusals} refusals")
-            got += more
-        return got
-
     def answer(self):
         """The status and the body of the next reply."""
-        length, status = struct.unpack("<II", self.exactly(8))
-        return status, self.exactly(length - 4)
+        head = received(self.end, 8)
+        if len(head) < 8:
+            raise Wrong(f"its connection has ended: {len(self.serials)} keys, {self.refusals} refusals")
+        length, status = struct.unpack("<II", head)
+        return status, received(self.end, length - 4)
 
     def ask(self, name, fields):
         """The body of the reply to an ask that is accepted."""
@@ -115,7 +108,8 @@ class Client(threading.Thread):
             self.wrong = wrong
 
     def read_first(self):
-        """Reads its first key, for whose reply it gives other keys back where there is no memory. Returns the status."""
+        """Reads its first key, for whose reply it gives other keys back where there is no memory. Returns the
+        status."""
         status, body = ENOMEM, b""
         while status == ENOMEM:
             self.end.sendall(encode_ask("READ", self.context, (self.serials[0],)))

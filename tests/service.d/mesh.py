@@ -1,6 +1,7 @@
-"""mesh.py PATH: a client of a daemon nests keyrings six levels deep, each of which links all of the next level, and then
-asks what has the daemon walk over all of them. Prints `walked` if each answer is right and comes soon: there are
-4,096,000,000 ways down, so a walk that comes to a keyring once for each way would not end. Else prints what was wrong."""
+"""mesh.py PATH: a client of a daemon nests keyrings six levels deep, each of which links all of the next level, and
+then asks what has the daemon walk over all of them. Prints `walked` if each answer is right and comes soon: there are
+4,096,000,000 ways down, so a walk that comes to a keyring once for each way would not end. Else prints what was
+wrong."""
 import sys
 
 from asks import keyretain
@@ -50,7 +51,8 @@ def walk():
     client, other = Client(1000), Client(2000)
     key = other.add(other.context, "user", "secret", b"s3", keyretain.USER)
     levels = nest(client)
-    # both before the first walk: a further keyring has the daemon take room for a walk anew, and what a walk takes it gives back
+    # both before the first walk: a further keyring has the daemon take room for a walk anew, and what a walk takes it
+    # gives back
     rings = [client.keyring(name, keyretain.USER) for name in ("beside", "beside again")]
     said = []
     for ring in rings:

@@ -83,14 +83,17 @@ try_causes() {
   tells 'no number' "$(two 'not as it is used: timeout KEY SECONDS' 'never is none: SECONDS is a decimal number')" \
     --socket "$path" timeout @u never </dev/null
   tells 'no mask' "$(two 'not as it is used: setperm KEY MASK' \
-    '0x3f3f3f3f is none: MASK is 1 to 8 hexadecimal digits, without 0x')" --socket "$path" setperm @u 0x3f3f3f3f </dev/null
+    '0x3f3f3f3f is none: MASK is 1 to 8 hexadecimal digits, without 0x')" \
+    --socket "$path" setperm @u 0x3f3f3f3f </dev/null
   tells 'no entry' "$(two 'not as it is used: filter QUEUE ENTRY ..' \
-    '1:0:0 is none: ENTRY is four hexadecimal numbers with colons between')" --socket "$path" filter 1 1:0:0:2 1:0:0 </dev/null
+    '1:0:0 is none: ENTRY is four hexadecimal numbers with colons between')" \
+    --socket "$path" filter 1 1:0:0:2 1:0:0 </dev/null
   tells 'no payload' "$(two 'not as it is used: add TYPE DESC DATA RING' \
     'DATA is pairs of hexadecimal digits behind hex:')" --socket "$path" add user t hex:6 @u </dev/null
   tells 'a payload in place of a keyring' "$(two 'not as it is used: add TYPE DESC DATA RING' "RING is $key")" \
     --socket "$path" add user t @u secret </dev/null
-  tells 'a line that is no command' "$(two 'line 2: no such command: \x1b[31mh\xe9' 'keyretain --help lists the commands')" \
+  tells 'a line that is no command' \
+    "$(two 'line 2: no such command: \x1b[31mh\xe9' 'keyretain --help lists the commands')" \
     script < <(printf 'hello 1 1\n\033[31mh\351 5\n')
   tells 'a long line that is no command' "$(two "line 1: no such command: ${long:0:64}..." \
     'keyretain --help lists the commands')" script <<<"$long$long"
@@ -106,10 +109,12 @@ try_told_answers() {
     'keyretain --help lists the commands')" --socket "$path" script < <(printf '%s\n' 'hello 1 1' 'frobnicate 5')
   tells 'a remote line that fits no frame' "$(two 'line 2: no command here: add' "$frame")" --socket "$path" script \
     < <(printf '%s\n' 'hello 1 1' "add user a $(printf '%070000d' 0) @u")
-  tells 'a moment of the daemon' "$(two 'line 1: no command here: moment' "over a socket the daemon's own clock counts")" \
+  tells 'a moment of the daemon' \
+    "$(two 'line 1: no command here: moment' "over a socket the daemon's own clock counts")" \
     --socket "$path" script <<<'moment 5'
   tells 'a remote script that ends well' '' --socket "$path" script <<<'hello 1 1'
-  tells 'a call that fits no frame' "keyretain: $frame" --socket "$path" add user a "$(printf '%070000d' 0)" @u </dev/null
+  tells 'a call that fits no frame' "keyretain: $frame" --socket "$path" add user a "$(printf '%070000d' 0)" @u \
+    </dev/null
   tells 'a long payload' 'keyretain: a payload has 1 to 32767 bytes' \
     --socket "$path" --uid 1 add user a "$(printf '%040000d' 0)" @u </dev/null
   tells 'a type that there is none of' 'keyretain: the types are user, logon and keyring' \
@@ -246,8 +251,10 @@ try_remote_scripts() {
   prints 'single call: uid and gid are 0' 0 $'keyring;0;0;1f3f0000;_uid.0\n' --socket "$path" rdescribe @u </dev/null
   prints 'single call: a uid and a gid' 0 $'keyring;1000;100;1f3f0000;_uid.1000\n' \
     --socket "$path" --gid 100 --uid 1000 rdescribe @u </dev/null
-  prints 'single call: a uid alone' 0 $'keyring;1000;0;1f3f0000;_uid.1000\n' --socket "$path" --uid 1000 rdescribe @u </dev/null
-  prints 'single call: a gid alone' 0 $'keyring;0;100;1f3f0000;_uid.0\n' --socket "$path" --gid 100 rdescribe @u </dev/null
+  prints 'single call: a uid alone' 0 $'keyring;1000;0;1f3f0000;_uid.1000\n' --socket "$path" --uid 1000 rdescribe @u \
+    </dev/null
+  prints 'single call: a gid alone' 0 $'keyring;0;100;1f3f0000;_uid.0\n' --socket "$path" --gid 100 rdescribe @u \
+    </dev/null
   prints 'single call: no uid' 1 $'error 22 EINVAL\n' --socket "$path" --uid 4294967295 id @u </dev/null
   is 'single call: a uid that is no number' 2 \
     "$(timeout "$patience" "$keyretain" --socket "$path" --uid x id @u >/dev/null 2>&1 </dev/null; echo $?)"

@@ -1,90 +1,8 @@
-# Checks, processes, the daemon and its clients, for tests/service.
-# shellcheck shell=bash disable=SC2034,SC2154
+# The daemon and its clients, for tests/service.
+# shellcheck shell=bash disable=SC2004,SC2034,SC2154
 
-patience=20 # seconds that one answer, or the end of a process, may take
-step=0.02   # seconds between two looks
-passed=0 failed=0 runs=0
-path='' log='' daemon='' status='' answer=''
-declare -A to=() from=() client=()
-
-# is NAME WANTED GOT: one check
-is() {
-  if [ "$2" = "$3" ]; then
-    passed=$((passed + 1))
-  else
-    failed=$((failed + 1))
-    printf 'fails: %s: wanted %q, got %q\n' "$1" "$2" "$3"
-  fi
-}
-
-skipped() { printf 'skipped: %s\n' "$1"; }
-
-# has_none NAME COMMAND ..: the last line says that nothing failed or differs
-has_none() {
-  local name=$1 text
-  shift
-  text=$(timeout 600 "$@" 2>&1 </dev/null)
-  case ${text##*$'\n'} in
-    *' passed, 0 failed' | *' compared, 0 different') is "$name" none none && grep '^skipped: ' <<<"$text" ;;
-    *) printf '%s\n' "$text" | head -n 40 && is "$name" none "${text##*$'\n'}" ;;
-  esac
-}
-
-conclude() {
-  printf 'service: %d passed, %d failed\n' "$passed" "$failed"
-  [ "$failed" = 0 ]
-  exit
-}
-
-# ---- Processes
-
-# until_true CONDITION ..: waits for it, as long as patience lasts
-until_true() {
-  local end=$((SECONDS + patience))
-  until "$@"; do
-    [ "$SECONDS" -le "$end" ] || return 1
-    sleep "$step"
-  done
-}
-
-has_ended() { ! kill -0 "$1" 2>/dev/null; }
-
-# finish PID: waits for a process; $status is its status, or late
-finish() {
-  if until_true has_ended "$1"; then
-    wait "$1"
-    status=$?
-  else
-    kill -KILL "$1"
-    wait "$1"
-    status=late
-  fi
-} 2>/dev/null
-
-# apart COMMAND ..: becomes the command, without the ends of clients that stand open here
-apart() {
-  local end
-  for end in "${to[@]}" "${from[@]}"; do exec {end}>&-; done
-  exec "$@"
-}
-
-# ---- The daemon
-
-# start OPTION ..: a daemon on a path of its own, which listens
-start() {
-  runs=$((runs + 1))
-  start_on "$dir/$runs.sock" "$@"
-}
-
-start_on() {
-  path=$1 log=$dir/$runs.log
-  shift
-  apart "$keyretaind" --socket "$path" "$@" >"$log" 2>"$log.told" </dev/null &
-  daemon=$!
-  until_true is_up
-}
-
-is_up() { { [ -s "$log" ] && [[ $(<"$log") == "listening $path"* ]]; } || has_ended "$daemon"; }
+answer=''
+declare -A client=()
 
 # is_served NAME N: the daemon ends by itself after N connections, says so last, tells nothing, and its path is gone
 is_served() {
@@ -97,25 +15,11 @@ is_served() {
 
 path_state() { if [ -e "$path" ]; then echo there; else echo gone; fi; }
 
-# What the daemon holds: threads and descriptors.
-held() {
-  local threads=("/proc/$daemon/task"/*) descriptors=("/proc/$daemon/fd"/*)
-  echo "${#threads[@]} threads, ${#descriptors[@]} descriptors"
-}
-
-holds() { [ "$(held)" = "$1" ]; }
-
 # limited NAME LIMIT: a program that is the daemon within a limit of ulimit
 limited() {
   printf '#!%s\nulimit %s && exec %q "$@"\n' "$BASH" "$2" "$keyretaind" >"$dir/$1"
   chmod +x "$dir/$1"
 }
-
-# kill_daemon SIGNAL: ends a daemon that would go on
-kill_daemon() {
-  kill "-$1" "$daemon"
-  finish "$daemon"
-} 2>/dev/null
 
 # ---- Clients
 

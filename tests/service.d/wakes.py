@@ -1,6 +1,6 @@
-"""wakes.py PATH CLIENTS: so many clients of a daemon with as many lanes ask while one of them has it search long, and then
-nobody asks. Each client is in turn the one that searches. Prints `woken` if each of the others is answered soon all the
-same: its thread slept by then, and only who gave the turn back could wake it. Else prints what was wrong."""
+"""wakes.py PATH CLIENTS: so many clients of a daemon with as many lanes ask while one of them has it search long, and
+then nobody asks. Each client is in turn the one that searches. Prints `woken` if each of the others is answered soon
+all the same: its thread slept by then, and only who gave the turn back could wake it. Else prints what was wrong."""
 import sys
 import time
 

@@ -167,6 +167,21 @@ static void try_session_of_stranger(void) {
     end_child(successor);
 }
 
+/* Its memory, or the daemon, may keep the supervisor waiting between the notification and the tag. */
+static void try_tag_of_stranger(void) {
+    struct rlimit before, after;
+    pid_t child = begin_child();
+    bool is_known = prlimit(child, RLIMIT_LOCKS, NULL, &before) == 0;
+    if (check("a thread enters", is_known && enter(child, always))) {
+        replaced();
+        check("it joins a session", ask(KEYCTL_JOIN_SESSION_KEYRING, 0, 0) > 0);
+        check("who has got its number is given no tag",
+              prlimit(successor, RLIMIT_LOCKS, NULL, &after) == 0 && after.rlim_cur == before.rlim_cur);
+        tracees_leave();
+    }
+    end_child(successor);
+}
+
 /* ---- A thread's number ---- */
 
 static int orders[2], reports[2];
@@ -267,6 +282,7 @@ int main(void) {
     try_stranger();
     try_reuse();
     try_session_of_stranger();
+    try_tag_of_stranger();
     try_thread_reuse();
     return conclude("binding");
 }

@@ -9,7 +9,8 @@ static const char *const kinds[] = { [KEY_NUMBER] = "number", [KEY_ID] = "id",  
 
 int main(void) {
     for (const struct key_row *row = key_rows; row->name; row++) {
-        printf("%d %s %s %s", row->call, row->name, row->answers_serial ? "serial" : "-", row->refused ? "refused" : "-");
+        printf("%d %s %s %s", row->call, row->name, row->answers_serial ? "serial" : "-",
+               row->refused ? "refused" : "-");
         for (int i = 0; i < KEY_ARGUMENTS; i++) printf(" %s", kinds[row->at[i]]);
         puts("");
     }

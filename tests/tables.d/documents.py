@@ -126,7 +126,8 @@ def completion(program, each, *words):
 
 
 def fish_completion(program):
-    """What the completion in fish offers behind the program alone: commands and options; None where there is no fish."""
+    """What the completion in fish offers behind the program alone: commands and options; None where there is no
+    fish."""
     script = "source $argv[1]; complete -C \"$argv[2] \""
     words = ["fish", "--no-config", "-c", script, os.path.join(TOP, "contrib/fish-completion/keyretain.fish"), program]
     with contextlib.suppress(FileNotFoundError):
@@ -141,7 +142,8 @@ def completion_words(program):
 
 def completion_places(program, words):
     """What it offers behind each command, by the number of the place: `add 1` and so on."""
-    told = completion(program, 'for one; do echo "$one=$(_keyretain_words "$program" ${one% *} ${one#* })"; done', *words)
+    told = completion(program, 'for one; do echo "$one=$(_keyretain_words "$program" ${one% *} ${one#* })"; done',
+                      *words)
     return dict(line.split("=", 1) for line in told)
 
 

@@ -14,7 +14,8 @@ def listed():
 
 
 def reached():
-    """Those that a check of the daemon names. It takes minutes, and is made where KEYRETAIN_AXIOMS is set; else None."""
+    """Those that a check of the daemon names. It takes minutes, and is made where KEYRETAIN_AXIOMS is set; else
+    None."""
     if not (os.environ.get("KEYRETAIN_AXIOMS") and shutil.which("rt")):
         return None
     how = {"cwd": f"{TOP}/crates/keyretaind", "stdout": subprocess.PIPE, "stderr": subprocess.STDOUT, "text": True}

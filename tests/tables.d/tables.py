@@ -7,13 +7,13 @@ import os
 import subprocess
 import sys
 
-sys.path.insert(0, os.path.join(os.path.dirname(os.path.abspath(__file__)), "../clients.d"))
-from compare import compare, conclude
+from compare import conclude, skipped
 import keyretain
 
 import admission
 import documents
 import foreign
+from places import compare, compare_all
 import rows
 import vectors
 
@@ -25,12 +25,6 @@ ASKS, COMMANDS = rows.asks(), rows.commands()
 def word_of(name):
     """A name without what joins its parts, which the definitions spell otherwise."""
     return name and name.replace("_", "")
-
-
-def compare_all(what, wanted, got):
-    """Two maps, an entry each."""
-    for key in {**wanted, **got}:
-        compare(f"{what}: {key}", wanted.get(key), got.get(key))
 
 
 def by_number(found):
@@ -116,7 +110,7 @@ def try_completion():
     compare_all("completion", wanted, documents.completion_places(KEYRETAIN, wanted))
     offered_in_fish = documents.fish_completion(KEYRETAIN)
     if offered_in_fish is None:
-        print("skipped: the completion in fish: no fish")
+        skipped("the completion in fish: no fish")
     else:
         options = ["--gid", "--help", "--socket", "--uid", "--version"]
         compare("completion in fish", sorted([*(command.word for command in known), *options]), sorted(offered_in_fish))
@@ -215,7 +209,7 @@ def try_bench():
 def try_foreign():
     reached = foreign.reached()
     if reached is None:
-        print("skipped: the C functions of the daemon: KEYRETAIN_AXIOMS isn't set, or no toolchain")
+        skipped("the C functions of the daemon: KEYRETAIN_AXIOMS isn't set, or no toolchain")
     else:
         compare_all("ASSURANCE, the C functions that the daemon reaches", reached, foreign.listed())
 
@@ -226,11 +220,11 @@ if os.access(KEYRETAIN, os.X_OK):
     try_help()
     try_completion()
 else:
-    print(f"skipped: keyretain --help, and the completion, which reads it: no program {KEYRETAIN}")
+    skipped(f"keyretain --help, and the completion, which reads it: no program {KEYRETAIN}")
 if CODEC:
     try_c()
     try_calls()
 else:
-    print("skipped: the tables of C: no C compiler")
+    skipped("the tables of C: no C compiler")
 vectors.try_vectors(CODEC)
 conclude()

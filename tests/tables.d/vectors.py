@@ -3,11 +3,11 @@ both."""
 import re
 import subprocess
 
-from compare import compare
 import keyretain
 import versions
 
 from documents import protocol_frames, section
+from places import compare
 
 SAMPLES = {"id": -5, "u8": 1, "u32": 0xFFFFFFFE, "i32": -1, "text": b"\x01text", "blob": bytes(range(256)),
            "groups": [0, 7, 0xFFFFFFFE], "entries": [tuple(range(11)), tuple(range(0xFFFFFFF5, 0x100000000))]}

@@ -2,16 +2,13 @@
 from __future__ import annotations
 
 import os
-import socket
 import struct
-import sys
 import time
-from pathlib import Path
 
-sys.path.insert(0, str(Path(__file__).resolve().parents[1] / "clients.d"))
-from versions import encode_ask, keyretain  # noqa: E402
+from daemons import connect, received
+from versions import encode_ask, keyretain
 
-from memory import Secret  # noqa: E402
+from memory import Secret
 
 PATIENCE = 180  # seconds in which a reply comes, on a busy machine
 U, S, P, T = keyretain.USER, keyretain.SESSION, keyretain.PROCESS, keyretain.THREAD
@@ -21,9 +18,8 @@ class Raw:
     """A connection, with nothing kept of what goes over it."""
 
     def __init__(self, path: str, version: int) -> None:
-        self.end = socket.socket(socket.AF_UNIX)
+        self.end = connect(path)
         self.end.settimeout(PATIENCE)
-        self.end.connect(path)
         self.version, self.tag = version, 0
         self.context = 0
         self.context = self.ask("HELLO", os.geteuid(), os.getegid(), ())
@@ -32,17 +28,11 @@ class Raw:
         self.tag += 1
         return encode_ask(name, self.context, values, self.version, self.tag)
 
-    def exactly(self, count: int) -> bytes:
-        data = b""
-        while len(data) < count:
-            more = self.end.recv(count - len(data))
-            if not more:
-                raise EOFError
-            data += more
-        return data
-
     def reply(self) -> tuple[int, bytes]:
-        body = self.exactly(struct.unpack("<I", self.exactly(4))[0])
+        head = received(self.end, 4)
+        if len(head) < 4:
+            raise EOFError
+        body = received(self.end, struct.unpack("<I", head)[0])
         return struct.unpack_from("<I", body)[0], body[12 if self.version == 2 else 4:]
 
     def ask(self, name: str, *values, wants=0):

@@ -22,6 +22,7 @@ pub struct ScriptEnd {
 
 /// Runs the lines of a reader on a store, as client 0, and prints a line for each to the writer. What was printed is
 /// written out before a line is waited for.
+/// No program calls it; tests do.
 pub fn run_script<R: Read + Drop, W: Write>(
     alloc: Global,
     reader: R,

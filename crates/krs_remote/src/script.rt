@@ -10,6 +10,7 @@ use std::io::{Read, Write};
 
 /// Runs the lines of a reader over the two ends of a connection, and prints a line for each to the writer: the script's
 /// status. What was printed is written out before a line is waited for.
+/// No program calls it; tests do.
 pub fn run_remote<R: Read + Drop, W: Write, F: Read + Drop, T: Write>(
     alloc: Global,
     reader: R,

@@ -58,6 +58,7 @@ fn encode(alloc: Global, ask: &Ask, tag: Option<u64>) -> Result<Vec<u8>, WireFau
 }
 
 /// The frame of an ask in version 1: BadLength where its length would be above 65536, whatever memory there is.
+/// No program but the bench calls it; tests do.
 pub fn encode_ask(alloc: Global, ask: &Ask) -> Result<Vec<u8>, WireFault>
     ensures frame { IfOk result (λ v. v.items ≡ ask_frame None ask.now) }
     ensures cut { IfOk result (λ v. Frames v.items (framed None ask.now ∷ []) (rest [])) }

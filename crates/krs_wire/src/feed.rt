@@ -266,6 +266,7 @@ impl Feed {
     /// Takes the next piece of the stream, and answers the frames that are whole now. A fault behind them shows in
     /// `fault`, and is what every later piece is answered with. A piece that is refused for lack of memory is not
     /// taken, and the feed has failed.
+    /// No program calls it; tests do.
     pub fn feed(&mut self, piece: &[u8]) -> Result<Vec<Framed>, WireFault>
         ensures frames { IfOk result (λ frames. Feeds self.old piece.now frames.items self.new) }
         ensures refused { IfErr result (Refuses self.old piece.now) }

@@ -93,6 +93,7 @@ pub fn append_bytes(out: &mut Vec<u8>, tag: Option<u64>, bytes: &[u8]) -> Result
 }
 
 /// The frame of a reply in version 1.
+/// No program calls it; tests do.
 pub fn encode_reply(alloc: Global, reply: &Reply) -> Result<Vec<u8>, WireFault>
     ensures frame { IfOk result (λ v. v.items ≡ reply_frame None reply.now) }
     ensures memory { IfErr result (λ fault. fault ≡ WireFault.Memory) }
@@ -103,6 +104,7 @@ pub fn encode_reply(alloc: Global, reply: &Reply) -> Result<Vec<u8>, WireFault>
 }
 
 /// The frame of a reply in version 2, with its ask's tag.
+/// No program calls it; tests do.
 pub fn encode_reply2(alloc: Global, reply: &Reply, tag: u64) -> Result<Vec<u8>, WireFault>
     ensures frame { IfOk result (λ v. v.items ≡ reply_frame (Some tag) reply.now) }
     ensures memory { IfErr result (λ fault. fault ≡ WireFault.Memory) }
@@ -197,6 +199,7 @@ fn front_reply(
 
 /// The reply of version 1 at the front of the bytes to an ask of this operation, and how many bytes it takes. None
 /// where it is not whole and its length, where it is there, is good.
+/// No program calls it; tests do.
 pub fn decode_reply(
     alloc: Global,
     op: &Op,

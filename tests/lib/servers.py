@@ -1,12 +1,13 @@
-"""Servers for the tests of the Python client, and how these tests compare."""
+"""Servers that answer as a test says, for the tests of clients."""
 import socket
 import struct
 import tempfile
 import threading
 from contextlib import contextmanager
 
-from compare import compare, conclude
+from compare import compare, conclude  # noqa: F401 # for who imports this
 import keyretain
+from versions import number, reply
 
 
 def outcome(run, *words, **named):
@@ -17,16 +18,11 @@ def outcome(run, *words, **named):
         return type(error).__name__
 
 
-def reply(tag, body=b"", status=0):
-    rest = struct.pack("<IQ", status, tag) + body
-    return struct.pack("<I", len(rest)) + rest
-
-
 class End:
-    """The server's end of a connection, which takes whole asks."""
+    """The server's end of a connection, which takes whole asks of version 2."""
 
     def __init__(self, end):
-        self.socket = end
+        self.socket, self.context = end, 0
 
     def __enter__(self):
         return self
@@ -35,18 +31,20 @@ class End:
         self.socket.close()
 
     def asks(self):
-        """Yields the tag, the name and the values of each ask."""
+        """Yields the tag, the name and the values of each ask; `context` is that of the last."""
         while head := self.socket.recv(4, socket.MSG_WAITALL):
             rest = self.socket.recv(struct.unpack("<I", head)[0], socket.MSG_WAITALL)
-            number, tag = struct.unpack_from("<2xH4xQ", rest)
-            name = keyretain.name_of(number)
+            version, operation, self.context, tag = struct.unpack_from("<HHIQ", rest)
+            if version != 2:
+                return
+            name = keyretain.name_of(operation)
             yield tag, name, keyretain.decode_body(name, rest[16:])
 
 
 def plain(name, values):
     """What is answered by a daemon whose keys hold their serials as text."""
     form = keyretain.ASKS[name].answer
-    return {"number": struct.pack("<I", 77), "serial": struct.pack("<I", 77), "nothing": b"", "bytes": b"%d" % (values[0] if values else 0)}[form]
+    return b"%d" % (values[0] if values else 0) if form == "bytes" else b"" if form == "nothing" else number(77)
 
 
 def answer_all(end):

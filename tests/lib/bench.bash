@@ -1,0 +1,183 @@
+# What the tests in bash have in common: a folder and its end, checks, processes, one daemon, one guard, and programs
+# that are built. The modules beside this file are what those in Python have in common: they find them by PYTHONPATH.
+# shellcheck shell=bash disable=SC2034,SC2154
+
+lib=$(dirname "$(realpath "${BASH_SOURCE[0]}")")
+top=$(realpath "$lib/../..")
+export PYTHONPATH=$lib PYTHONDONTWRITEBYTECODE=1
+patience=60 # seconds that one answer, or the end of a process, may take
+step=0.02   # seconds between two looks
+passed=0 failed=0 runs=0
+path='' log='' daemon='' status='' tried=''
+declare -A to=() from=() # ends of clients that stand open here
+trap 'exit 1' INT TERM HUP
+
+# ---- A folder, and the end
+
+# begin NAME [FOLDER]: what NAME tries. $dir is a folder of its own in FOLDER, which other users may enter
+begin() {
+  tried=$1 parts=$top/tests/$1.d
+  dir=$(mktemp -d "${2:-/tmp}/keyretain.XXXXXX") || exit 1
+  chmod 711 "$dir"
+  mkdir -m 1777 "$dir/tmp"
+  export TMPDIR=$dir/tmp
+  trap clean EXIT
+}
+
+# below PID: all that a process and those that it has begun have begun
+below() {
+  local child
+  while read -rd ' ' child; do echo "$child"; below "$child"; done < <(cat "/proc/$1/task"/*/children)
+} 2>/dev/null
+
+# clean: ends what was begun here, also what its parent has left, which is known by its environment, and takes all away
+clean() {
+  trap '' INT TERM HUP
+  # shellcheck disable=SC2046 # these are words
+  kill -KILL $(below $$; grep -lz "^TMPDIR=$dir/" /proc/[0-9]*/environ | tr -dc '0-9\n')
+  wait
+  rm -rf "$dir"
+} 2>/dev/null
+
+# within a group of its own a command wouldn't see a signal that ends these tests
+timeout() { command timeout --foreground "$@"; }
+
+# ---- Checks
+
+# is NAME WANTED GOT: one check
+is() {
+  if [ "$2" = "$3" ]; then
+    passed=$((passed + 1))
+  else
+    failed=$((failed + 1))
+    printf 'fails: %s: wanted %q, got %q\n' "$1" "$2" "$3"
+  fi
+}
+
+skipped() { printf 'skipped: %s\n' "$1"; }
+
+# judge NAME TEXT: the last line says that nothing failed; what was skipped and what failed is printed here
+judge() {
+  grep '^skipped: ' <<<"$2"
+  case ${2##*$'\n'} in
+    *' passed, 0 failed') is "$1" none none ;;
+    *) printf '%s\n' "$2" | head -n 40 && is "$1" none "${2##*$'\n'}" ;;
+  esac
+}
+
+# has_none NAME COMMAND ..: judges what a command prints; a signal that ends these tests needn't wait for it
+has_none() {
+  local within=(timeout 600)
+  [ "$(type -t "$2")" != function ] || within=()
+  "${within[@]}" "${@:2}" >"$dir/judged" 2>&1 </dev/null &
+  wait $!
+  judge "$1" "$(<"$dir/judged")"
+}
+
+# are_there PROGRAM ..: else this is the end
+are_there() {
+  local program
+  for program; do [ -x "$program" ] || is "the program $program" there 'nothing that can be run (make build)'; done
+  [ "$failed" = 0 ] || conclude
+}
+
+conclude() {
+  printf '%s: %d passed, %d failed\n' "$tried" "$passed" "$failed"
+  exit $((failed > 0))
+}
+
+# ---- Processes
+
+# until_true CONDITION ..: waits for it, as long as patience lasts
+until_true() {
+  local end=$((SECONDS + patience))
+  until "$@"; do
+    [ "$SECONDS" -le "$end" ] || return 1
+    sleep "$step"
+  done
+}
+
+has_ended() { ! kill -0 "$1" 2>/dev/null; }
+
+# finish PID: waits for a process; $status is its status, or late
+finish() {
+  if until_true has_ended "$1"; then
+    wait "$1"
+    status=$?
+  else
+    kill -KILL "$1"
+    wait "$1"
+    status=late
+  fi
+} 2>/dev/null
+
+# apart COMMAND ..: becomes the command, without the ends of clients that stand open here
+apart() {
+  local end
+  for end in "${to[@]}" "${from[@]}"; do exec {end}>&-; done
+  exec "$@"
+}
+
+# as UID COMMAND ..: a command of another user
+as() { setpriv --reuid "$1" --regid "$1" --clear-groups "${@:2}"; }
+
+# ---- A daemon, and a guard before it
+
+# start OPTION ..: a daemon on a path of its own, which listens
+start() {
+  runs=$((runs + 1))
+  start_on "$dir/$runs.sock" "$@"
+}
+
+start_on() {
+  path=$1 log=$dir/$runs.log
+  shift
+  apart "$keyretaind" --socket "$path" "$@" >"$log" 2>"$log.told" </dev/null &
+  daemon=$!
+  until_true is_up
+}
+
+is_up() { { [ -s "$log" ] && [[ $(<"$log") == "listening $path"* ]]; } || has_ended "$daemon"; }
+
+# What the daemon holds: threads and descriptors.
+held() {
+  local threads=("/proc/$daemon/task"/*) descriptors=("/proc/$daemon/fd"/*)
+  echo "${#threads[@]} threads, ${#descriptors[@]} descriptors"
+}
+
+holds() { [ "$(held)" = "$1" ]; }
+
+# kill_daemon SIGNAL: ends a daemon that would go on
+kill_daemon() {
+  kill "-$1" "$daemon"
+  finish "$daemon"
+} 2>/dev/null
+
+# guard_before_it GUARD OPTION ..: that guard before the daemon, which listens at $public
+guard_before_it() {
+  public=$dir/$runs.public
+  "$1" --listen "$public" --daemon "$path" "${@:2}" >"$dir/$runs.out" 2>"$dir/$runs.err" </dev/null &
+  guard=$!
+  until_true [ -s "$dir/$runs.out" ]
+}
+
+# ---- Programs that are built
+
+sanitizers=('-fsanitize=address,undefined' -fno-sanitize-recover=all)
+
+# can_sanitize FLAG ..: whether programs can be built with these flags, and run
+can_sanitize() {
+  echo 'int main(void) { return 0; }' >"$dir/empty.c"
+  cc "$dir/empty.c" "$@" -o "$dir/empty" 2>/dev/null && "$dir/empty" >/dev/null 2>&1
+}
+
+# compile_to PROGRAM WORD ..: what the words are compiled and linked to
+compile_to() {
+  "${compiler:-cc}" -std=c11 -D_DEFAULT_SOURCE -g -O1 -Wall -Wextra -Werror "${@:2}" -I"$top/clients/c" -pthread -ldl \
+    -o "$dir/$1"
+}
+
+# make_clients FOLDER WORD ..: clients/c, or the targets that are named, built in $dir/FOLDER for libraries in $dir
+make_clients() {
+  make -s -j 4 -C "$top/clients/c" BUILD="$dir/$1" LIBDIR="$dir" LIBEXECDIR="$dir" CFLAGS='-O1 -g -Werror' "${@:2}"
+}
