@@ -3,10 +3,7 @@
 
 #include <stdarg.h>
 
-enum {
-    GROUPS_MAX = 65536, /* of a process: NGROUPS_MAX */
-    UNKNOWN = 65534,    /* unless the system says otherwise */
-};
+enum { GROUPS_MAX = 65536 }; /* of a process: NGROUPS_MAX */
 
 uint32_t unknown_uid = UINT32_MAX, unknown_gid = UINT32_MAX;
 
@@ -17,15 +14,9 @@ static unsigned turns, turn; /* how many were given, and whose it is: a mutex al
 static_assert(sizeof(gid_t) == sizeof(uint32_t), "gid_t");
 
 /* Where the namespace has all ids none is unknown: user_namespaces(7). */
-static uint32_t unknown_of(const char *map_path, const char *unknown_path) {
-    unsigned inside = 1, outside = 1, count = 0, unknown = UNKNOWN;
-    FILE *map = fopen(map_path, "re"), *file = fopen(unknown_path, "re");
-    bool has_all = map && fscanf(map, "%u %u %u", &inside, &outside, &count) == 3 && inside == 0 && outside == 0 &&
-                   count == UINT32_MAX;
-    if (!file || fscanf(file, "%u", &unknown) != 1) unknown = UNKNOWN;
-    if (map) fclose(map);
-    if (file) fclose(file);
-    return has_all ? UINT32_MAX : unknown;
+static uint32_t unknown_of(const char *map, const char *unknown) {
+    bool has_all = number_of_file(map, "%*u %*u %u", 0) == UINT32_MAX;
+    return has_all ? UINT32_MAX : number_of_file(unknown, "%u", OVERFLOW_ID);
 }
 
 void find_unknown_ids(void) {

@@ -18,17 +18,13 @@ static void end(struct refused *refused) {
 }
 
 /* Free ones come first, as their deadline is the least. */
-static struct refused *find_room(uint32_t uid) {
+void refuse_client(int client, uint32_t uid) {
     struct refused *first = all, *own = NULL;
     for (int i = 0; i < refused_most; i++) {
         if (all[i].deadline < first->deadline) first = &all[i];
         if (all[i].deadline > 0 && all[i].uid == uid && (!own || all[i].deadline < own->deadline)) own = &all[i];
     }
-    return first->deadline == 0 || !own ? first : own;
-}
-
-void refuse_client(int client, uint32_t uid) {
-    struct refused *room = find_room(uid);
+    struct refused *room = first->deadline == 0 || !own ? first : own;
     if (room->deadline > 0) end(room);
     *room = (struct refused){ client, uid, kr_now() + PATIENCE };
 }

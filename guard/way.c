@@ -27,19 +27,15 @@ static void drop(struct way *way, size_t count) {
     way->there -= count;
 }
 
+static size_t least(size_t one, size_t other) { return one < other ? one : other; }
+
 /* A byte out of band can't be looked at: it is dropped where no other has come. */
-static ssize_t receive(struct way *way, bool looks) {
+bool bring(struct way *way, bool looks) {
     uint8_t *place = way->bytes + way->there;
     size_t room = sizeof way->bytes - way->there;
     ssize_t got = recv(way->from, place, room, MSG_DONTWAIT | (looks ? MSG_PEEK : 0));
     way->is_looked_at = looks && got > 0;
-    return looks && got < 0 && errno == EAGAIN ? recv(way->from, place, room, MSG_DONTWAIT) : got;
-}
-
-static size_t least(size_t one, size_t other) { return one < other ? one : other; }
-
-bool bring(struct way *way, bool looks) {
-    ssize_t got = receive(way, looks);
+    if (looks && got < 0 && errno == EAGAIN) got = recv(way->from, place, room, MSG_DONTWAIT);
     if (got <= 0) {
         if (got == 0 || (errno != EAGAIN && !may_be_again())) way->is_over = true;
         return false;
@@ -63,15 +59,6 @@ bool take(struct way *way) {
 }
 
 /* What was looked at goes on from the first byte that wasn't given. */
-static void clear(struct way *way) {
-    if (way->is_looked_at) {
-        way->looked_at = way->there;
-        way->untaken = way->passed;
-    }
-    drop(way, way->is_looked_at ? way->there : way->passed);
-    way->passed = way->given = 0;
-}
-
 bool give(struct way *way) {
     while (way->given < way->passed) {
         ssize_t sent = send(way->to, way->bytes + way->given, way->passed - way->given, MSG_DONTWAIT);
@@ -84,7 +71,12 @@ bool give(struct way *way) {
             break;
         }
     }
-    clear(way);
+    if (way->is_looked_at) {
+        way->looked_at = way->there;
+        way->untaken = way->passed;
+    }
+    drop(way, way->is_looked_at ? way->there : way->passed);
+    way->passed = way->given = 0;
     return true;
 }
 

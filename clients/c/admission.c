@@ -19,8 +19,7 @@ void admission_read(struct admission_process *process, pid_t id, const struct pr
     memset(process, 0, sizeof *process);
     process->uids = to_inside(&status->uids, maps_uid);
     process->owner = status->owner == UINT32_MAX ? UINT32_MAX : maps_uid(status->owner);
-    process->unknown = maps_unknown();
-    process->mapped = maps_length();
+    maps_put(process);
     process->starter = UINT32_MAX;
     process->has_auxv = proc_read_auxv(id, &process->is_secure, &process->starter);
 }
@@ -29,8 +28,7 @@ void admission_set(struct admission_process *process, uint32_t uid) {
     memset(process, 0, sizeof *process);
     process->uids = (struct admission_ids){ uid, uid, uid, uid };
     process->starter = process->owner = uid;
-    process->unknown = maps_unknown();
-    process->mapped = maps_length();
+    maps_put(process);
     process->has_auxv = true;
 }
 

@@ -95,7 +95,8 @@ static int begin_seat(struct seat *seat) {
 static int have_shared_context(struct seat *seat, int64_t call_end) {
     int64_t opening_end = kr_now() + OPENING_MILLISECONDS, end = opening_end < call_end ? opening_end : call_end;
     for (int pause = 1;; pause = pause < LONGEST_PAUSE ? 2 * pause : pause) {
-        if (seat->connection && !kr_see(seat->connection)) seats_drop(seat, false);
+        if (seat->connection) seat->connection->was_seen = !seat->connection->broken && kr_is_ours(seat->connection);
+        if (seat->connection && !seat->connection->was_seen) seats_drop(seat, false);
         if (!seat->connection && open_connection(seat, end) < 0) return -1;
         if (seat->shared.number != 0) return 0;
         seat->connection->until = end;

@@ -100,6 +100,17 @@ static inline int64_t number_in(const char *word, int base, unsigned long least,
     return is_one ? (int64_t)number : -1;
 }
 
+/* A number that proc(5) tells, or this one. An id that has no number in a user namespace is OVERFLOW_ID there, unless
+ * the system says otherwise. */
+enum { OVERFLOW_ID = 65534 };
+static inline unsigned number_of_file(const char *path, const char *form, unsigned otherwise) {
+    unsigned number = otherwise;
+    FILE *file = fopen(path, "re");
+    if (!file || fscanf(file, form, &number) != 1) number = otherwise;
+    if (file) fclose(file);
+    return number;
+}
+
 /* Answers what a program is asked of itself, and ends it; other words are no such question. */
 static inline void answer_option(const char *word, const char *usage, const char *help, const char *version) {
     bool wants_help = strcmp(word, "--help") == 0 || strcmp(word, "-h") == 0;

@@ -155,7 +155,7 @@ struct kr {
     uid_t user; /* whose secrets it is told: who listens is trusted by this user */
     struct peer peer;
     bool broken, interruptible;
-    bool was_seen; /* it was looked at for the next ask: see kr_is_ours */
+    bool was_seen; /* for the next ask, which doesn't look again whether it is ours */
     bool has_name; /* of kr_take_name */
     int patience;     /* milliseconds, or -1 */
     int64_t deadline; /* of the call that is being made */
@@ -182,9 +182,6 @@ int kr_connect(struct kr *connection);
 
 /* Whether the descriptor is still the socket that was opened here, by this process. */
 bool kr_is_ours(const struct kr *connection);
-
-/* The same, and the next ask doesn't look again. */
-bool kr_see(struct kr *connection);
 
 /* Gives the socket one of the few names of unix(7) that connections to one path can have, if one is free: for as long
  * as it is open anywhere. Another program may have them all. */

@@ -239,9 +239,8 @@ bool maps_have_gid(unsigned gid);
 unsigned maps_uid(unsigned uid);
 unsigned maps_gid(unsigned gid);
 
-/* What stands for ids that have no number there; and how many uids have one, or 0 where that isn't known. */
-unsigned maps_unknown(void);
-unsigned maps_length(void);
+/* Says what stands for ids that have no number there; and how many uids have one, or 0 where that isn't known. */
+void maps_put(struct admission_process *process);
 
 /* Whether a thread is in another user namespace: its user keyrings are others. */
 bool maps_are_others(pid_t thread);

@@ -13,8 +13,6 @@ static const char id_characters[] = "abcdefghijklmnopqrstuvwxyzABCDEFGHIJKLMNOPQ
 
 /* ---- How far an object reaches ---- */
 
-static bool is_space(char byte) { return byte == ' ' || byte == '\t' || byte == '\n' || byte == '\r'; }
-
 static void scan_text(struct json_scan *scan, char byte) {
     if (scan->is_escaped)
         scan->is_escaped = false;
@@ -28,7 +26,7 @@ static enum json_extent scan_byte(struct json_scan *scan, char byte) {
     if (scan->is_text) {
         scan_text(scan, byte);
     } else if (scan->depth == 0) {
-        if (byte != '{' && !is_space(byte)) return JSON_BROKEN;
+        if (!memchr("{ \t\n\r", byte, sizeof "{ \t\n\r" - 1)) return JSON_BROKEN;
         scan->depth = byte == '{';
     } else if (byte == '"') {
         scan->is_text = true;

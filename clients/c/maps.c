@@ -111,8 +111,11 @@ unsigned map_to_inside(const struct map *map, unsigned id, unsigned unknown) {
 
 unsigned maps_uid(unsigned uid) { return map_to_inside(&all.uids, uid, all.unknown); }
 unsigned maps_gid(unsigned gid) { return map_to_inside(&all.gids, gid, all.unknown); }
-unsigned maps_unknown(void) { return all.unknown; }
-unsigned maps_length(void) { return all.length; }
+
+void maps_put(struct admission_process *process) {
+    process->unknown = all.unknown;
+    process->mapped = all.length;
+}
 
 bool maps_are_others(pid_t thread) {
     struct stat namespace;

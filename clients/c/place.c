@@ -7,8 +7,6 @@
 #define SYSTEM_FOLDER "/run/keyretain"
 #define SOCKET_NAME "/keyretain.sock"
 
-enum { OVERFLOW_ID = 65534 };
-
 /* An empty path would be a name that anybody may take. */
 static int put(struct kr_where *where, enum kr_place place, const char *folder, const char *name) {
     int length = snprintf(where->path, sizeof where->path, "%s%s", folder, name);
@@ -52,20 +50,11 @@ int kr_default_path(char *path, size_t room) {
     return (size_t)length < room ? length : fail_as(ENAMETOOLONG);
 }
 
-/* A number that proc(5) tells, or this one. */
-static unsigned read_number(const char *path, const char *form, unsigned otherwise) {
-    unsigned number = otherwise;
-    FILE *file = fopen(path, "re");
-    if (!file || fscanf(file, form, &number) != 1) number = otherwise;
-    if (file) fclose(file);
-    return number;
-}
-
-unsigned kr_unknown_uid(void) { return read_number("/proc/sys/kernel/overflowuid", "%u", OVERFLOW_ID); }
+unsigned kr_unknown_uid(void) { return number_of_file("/proc/sys/kernel/overflowuid", "%u", OVERFLOW_ID); }
 
 /* Whether it is the number of one user: not of all who have none in a user namespace, which hasn't all uids then. */
 static bool is_one_user(uid_t uid) {
-    return uid != kr_unknown_uid() || read_number("/proc/self/uid_map", "%*u %*u %u", 0) == UINT32_MAX;
+    return uid != kr_unknown_uid() || number_of_file("/proc/self/uid_map", "%*u %*u %u", 0) == UINT32_MAX;
 }
 
 /* The system's daemon runs as who owns its folder, which only root can make there. Neither may have a number in a user

@@ -239,7 +239,7 @@ enum serve_result serve(int listener, const struct serve_settings *settings) {
     all.settings = settings;
     if (begin(listener) < 0) return SERVE_REFUSED;
     if (tracees_begin(&settings->tracees, all.epoll) < 0)
-        return tracees_have_no_daemon() ? SERVE_NO_DAEMON : SERVE_REFUSED;
+        return contexts_daemon() < 0 || errno == ETIMEDOUT ? SERVE_NO_DAEMON : SERVE_REFUSED;
     if (settings->is_ready) settings->is_ready();
     run();
     /* the child loses the filter before it can be waited for */

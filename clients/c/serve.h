@@ -26,9 +26,6 @@ struct tracees_settings {
  * descriptor, with what entries_ended takes. -1 with errno. */
 int tracees_begin(const struct tracees_settings *settings, int epoll);
 
-/* Whether it was the daemon, and no refusal, that kept it from beginning. */
-bool tracees_have_no_daemon(void);
-
 /* The thread of a notification, before its call is carried out: false where it has gone, or may not be looked at.
  * `is_valid` tells whether the notification still waits. */
 bool tracees_enter(pid_t thread, const struct key_row *row, const unsigned long given[KEY_ARGUMENTS],

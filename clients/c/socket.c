@@ -150,11 +150,6 @@ bool kr_is_ours(const struct kr *connection) {
     return is_here && kr_has_file(&connection->socket);
 }
 
-bool kr_see(struct kr *connection) {
-    connection->was_seen = !connection->broken && kr_is_ours(connection);
-    return connection->was_seen;
-}
-
 bool kr_take_name(struct kr *connection) {
     struct sockaddr_un name = { .sun_family = AF_UNIX }; /* a null byte first: it is no path */
     for (int i = 0; i < NAMES && !connection->has_name && kr_is_ours(connection); i++) {

@@ -49,15 +49,7 @@ static struct seat *have_first_seat(struct task *first, struct user *user, struc
     return add_seat(first, &made);
 }
 
-/* A context that shares another one's process keyring is in that one's session at first. */
-static bool bring(struct seat *made, const struct seat *root) {
-    if (root->session == made->session && root->is_lost == made->is_lost) return true;
-    bool is_in = made->session && session_enter_by_name(&made->context, made->user, made->session);
-    made->is_lost = !is_in;
-    return is_in || session_leave(&made->context) == 0;
-}
-
-/* A thread that isn't the first shares that one's process keyring. */
+/* A thread that isn't the first shares that one's process keyring. So its context is in that one's session at first. */
 static struct seat *have_task_seat(struct task *task, struct user *user, struct admitted admitted) {
     struct task *first = task->process->first;
     struct seat *seat = find_in_session(task, user, admitted), *root = FIND_SEAT(first, at, at->user == user);
@@ -65,7 +57,11 @@ static struct seat *have_task_seat(struct task *task, struct user *user, struct 
     if (seat) return seat;
     if (!root) root = have_first_seat(first, user, admitted);
     if (!root || !seats_may_have_more(user) || context_thread(&made.context, &root->context) < 0) return NULL;
-    if (bring(&made, root)) return add_seat(task, &made);
+    bool is_in = root->session == made.session && root->is_lost == made.is_lost;
+    if (is_in) return add_seat(task, &made);
+    is_in = made.session && session_enter_by_name(&made.context, user, made.session);
+    made.is_lost = !is_in;
+    if (is_in || session_leave(&made.context) == 0) return add_seat(task, &made);
     context_end(&made.context);
     return NULL;
 }

@@ -251,5 +251,3 @@ int tracees_begin(const struct tracees_settings *settings, int epoll) {
     if (sessions_begin(&identity, &begun, settings->name, settings->is_container) < 0) return -1;
     return settings->child > 0 ? begin_child(settings->child) : 0;
 }
-
-bool tracees_have_no_daemon(void) { return contexts_daemon() < 0 || errno == ETIMEDOUT; }

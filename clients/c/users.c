@@ -5,18 +5,15 @@ enum { ABSENT_SWEEPS = 2, LINK_BYTES = 4 };
 
 static struct user *all; /* who came last is the first */
 
-static struct user *add_user(const struct kr_identity *identity) {
-    struct user *user = calloc(1, sizeof *user);
-    if (!user) return NULL;
-    user->identity = *identity;
-    if (context_hello(&user->context, identity) < 0) return forgotten(user);
-    user->next = all;
-    return all = user;
-}
-
 struct user *users_find(const struct kr_identity *identity) {
     struct user *user = FIND(all, at, memcmp(&at->identity, identity, sizeof *identity) == 0);
-    if (!user) return add_user(identity);
+    if (!user) {
+        if (!(user = calloc(1, sizeof *user))) return NULL;
+        user->identity = *identity;
+        if (context_hello(&user->context, identity) < 0) return forgotten(user);
+        user->next = all;
+        return all = user;
+    }
     user->absent = 0;
     user_use(user); /* what is given up to make room isn't this one */
     bool is_there = context_connection(&user->context) || context_hello(&user->context, identity) == 0;

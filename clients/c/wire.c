@@ -122,15 +122,13 @@ uint32_t kr_get_u32(const uint8_t *at) {
     return at[0] | (uint32_t)at[1] << 8 | (uint32_t)at[2] << 16 | (uint32_t)at[3] << 24;
 }
 
-static uint64_t get_u64(const uint8_t *at) { return kr_get_u32(at) | (uint64_t)kr_get_u32(at + 4) << 32; }
-
 enum kr_decoded kr_decode_reply(const uint8_t *in, size_t length, struct kr_reply *reply) {
     if (length < 4) return KR_PARTIAL;
     reply->frame_length = 4 + (size_t)kr_get_u32(in);
     if (reply->frame_length < REPLY_HEAD || reply->frame_length > KR_REPLY_ROOM) return KR_MALFORMED;
     if (length < reply->frame_length) return KR_PARTIAL;
     reply->status = kr_get_u32(in + 4);
-    reply->tag = get_u64(in + 8);
+    reply->tag = kr_get_u32(in + 8) | (uint64_t)kr_get_u32(in + 12) << 32;
     reply->body = in + REPLY_HEAD;
     reply->length = reply->frame_length - REPLY_HEAD;
     return KR_WHOLE;
