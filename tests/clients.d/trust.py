@@ -1,6 +1,5 @@
 """trust.py: whom the Python client tells anything: where it looks for a daemon, and who may listen. Wants to be root,
-or root of a user namespace that has other uids; `trust.py one` makes the checks that one user can. Prints a line for
-each difference, and last how many were compared."""
+or root of a user namespace that has other uids; `trust.py one` makes the checks that one user can."""
 import ctypes
 import os
 import shutil

@@ -1,5 +1,4 @@
-"""keyretain-askpass, as it is installed: of which questions it knows the answer. Prints a line for each difference, and
-last how many were compared."""
+"""keyretain-askpass, as it is installed: of which questions it knows the answer."""
 import os
 import socket
 import subprocess

@@ -1,6 +1,5 @@
 """Whether a keeper whose user stops it, before it is in the background, keeps who has started it waiting; what is left
-of one that isn't stopped; that the user's systemd starts it, where it does; and in which order an entry is made. Prints
-a line for each difference, and last how many were compared."""
+of one that isn't stopped; that the user's systemd starts it, where it does; and in which order an entry is made."""
 import errno
 import os
 import signal

@@ -173,8 +173,8 @@ can_sanitize() {
 
 # compile_to PROGRAM WORD ..: what the words are compiled and linked to
 compile_to() {
-  "${compiler:-cc}" -std=c11 -D_DEFAULT_SOURCE -g -O1 -Wall -Wextra -Werror "${@:2}" -I"$top/clients/c" -pthread -ldl \
-    -o "$dir/$1"
+  "${compiler:-cc}" -std=c11 -D_DEFAULT_SOURCE -g -O1 -Wall -Wextra -Werror "${@:2}" -I"$lib" -I"$top/clients/c" \
+    -pthread -ldl -o "$dir/$1"
 }
 
 # make_clients FOLDER WORD ..: clients/c, or the targets that are named, built in $dir/FOLDER for libraries in $dir
