@@ -181,3 +181,12 @@ compile_to() {
 make_clients() {
   make -s -j 4 -C "$top/clients/c" BUILD="$dir/$1" LIBDIR="$dir" LIBEXECDIR="$dir" CFLAGS='-O1 -g -Werror' "${@:2}"
 }
+
+# make_installed: clients/c in $dir/c, of which a session finds the library and the keeper in $dir/lib/keyretain
+make_installed() {
+  make_clients c LIBDIR="$dir/lib" LIBEXECDIR="$dir/lib" &&
+    install -D -t "$dir/lib/keyretain" "$dir/c/libkeyutils.so.1" "$dir/c/keyretain-keeper"
+}
+
+# in_session WORD ..: keyretain-session of these
+in_session() { KEYRETAIN_LIBRARY_FOLDER=$dir/lib/keyretain "$dir/c/keyretain-session" "$@"; }
