@@ -34,6 +34,15 @@ def in_child(run):
     return child, read
 
 
+def told_by(run):
+    """What a child that runs this writes."""
+    child, read = in_child(run)
+    with os.fdopen(read) as answered:
+        text = answered.read()
+    os.waitpid(child, 0)
+    return text
+
+
 def become(uid):
     if uid != os.geteuid():
         daemons.become(uid)
@@ -92,11 +101,7 @@ def tells(*words, uid=OWN, environment=None, is_apart=False, **named):
         os.environ.update(environment or {})
         os.write(write, str(outcome(hello, words, named)).encode())
 
-    child, read = in_child(run)
-    with os.fdopen(read) as answered:
-        text = answered.read()
-    os.waitpid(child, 0)
-    return text
+    return told_by(run)
 
 
 @contextmanager
@@ -203,11 +208,8 @@ def try_effective():
         for folder in (runtime, runtime + "/keyretain"):
             os.chown(folder, OTHER, OTHER)
         with listening(own, OTHER), listening(others, DAEMON):
-            child, read = in_child(ask)
-            with os.fdopen(read) as answered:
-                compare("root, another user for now: its path, found and named, a third one's, by the environment",
-                        str([own, "told", "told", "PermissionError", "told"]), answered.read())
-            os.waitpid(child, 0)
+            compare("root, another user for now: its path, found and named, a third one's, by the environment",
+                    str([own, "told", "told", "PermissionError", "told"]), told_by(ask))
 
 
 def try_another_runtime_directory():
@@ -241,11 +243,7 @@ def tells_path(uid, environment):
         os.environ.update(environment)
         os.write(write, str(keyretain.default_path()).encode())
 
-    child, read = in_child(run)
-    with os.fdopen(read) as answered:
-        text = answered.read()
-    os.waitpid(child, 0)
-    return text
+    return told_by(run)
 
 
 def try_named():
@@ -325,11 +323,8 @@ print(client.enter_session(1))"""
 
     with folders() as (runtime, _):
         os.mkdir(runtime + "/keyretain")
-        child, read = in_child(run)
-        with os.fdopen(read) as answered:
-            compare("in a program that runs set-uid: the path, whom it trusts at one it names, whether in a session",
-                    "/run/keyretain/keyretain.sock\nNAMED\nFalse\n", answered.read())
-        os.waitpid(child, 0)
+        compare("in a program that runs set-uid: the path, whom it trusts at one it names, whether in a session",
+                "/run/keyretain/keyretain.sock\nNAMED\nFalse\n", told_by(run))
 
 
 def python_for(uid):
