@@ -102,12 +102,14 @@ struct launch {
     char *words[6], patience[DIGITS];
 };
 
-/* Root takes the user's ids and groups. Anybody else must be the user, and a program that runs set-gid lets that go. */
+/* Root takes the user's ids and groups, of which -1 would leave its own. Anybody else must be the user, and a program
+ * that runs set-gid lets that go. */
 static int find_ids(struct launch *launch, const struct passwd *user) {
     launch->sets_groups = geteuid() == 0;
     launch->uid = user->pw_uid;
     launch->gid = launch->sets_groups ? user->pw_gid : getgid();
-    if (!launch->sets_groups && (geteuid() != user->pw_uid || getuid() != user->pw_uid)) return fail_as(EPERM);
+    bool is_user = launch->sets_groups || (geteuid() == user->pw_uid && getuid() == user->pw_uid);
+    if (!is_user || launch->uid == (uid_t)-1 || launch->gid == (gid_t)-1) return fail_as(EPERM);
     getgrouplist(user->pw_name, user->pw_gid, NULL, &launch->count);
     launch->groups = calloc(launch->count > 0 ? (size_t)launch->count : 1, sizeof *launch->groups);
     if (!launch->groups) return -1;

@@ -145,19 +145,21 @@ static void export_socket(const char *path) {
     set_variable("KEYRETAIN_SOCKET", path);
 }
 
-static const char *library_folder(void) {
+static const char *named_folder(void) {
     const char *named = getenv("KEYRETAIN_LIBRARY_FOLDER");
-    return named && *named ? named : KEYRETAIN_LIBRARY_FOLDER;
+    return named && *named ? named : NULL;
 }
 
+static const char *library_folder(void) { return named_folder() ? named_folder() : KEYRETAIN_LIBRARY_FOLDER; }
+
 /* Ends where somebody else may change what is there. Of a folder above the library's another user may write to one such
- * as /tmp, where each may rename its own alone; and who owns / is root, which may have no number in a user namespace.
- * */
+ * as /tmp, where each may rename its own alone; and who owns / is root, which may have no number in a user namespace. A
+ * group with its owner's number is the owner's own. */
 static void refuse_others(const char *path, const struct stat *status, bool is_above) {
     struct stat root;
     bool is_own = status->st_uid == geteuid() || status->st_uid == 0 ||
                   (is_above && stat("/", &root) == 0 && status->st_uid == root.st_uid);
-    mode_t writers = is_above || status->st_gid == getegid() ? S_IWOTH : S_IWGRP | S_IWOTH;
+    mode_t writers = status->st_gid == status->st_uid ? S_IWOTH : S_IWGRP | S_IWOTH;
     errno = EACCES;
     if (!is_own || (status->st_mode & writers && !(is_above && status->st_mode & S_ISVTX))) fail(NO_CONNECTION, path);
 }
@@ -184,9 +186,9 @@ static void export_library(void) {
     struct stat status;
     if (!folder) fail(NO_CONNECTION, library_folder());
     snprintf(library, sizeof library, "%s/libkeyutils.so.1", folder);
-    check_folder(folder);
+    if (named_folder()) check_folder(folder);
     if (access(library, R_OK) < 0 || stat(library, &status) < 0) fail(NO_CONNECTION, library);
-    refuse_others(library, &status, false);
+    if (named_folder()) refuse_others(library, &status, false);
     if (!others) others = "";
     if (asprintf(&folders, "%s%s%s", folder, *others ? ":" : "", others) < 0) fail(REFUSED, "LD_LIBRARY_PATH");
     set_variable("LD_LIBRARY_PATH", folders);

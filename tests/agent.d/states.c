@@ -1,23 +1,11 @@
 /* states.c: which states of containers are taken, by config-linux.md of the OCI runtime specification and RFC 8259, and
  * how far an object reaches, given in every way to cut it in two. */
-#include <stdio.h>
-#include <string.h>
 
+#include "check.h"
 #include "keyretain-agent.h"
 
 #define FIRST "{\"ociVersion\":\"1.0.2\",\"fds\":[\"seccompFd\"],"
 #define STATE "\"state\":{\"ociVersion\":\"1.0.2\",\"id\":\"a\",\"status\":\"creating\",\"pid\":7,\"bundle\":\"/b\"}"
-
-static int passed, failed;
-
-static void is(const char *name, int right) {
-    if (right) {
-        passed++;
-    } else {
-        failed++;
-        printf("fails: %s\n", name);
-    }
-}
 
 /* ---- What is taken ---- */
 
@@ -50,7 +38,7 @@ static const struct {
 
 static const struct {
     const char *name, *text;
-} refused[] = {
+} not_taken[] = {
     { "nothing", "" },
     { "an empty object", "{}" },
     { "an array", "[]" },
@@ -106,11 +94,11 @@ static const struct {
 static void try_states(void) {
     struct container_state state;
     for (size_t i = 0; i < sizeof taken / sizeof *taken; i++)
-        is(taken[i].name, read_container_state(taken[i].text, strlen(taken[i].text), &state) &&
+        check(taken[i].name, read_container_state(taken[i].text, strlen(taken[i].text), &state) &&
                               strcmp(state.id, taken[i].id) == 0 && state.descriptors == taken[i].descriptors &&
                               state.listener == taken[i].listener);
-    for (size_t i = 0; i < sizeof refused / sizeof *refused; i++)
-        is(refused[i].name, !read_container_state(refused[i].text, strlen(refused[i].text), &state));
+    for (size_t i = 0; i < sizeof not_taken / sizeof *not_taken; i++)
+        check(not_taken[i].name, !read_container_state(not_taken[i].text, strlen(not_taken[i].text), &state));
 }
 
 /* Ids of 255 and of 256 bytes; objects that are nested 32 and 33 deep. */
@@ -120,16 +108,16 @@ static void try_limits(void) {
     for (size_t length = 255; length <= 256; length++) {
         memset(id, 'a', length);
         snprintf(text, sizeof text, FIRST "\"state\":{\"id\":\"%s\"}}", id);
-        is("the longest id", read_container_state(text, strlen(text), &state) == (length == 255));
+        check("the longest id", read_container_state(text, strlen(text), &state) == (length == 255));
     }
     for (size_t depth = 32; depth <= 33; depth++) {
         memset(nested, '[', depth - 1);
         memset(nested + depth - 1, ']', depth - 1);
         snprintf(text, sizeof text, FIRST "\"x\":%s," STATE "}", nested);
-        is("the deepest value", read_container_state(text, strlen(text), &state) == (depth == 32));
+        check("the deepest value", read_container_state(text, strlen(text), &state) == (depth == 32));
         struct json_scan scan = { 0 };
         size_t used;
-        is("the deepest value, scanned",
+        check("the deepest value, scanned",
            json_scan(&scan, text, strlen(text), &used) == (depth == 32 ? JSON_WHOLE : JSON_BROKEN));
     }
 }
@@ -143,7 +131,7 @@ static void try_much(void) {
         size_t length = (size_t)sprintf(text, FIRST "\"x\":[{\"y\":\"");
         while (length + 200 < sizeof text) length += (size_t)sprintf(text + length, "%s", much[i]);
         length += (size_t)sprintf(text + length, "\"}]," STATE "}");
-        is("much memory", read_container_state(text, length, &state) == (i == 0));
+        check("much memory", read_container_state(text, length, &state) == (i == 0));
     }
 }
 
@@ -158,7 +146,7 @@ static void try_pieces(const char *text) {
         struct json_scan scan = { 0 };
         int is_partial = json_scan(&scan, longer, cut, &used_first) == JSON_PARTIAL && used_first == cut;
         int is_whole = json_scan(&scan, longer + cut, strlen(longer) - cut, &used) == JSON_WHOLE;
-        is("an object in two pieces", is_partial && is_whole && cut + used == whole);
+        check("an object in two pieces", is_partial && is_whole && cut + used == whole);
     }
 }
 
@@ -173,9 +161,9 @@ static void try_scans(void) {
         try_pieces(text);
     }
     scan = (struct json_scan){ 0 };
-    is("an array is no object", json_scan(&scan, "[]", 2, &used) == JSON_BROKEN);
+    check("an array is no object", json_scan(&scan, "[]", 2, &used) == JSON_BROKEN);
     scan = (struct json_scan){ 0 };
-    is("a word is no object", json_scan(&scan, "  x{}", 5, &used) == JSON_BROKEN);
+    check("a word is no object", json_scan(&scan, "  x{}", 5, &used) == JSON_BROKEN);
 }
 
 int main(void) {
@@ -183,6 +171,5 @@ int main(void) {
     try_limits();
     try_much();
     try_scans();
-    printf("states: %d passed, %d failed\n", passed, failed);
-    return failed != 0;
+    return conclude("states");
 }

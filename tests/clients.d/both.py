@@ -1,6 +1,5 @@
 """both.py PATH LIBRARY: libkeyretain, which is LIBRARY, and the Python client on one daemon that nobody has used. What
-one adds the other reads, updates, revokes and watches, and what one client alone kept is gone when it ends. Prints a
-line for each difference, and last how many were compared."""
+one adds the other reads, updates, revokes and watches, and what one client alone kept is gone when it ends."""
 import ctypes
 import errno
 import sys

@@ -1,5 +1,5 @@
 """endless.py LIBRARY: a scan by the libkeyutils LIBRARY of what a daemon says that has no end: each key is a keyring of
-65000 others. Prints a line for each difference, and last how many were compared."""
+65000 others."""
 import os
 import subprocess
 import sys

@@ -1,7 +1,6 @@
 """examples.py PATH FOLDER: compiles the program in C of libkeyretain(3) with what FOLDER has, runs it, and the one in
 Python of the package's own page, as they stand, with the daemon at PATH: in no session, and in one that is held
-meanwhile. Then those of keyretain-session(1), by its name in FOLDER. Prints a line for each difference, and last how
-many were compared."""
+meanwhile. Then those of keyretain-session(1), by its name in FOLDER."""
 import os
 import re
 import shutil

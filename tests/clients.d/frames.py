@@ -1,5 +1,5 @@
 """frames.py ASKS: runs the program ASKS (asks.c) against servers that are made for it, and compares what it sends and
-what it prints with what is wanted. Prints a line for each difference, and last how many were compared."""
+what it prints with what is wanted."""
 import ast
 import re
 import subprocess

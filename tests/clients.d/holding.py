@@ -1,5 +1,5 @@
 """holding.py KEEPER: whether keyretain-keeper --hold goes on where a daemon doesn't say for a while what the keyring
-has, and ends where there is no keyring any more. Prints a line for each difference, and last how many were compared."""
+has, and ends where there is no keyring any more."""
 import errno
 import itertools
 import os

@@ -1,6 +1,5 @@
 """package.py VERSION: whether the folder of the Python client is a package that pip takes, without a network, and one
-that `make install` puts in its place; and whether the command of what is installed runs. Prints a line for each
-difference and each check that can't be made, and last how many were compared."""
+that `make install` puts in its place; and whether the command of what is installed runs."""
 import os
 import shutil
 import subprocess

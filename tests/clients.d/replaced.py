@@ -1,7 +1,6 @@
 """replaced.py LIBRARY: what the libkeyutils LIBRARY makes of the serials that it knows where another daemon has taken
 the place of the first, also in a PID namespace where none of them has a number; of a context that the daemon doesn't
-know any more; and of a guard that has no place for it at first. Prints a line for each difference, and last how many
-were compared."""
+know any more; and of a guard that has no place for it at first."""
 import errno
 import os
 import signal

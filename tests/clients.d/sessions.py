@@ -1,5 +1,4 @@
-"""sessions.py PATH: which sessions the Python client enters, on a daemon that nobody has used. Prints a line for each
-difference, and last how many were compared."""
+"""sessions.py PATH: which sessions the Python client enters, on a daemon that nobody has used."""
 import os
 import subprocess
 import sys

@@ -1,5 +1,5 @@
-"""streams.py: what the Python client leaves on its connection when a call ends early, forks, waits or is told nonsense.
-Prints a line for each difference, and last how many were compared."""
+"""streams.py: what the Python client leaves on its connection when a call ends early, forks, waits or is told
+nonsense."""
 import ctypes
 import importlib
 import os

@@ -1,6 +1,5 @@
 """trust.py: whom the Python client tells anything: where it looks for a daemon, and who may listen. Wants to be root,
-or root of a user namespace that has other uids; `trust.py one` makes the checks that one user can. Prints a line for
-each difference, and last how many were compared."""
+or root of a user namespace that has other uids; `trust.py one` makes the checks that one user can."""
 import ctypes
 import os
 import shutil
@@ -33,6 +32,15 @@ def in_child(run):
             os._exit(0)
     os.close(write)
     return child, read
+
+
+def told_by(run):
+    """What a child that runs this writes."""
+    child, read = in_child(run)
+    with os.fdopen(read) as answered:
+        text = answered.read()
+    os.waitpid(child, 0)
+    return text
 
 
 def become(uid):
@@ -93,11 +101,7 @@ def tells(*words, uid=OWN, environment=None, is_apart=False, **named):
         os.environ.update(environment or {})
         os.write(write, str(outcome(hello, words, named)).encode())
 
-    child, read = in_child(run)
-    with os.fdopen(read) as answered:
-        text = answered.read()
-    os.waitpid(child, 0)
-    return text
+    return told_by(run)
 
 
 @contextmanager
@@ -204,11 +208,8 @@ def try_effective():
         for folder in (runtime, runtime + "/keyretain"):
             os.chown(folder, OTHER, OTHER)
         with listening(own, OTHER), listening(others, DAEMON):
-            child, read = in_child(ask)
-            with os.fdopen(read) as answered:
-                compare("root, another user for now: its path, found and named, a third one's, by the environment",
-                        str([own, "told", "told", "PermissionError", "told"]), answered.read())
-            os.waitpid(child, 0)
+            compare("root, another user for now: its path, found and named, a third one's, by the environment",
+                    str([own, "told", "told", "PermissionError", "told"]), told_by(ask))
 
 
 def try_another_runtime_directory():
@@ -242,11 +243,7 @@ def tells_path(uid, environment):
         os.environ.update(environment)
         os.write(write, str(keyretain.default_path()).encode())
 
-    child, read = in_child(run)
-    with os.fdopen(read) as answered:
-        text = answered.read()
-    os.waitpid(child, 0)
-    return text
+    return told_by(run)
 
 
 def try_named():
@@ -326,11 +323,8 @@ print(client.enter_session(1))"""
 
     with folders() as (runtime, _):
         os.mkdir(runtime + "/keyretain")
-        child, read = in_child(run)
-        with os.fdopen(read) as answered:
-            compare("in a program that runs set-uid: the path, whom it trusts at one it names, whether in a session",
-                    "/run/keyretain/keyretain.sock\nNAMED\nFalse\n", answered.read())
-        os.waitpid(child, 0)
+        compare("in a program that runs set-uid: the path, whom it trusts at one it names, whether in a session",
+                "/run/keyretain/keyretain.sock\nNAMED\nFalse\n", told_by(run))
 
 
 def python_for(uid):

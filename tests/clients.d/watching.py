@@ -1,5 +1,5 @@
 """watching.py PATH: what `python3 -m keyretain @s` watches in a session that is held, and that it says where that is
-gone. Prints a line for each difference, and last how many were compared."""
+gone."""
 import os
 import subprocess
 import sys

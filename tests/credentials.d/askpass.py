@@ -1,5 +1,4 @@
-"""keyretain-askpass, as it is installed: of which questions it knows the answer. Prints a line for each difference, and
-last how many were compared."""
+"""keyretain-askpass, as it is installed: of which questions it knows the answer."""
 import os
 import socket
 import subprocess
@@ -44,9 +43,24 @@ def try_credentials(client, context):
         print("skipped: another user who asks for a credential: not root")
 
 
+def try_planted(client, context):
+    """The user keyring has a link to a keyring of another user's, who has put there what answers."""
+    other, names = client.hello(54321, 54321), (f"askpass {QUESTION}", "credential token")
+    shared = client.add(other, "keyring", "shared", b"", keyretain.USER)
+    planted = [client.add(other, "user", name, b"of another user", shared) for name in names]
+    for serial in (shared, *planted):
+        client.setperm(other, serial, 0x3F3F3F3F)
+    client.link(context, shared, keyretain.USER)
+    compare("another user's answer", (1, b""), run([PROGRAM, QUESTION])[:2])
+    compare("another user's credential", (1, "too long for systemd"),
+            asked_by_systemd(b"\0adf9d86b6eda275e/unit/a.service/token"))
+    client.unlink(context, shared, keyretain.USER)
+
+
 with daemon(), keyretain.Client() as client:
     context = client.hello(os.geteuid(), os.getegid())
     compare("nobody has an answer", (1, b""), run([PROGRAM, QUESTION])[:2])
+    try_planted(client, context)
     ring = client.join(context, "asked")
     client.setperm(context, ring, 0x3F1F0000)
     client.add(context, "user", f"askpass {QUESTION}", b"of the user", keyretain.USER)

@@ -1,6 +1,5 @@
 """backend.py: the backend of Python's keyring, by what that library says of backends. Wants `keyring`, and PYTHONPATH
-to name the folder where the package is installed. Prints a line for each difference, and last how many were
-compared."""
+to name the folder where the package is installed."""
 import os
 
 import keyretain  # what is installed, before the next line finds that of the project

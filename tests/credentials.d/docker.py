@@ -1,6 +1,5 @@
 """docker.py: docker-credential-keyretain by the protocol of docker-credential-helpers: the words, documents and errors
-of its README and of its package `credentials`, without docker. Prints a line for each difference, and last how many
-were compared."""
+of its README and of its package `credentials`, without docker."""
 import json
 import os
 

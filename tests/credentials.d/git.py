@@ -1,5 +1,4 @@
-"""git.py: git-credential-keyretain by the words and lines of gitcredentials(7) and git-credential(1), without git.
-Prints a line for each difference, and last how many were compared."""
+"""git.py: git-credential-keyretain by the words and lines of gitcredentials(7) and git-credential(1), without git."""
 import os
 import resource
 import signal

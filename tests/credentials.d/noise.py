@@ -1,6 +1,5 @@
 """noise.py [SEED]: bytes that git, docker or a keyring may hold, against the parsers of the helpers; and that a
-description says what it was made of. The same seed gives the same run. Prints a line for each difference, and last how
-many were compared."""
+description says what it was made of. The same seed gives the same run."""
 import io
 import json
 import random

@@ -1,6 +1,5 @@
 """Whether a keeper whose user stops it, before it is in the background, keeps who has started it waiting; what is left
-of one that isn't stopped; that the user's systemd starts it, where it does; and in which order an entry is made. Prints
-a line for each difference, and last how many were compared."""
+of one that isn't stopped; that the user's systemd starts it, where it does; and in which order an entry is made."""
 import errno
 import os
 import signal
@@ -85,7 +84,7 @@ def try_managed(folder):
     scope = '[ "$*" = "--user --scope --quiet --collect -- $6 --hold ring --socket /sock" ] || exit 1'
     compare("by systemd", ["manager", words + own], begun_by(folder, f'{scope}\nshift 5\nexec "$@"'))
     compare("one that fails", ["manager", words], begun_by(folder, "exit 1"))
-    compare("one that hangs", ["manager", words], begun_by(folder, "exec sleep 30"))
+    compare("one that hangs", ["manager", words], begun_by(folder, f"while [ -e {folder}/told ]; do sleep 0.1; done"))
     if os.geteuid() == 0:
         os.chmod(folder, 0o777)
         os.rename(own, f"{folder}/4001")

@@ -1,6 +1,5 @@
 """with_git.py: git-credential-keyretain as git uses it: fill, approve, reject, timeouts, and pushes to
-git-http-backend(1) on this machine. Wants git with its http-backend. Prints a line for each difference and each check
-that can't be made, and last how many were compared."""
+git-http-backend(1) on this machine. Wants git with its http-backend."""
 import base64
 import os
 import re

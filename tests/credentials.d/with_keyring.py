@@ -1,5 +1,5 @@
 """with_keyring.py: the backend of Python's keyring as the command keyring(1) uses it. Wants PYTHONPATH to name the
-folder where the package is installed. Prints a line for each difference, and last how many were compared."""
+folder where the package is installed."""
 import os
 import sys
 

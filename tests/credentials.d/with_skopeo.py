@@ -1,6 +1,5 @@
 """with_skopeo.py [PROGRAM]: docker-credential-keyretain as skopeo(1) uses it, or podman(1): login, a request with what
-is kept, and logout, at a registry on this machine. Prints a line for each difference, and last how many were
-compared."""
+is kept, and logout, at a registry on this machine."""
 import base64
 import json
 import os

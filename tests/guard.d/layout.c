@@ -1,22 +1,10 @@
 /* layout: whether the structures of guard/krs_screen.h are those of the crate: it gives each field a number of its own.
  * */
-#include <stdio.h>
-#include <string.h>
 
+#include "check.h"
 #include "krs_screen.h"
 
 enum { EDGE = 64 };
-
-static int passed, failed;
-
-static void check(const char *name, bool is_so) {
-    if (is_so) {
-        passed++;
-    } else {
-        failed++;
-        printf("fails: %s\n", name);
-    }
-}
 
 /* Room behind a structure that must stay as it is. */
 struct guarded {
@@ -64,6 +52,5 @@ static void check_flags(uint32_t which) {
 
 int main(void) {
     for (uint32_t which = 0; which < 5; which++) check_flags(which);
-    printf("layout: %d passed, %d failed\n", passed, failed);
-    return failed != 0;
+    return conclude("layout");
 }

@@ -6,18 +6,16 @@
 #include <poll.h>
 #include <sched.h>
 #include <signal.h>
-#include <stdio.h>
 #include <sys/mman.h>
 #include <sys/socket.h>
 #include <sys/syscall.h>
 #include <sys/wait.h>
 #include <unistd.h>
 
+#include "check.h"
 #include "guard.h"
 
 enum { X32_BIT = 0x40000000, EXIT_OF_I386 = 1 };
-
-static int passed, failed;
 
 static const struct {
     const char *name;
@@ -52,13 +50,6 @@ static const struct {
     { "read, by its number of x32", X32_BIT | SYS_read, { -1 }, false },
 };
 
-static void check(const char *name, bool holds) {
-    if (holds)
-        passed++;
-    else
-        failed++, printf("fails: %s\n", name);
-}
-
 /* How a child ends that has the filter, and does this. */
 static int status_of(void (*act)(const long *), const long *words) {
     int status = -1;
@@ -91,6 +82,5 @@ int main(void) {
     const long end[] = { EXIT_OF_I386 };
     int status = status_of(call_i386, end);
     check("int 0x80", is_ended_by(status, SIGSYS) || is_ended_by(status, SIGSEGV)); /* that kernel has it not */
-    printf("left: %d passed, %d failed\n", passed, failed);
-    return failed != 0;
+    return conclude("left");
 }

@@ -1,7 +1,6 @@
 """walk.py PUBLIC PAGE FOLDERS: types the walk of two users of keyretain-guard(8), which is PAGE, into a shell of each,
 by the uids 1000 and 1001, and compares what these print, line by line. PUBLIC stands for the path that it names;
-FOLDERS have the programs, as a PATH. Run by root. Prints a line for each difference, and last how many were
-compared."""
+FOLDERS have the programs, as a PATH. Run by root."""
 import os
 import pty
 import re

@@ -173,11 +173,20 @@ can_sanitize() {
 
 # compile_to PROGRAM WORD ..: what the words are compiled and linked to
 compile_to() {
-  "${compiler:-cc}" -std=c11 -D_DEFAULT_SOURCE -g -O1 -Wall -Wextra -Werror "${@:2}" -I"$top/clients/c" -pthread -ldl \
-    -o "$dir/$1"
+  "${compiler:-cc}" -std=c11 -D_DEFAULT_SOURCE -g -O1 -Wall -Wextra -Werror "${@:2}" -I"$lib" -I"$top/clients/c" \
+    -pthread -ldl -o "$dir/$1"
 }
 
 # make_clients FOLDER WORD ..: clients/c, or the targets that are named, built in $dir/FOLDER for libraries in $dir
 make_clients() {
   make -s -j 4 -C "$top/clients/c" BUILD="$dir/$1" LIBDIR="$dir" LIBEXECDIR="$dir" CFLAGS='-O1 -g -Werror' "${@:2}"
 }
+
+# make_installed: clients/c in $dir/c, of which a session finds the library and the keeper in $dir/lib/keyretain
+make_installed() {
+  make_clients c LIBDIR="$dir/lib" LIBEXECDIR="$dir/lib" &&
+    install -D -t "$dir/lib/keyretain" "$dir/c/libkeyutils.so.1" "$dir/c/keyretain-keeper"
+}
+
+# in_session WORD ..: keyretain-session of these
+in_session() { KEYRETAIN_LIBRARY_FOLDER=$dir/lib/keyretain "$dir/c/keyretain-session" "$@"; }

@@ -5,7 +5,6 @@ import shutil
 import signal
 import socket
 import subprocess
-import sys
 import tempfile
 import time
 
@@ -39,7 +38,6 @@ def room():
                 os.kill(pid, signal.SIGKILL)
         shutil.rmtree(folder, ignore_errors=True)
         if number:
-            sys.stdout.flush()
             os._exit(128 + number)
 
     for it in ENDS:

@@ -3,12 +3,11 @@
 #define _GNU_SOURCE
 #include <linux/keyctl.h>
 #include <stdarg.h>
-#include <stdio.h>
 #include <stdlib.h>
-#include <string.h>
 #include <sys/syscall.h>
 #include <unistd.h>
 
+#include "check.h"
 #include "keyutils.h"
 
 enum { WORDS = 5, PAGE = 4096, DERIVED = 4, LENGTH = 7 };
@@ -20,8 +19,6 @@ static struct {
     struct keyctl_pkey_params both;
     struct keyctl_kdf_params derived;
 } last;
-
-static int passed, failed;
 
 static void copy(void *to, long from, size_t length) {
     if (from >= PAGE) memcpy(to, (const void *)from, length);
@@ -43,13 +40,6 @@ long syscall(long number, ...) {
     copy(&last.derived, last.words[DERIVED], sizeof last.derived);
     if (last.words[2] && last.words[3] >= LENGTH) memcpy((void *)last.words[2], "a key..", LENGTH);
     return LENGTH;
-}
-
-static void check(const char *what, int holds) {
-    if (holds)
-        passed++;
-    else
-        failed++, printf("fails: %s\n", what);
 }
 
 static int is_call(int command, const void *second, const void *third, const void *fourth) {
@@ -93,6 +83,5 @@ int main(void) {
     unsetenv("KEYRETAIN_SESSION");
     try_two();
     try_numbers();
-    printf("handed: %d passed, %d failed\n", passed, failed);
-    return failed != 0;
+    return conclude("handed");
 }

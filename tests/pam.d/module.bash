@@ -406,6 +406,17 @@ try_else_kernel() {
 
 # ---- Users, by root alone
 
+# setresuid(2) and setresgid(2) take -1 for no change: who let such a user in would have a keeper of root's.
+try_no_ids() {
+  local ids
+  log_in=(unshare --mount sh -c 'mount --bind "$0" /etc/passwd && exec "$@"' "$dir/passwd" "$dir/login")
+  user=keyretain-none
+  for ids in 4294967295:65534 65534:4294967295; do
+    { cat /etc/passwd && echo "$user:x:$ids::/:/bin/sh"; } >"$dir/passwd"
+    gives "a user of the ids $ids" "open success $none close success" one open "${show[@]}" close
+  done
+}
+
 try_users() {
   local nobody=65534 ids as=(setpriv --reuid 65534 --regid 65534 --clear-groups)
   if [ "$(id -u)" != 0 ] || ! "${as[@]}" true 2>/dev/null || [ "$(id -un $nobody 2>/dev/null)" != nobody ]; then
@@ -434,6 +445,8 @@ try_users() {
   log_in=("$dir/login")
   user=no-such-user
   gives 'somebody who is not there' "open success $none close success" one open "${show[@]}" close
+  try_no_ids
+  log_in=("$dir/login")
   user=$(id -un)
 }
 

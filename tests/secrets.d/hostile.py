@@ -1,5 +1,4 @@
-"""hostile.py: clients that send what is wrong, too long, or too much, that don't read, or are another user's. Prints a
-line for each difference, and last how many were compared."""
+"""hostile.py: clients that send what is wrong, too long, or too much, that don't read, or are another user's."""
 import os
 import subprocess
 

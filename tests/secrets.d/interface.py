@@ -1,5 +1,4 @@
-"""interface.py: each method, property, signal and error, by the Secret Service API 0.2. Prints a line for each
-difference, and last how many were compared."""
+"""interface.py: each method, property, signal and error, by the Secret Service API 0.2."""
 from stage import (COLLECTION, FOLDER, ITEM, PATIENCE, PROPERTIES, ROOT, SERVICE, SESSION, SESSION_COLLECTION, Caller,
                    bus, compare, conclude, daemon, secrets)
 from cryptography.hazmat.primitives import hashes, hmac

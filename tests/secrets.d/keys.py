@@ -1,5 +1,4 @@
-"""keys.py: items that somebody takes away in the store, that expire, or whose daemon ends. Prints a line for each
-difference, and last how many were compared."""
+"""keys.py: items that somebody takes away in the store, that expire, or whose daemon ends."""
 import os
 
 from stage import ITEM, PATIENCE, RING, SESSION_COLLECTION, Caller, bus, compare, conclude, daemon, secrets, until

@@ -13,7 +13,7 @@
 #include <sys/mman.h>
 #include <sys/resource.h>
 
-#include "../clients.d/check.h"
+#include "check.h"
 #include "calls.h"
 #include "connection.h"
 #include "serve.h"

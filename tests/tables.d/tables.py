@@ -1,8 +1,7 @@
 """tables.py KEYRETAIN [CODEC CALLS]: whether all that lists the asks, the commands or the errors has the rows that the
 programs are proved by: FORMAT.md, the manual pages, `keyretain --help` where KEYRETAIN is a program, the completion,
-the C and the Python client, the bench and its figures. Prints a line for each difference and each check that can't be
-made, and last how many were compared. CODEC is codec.c and CALLS calls.c; without them the tables of C aren't
-compared."""
+the C and the Python client, the bench and its figures. CODEC is codec.c and CALLS calls.c; without them the tables of C
+aren't compared."""
 import os
 import subprocess
 import sys

@@ -125,7 +125,7 @@ def place_of(path: Optional[Path], trust: Optional[str]) -> Place:
 
 
 def _is_one_user(uid: int) -> bool:
-    """Whether it is one user's number: not of all who have none in a user namespace, which hasn't all uids then."""
+    """Whether it is the number of one user, and not of all who have none: in a user namespace that hasn't all uids."""
     try:
         with open("/proc/sys/kernel/overflowuid", "rb") as unknown, open("/proc/self/uid_map", "rb") as numbers:
             return uid != int(unknown.read()) or int(numbers.readline().split()[2]) == ALL_UIDS

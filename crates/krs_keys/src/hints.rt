@@ -29,6 +29,12 @@ impl KeyTable {
         }
     }
 
+    /// The first keyring behind this serial that may link a key, by another such hint: so all are found, one by one.
+    pub fn linker_behind(&self, serial: Serial, last: u32) -> Option<Serial> {
+        let place = self.keys.place_of(serial.number())?;
+        ring_at(self.linkers.behind(place, serial.number(), last))
+    }
+
     /// A further keyring that links a key, by another such hint.
     pub fn far_linker(&self, serial: Serial) -> Option<Serial> {
         match self.linkers.far(serial.number()) {

@@ -222,6 +222,27 @@ impl Linkers {
         }
     }
 
+    /// The first keyring behind this one, by serial, that may link the key of a serial, at a place. 0 is none.
+    pub(crate) fn behind(&self, place: usize, serial: u32, last: u32) -> u32 {
+        let (first, second) = self.near(place);
+        let near = sooner(last, sooner(last, 0, first.ring), second.ring);
+        sooner(last, near, self.far_behind(serial, last))
+    }
+
+    /// The same of the further keyrings alone.
+    fn far_behind(&self, serial: u32, last: u32) -> u32 {
+        if !self.has_far() {
+            return 0;
+        }
+        let (Some(from), Some(end)) = (last.checked_add(1), serial.checked_add(1)) else {
+            return 0;
+        };
+        match self.far.range((serial, from)..(end, 0)).next() {
+            Some(entry) => entry.1,
+            None => 0,
+        }
+    }
+
     /// The entries of a serial in the set.
     fn entries(&self, serial: u32) -> Range<'_, (u32, u32)> {
         match serial.checked_add(1) {
@@ -229,4 +250,12 @@ impl Linkers {
             None => self.far.range((serial, 0)..),
         }
     }
+}
+
+/// This keyring, where it stands behind the last one and before the one that was found, if any was: 0 is none.
+fn sooner(last: u32, found: u32, ring: u32) -> u32 {
+    if ring > last && (found == 0 || ring < found) {
+        return ring;
+    }
+    found
 }

@@ -1,4 +1,4 @@
-//! Where the levels of nested keyrings end below those that are attached.
+//! Where the levels of nested keyrings end below those that are attached, and whether they have many.
 ghost use Rattle.std.specs.Prelude.{◌≡◌, [], true, flat_map};
 ghost use Rattle.std.specs.Option.{option_to_list};
 ghost use Rattle.krs_model.specs.Possession.{attached_with};
@@ -7,6 +7,10 @@ ghost use Rattle.krs_walk.specs.Walks.{followed_rings};
 
 use crate::possession::{Sought, followed_rings};
 use krs_types::Serial;
+
+/// So many keyrings are few: they are walked over in about the time in which it is told from a key whether it hangs below
+/// them.
+const FEW_RINGS: usize = 1024;
 
 impl Sought<'_> {
     /// Whether no followed keyring is nested deeper than in the two nearest levels, so that these have answered.
@@ -51,5 +55,46 @@ impl Sought<'_> {
             }
         }
         true
+    }
+
+    /// Whether many keyrings are nested in the attached ones and in so many levels below them. No clause speaks of it: it
+    /// tells where to begin.
+    pub(crate) fn nests_many(&self, levels: u8) -> bool
+        requires fit { AreFit self.now.keys.now.keys }
+    {
+        self.few_left(levels).is_none()
+    }
+
+    /// How many more keyrings would be few.
+    fn few_left(&self, levels: u8) -> Option<usize>
+        requires fit { AreFit self.now.keys.now.keys }
+    {
+        let left = self.one_leaves(self.context.thread, levels, FEW_RINGS)?;
+        let left = self.one_leaves(self.process_ring, levels, left)?;
+        self.one_leaves(self.context.session, levels, left)
+    }
+
+    /// The same below one keyring, where there is one.
+    fn one_leaves(&self, ring: Option<Serial>, levels: u8, left: usize) -> Option<usize>
+        requires fit { AreFit self.now.keys.now.keys }
+    {
+        match ring {
+            Some(ring) => self.leaves(ring, levels, left),
+            None => Some(left),
+        }
+    }
+
+    /// The same below a keyring.
+    fn leaves(&self, ring: Serial, levels: u8, left: usize) -> Option<usize>
+        requires fit { AreFit self.now.keys.now.keys }
+    {
+        let rings = followed_rings(self.keys, &self.context.caller, self.clock, ring);
+        let mut left = left.checked_sub(rings.len())?;
+        if levels > 0 {
+            for nested in rings {
+                left = self.leaves(*nested, levels - 1, left)?;
+            }
+        }
+        Some(left)
     }
 }

@@ -1,4 +1,4 @@
-ghost use Rattle.std.specs.Prelude.{◌≡◌, ◌≤◌, [], false, Some, drop, length, IfOk, OnOk};
+ghost use Rattle.std.specs.Prelude.{◌≡◌, ◌≤◌, [], false, Some, drop, length, IfOk, IfSome, OnOk};
 ghost use Rattle.std.specs.List.{list_any};
 ghost use Rattle.std.specs.Option.{option_to_list};
 ghost use Rattle.krs_model.specs.Levels.{is_in};
@@ -101,6 +101,36 @@ impl Walker {
         };
         sought.is_linked(self)
     }
+
+    /// The same where it takes a look at few keyrings: else none.
+    pub fn possesses_soon(
+        &self,
+        keys: &KeyTable,
+        context: &Context,
+        process_ring: Option<Serial>,
+        clock: u64,
+        name: &HashedName,
+        serial: Serial,
+    ) -> Option<bool>
+        requires fit { AreFit keys.now.keys }
+        requires name { name_at keys.now.keys serial ≡ Some name.now }
+        ensures { IfSome result (λ b. b ≡
+            possessed_with (shown keys.now.keys) clock context.now process_ring serial) }
+    {
+        keys.only_keyrings_link();
+        if is_attached(context, &process_ring, serial) {
+            return Some(true);
+        }
+        let sought = Sought {
+            keys,
+            context,
+            process_ring,
+            clock,
+            name,
+            serial,
+        };
+        sought.is_linked_soon(self)
+    }
 }
 
 /// A key that is looked for: among which keys, by which context, its process's keyring, when, and its name and serial.
@@ -115,26 +145,91 @@ pub(crate) struct Sought<'a> {
 }
 
 impl Sought<'_> {
-    /// Whether a followed keyring of the first `SEARCH_DEPTH` levels links it. Hints are followed first: they mostly lead
-    /// to the link at once, however many keyrings there are.
+    /// Whether a followed keyring of the first `SEARCH_DEPTH` levels links it.
     fn is_linked(&self, walker: &Walker) -> bool
         requires fit { AreFit self.now.keys.now.keys }
         requires name { name_at self.now.keys.now.keys self.now.serial ≡ Some self.now.name.now }
         ensures { result ≡
             is_linked (shown self.now.keys.now.keys) self.now.clock self.now.context.now self.now.process_ring self.now.serial }
     {
-        if self.is_hinted() {
-            return true;
+        match self.is_linked_soon(walker) {
+            Some(linked) => linked,
+            None => self.is_linked_by_walk(walker),
         }
+    }
+
+    /// The same by a walk down from the attached keyrings.
+    #[inline(never)]
+    fn is_linked_by_walk(&self, walker: &Walker) -> bool
+        requires fit { AreFit self.now.keys.now.keys }
+        requires name { name_at self.now.keys.now.keys self.now.serial ≡ Some self.now.name.now }
+        ensures { result ≡
+            is_linked (shown self.now.keys.now.keys) self.now.clock self.now.context.now self.now.process_ring self.now.serial }
+    {
         if self.is_linked_near() {
             return true;
+        }
+        self.is_linked_by_levels(walker)
+    }
+
+    /// The same, where few keyrings have to be looked at: else none. Hints are followed first: they mostly lead to the
+    /// link at once, however many keyrings there are.
+    fn is_linked_soon(&self, walker: &Walker) -> Option<bool>
+        requires fit { AreFit self.now.keys.now.keys }
+        requires name { name_at self.now.keys.now.keys self.now.serial ≡ Some self.now.name.now }
+        ensures { IfSome result (λ b. b ≡
+            is_linked (shown self.now.keys.now.keys) self.now.clock self.now.context.now self.now.process_ring self.now.serial) }
+    {
+        if self.is_hinted() {
+            return Some(true);
+        }
+        if self.nests_many(0) {
+            return self.is_linked_by_hints();
+        }
+        if self.is_linked_near() {
+            return Some(true);
         }
         self.is_linked_far(walker)
     }
 
+    /// The same, where hints lead to a link in the levels below.
+    #[inline(never)]
+    fn is_linked_by_hints(&self) -> Option<bool>
+        requires fit { AreFit self.now.keys.now.keys }
+        ensures { IfSome result (λ b. b ≡
+            is_linked (shown self.now.keys.now.keys) self.now.clock self.now.context.now self.now.process_ring self.now.serial) }
+    {
+        if self.is_hinted_far() {
+            return Some(true);
+        }
+        None
+    }
+
     /// The same, where none of the near levels does.
     #[inline(never)]
-    fn is_linked_far(&self, walker: &Walker) -> bool
+    fn is_linked_far(&self, walker: &Walker) -> Option<bool>
+        requires fit { AreFit self.now.keys.now.keys }
+        requires name { name_at self.now.keys.now.keys self.now.serial ≡ Some self.now.name.now }
+        requires near { list_any
+            (is_linked_within (shown self.now.keys.now.keys) self.now.clock self.now.context.now.caller self.now.serial 2)
+            (attached_with self.now.context.now self.now.process_ring) ≡ false }
+        ensures { IfSome result (λ b. b ≡
+            is_linked (shown self.now.keys.now.keys) self.now.clock self.now.context.now self.now.process_ring self.now.serial) }
+    {
+        if self.ends_near() {
+            return Some(false);
+        }
+        if self.is_hinted_far() {
+            return Some(true);
+        }
+        if self.nests_many(SEARCH_DEPTH - NEAR_LEVELS) {
+            return None;
+        }
+        Some(self.is_linked_by_levels(walker))
+    }
+
+    /// Whether one of the first `SEARCH_DEPTH` levels does, where none of the near ones does.
+    fn is_linked_by_levels(&self, walker: &Walker) -> bool
         requires fit { AreFit self.now.keys.now.keys }
         requires name { name_at self.now.keys.now.keys self.now.serial ≡ Some self.now.name.now }
         requires near { list_any
@@ -143,12 +238,6 @@ impl Sought<'_> {
         ensures { result ≡
             is_linked (shown self.now.keys.now.keys) self.now.clock self.now.context.now self.now.process_ring self.now.serial }
     {
-        if self.ends_near() {
-            return false;
-        }
-        if self.is_hinted_far() {
-            return true;
-        }
         let mut seen = walker.take(&walker.followed);
         let linked = self.is_linked_below(&mut seen);
         walker.followed.set(seen);

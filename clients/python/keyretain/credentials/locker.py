@@ -27,6 +27,15 @@ class Entry(NamedTuple):
     description: bytes
 
 
+def find_own(client: Client, context: int, ring: int, kind: str, description: str) -> int:
+    """The serial of the effective user's own key of this name. A search also finds what another user has put into a
+    keyring that is linked there: that is refused as if it weren't."""
+    serial = client.search(context, ring, kind, description)
+    if int(client.describe(context, serial).split(b";", 2)[1]) != os.geteuid():
+        raise Refused("SEARCH", errno.ENOKEY)
+    return serial
+
+
 class Locker(AbstractContextManager["Locker"]):
     """The entries of a keyring, on a connection that ends with the block."""
 
@@ -45,11 +54,9 @@ class Locker(AbstractContextManager["Locker"]):
     # Reading
 
     def _find(self) -> int:
-        """The serial of the keyring, or 0. A search also finds what another user has put into a keyring that is linked
-        to the user keyring: who possesses that would possess what is kept there."""
+        """The serial of the keyring, or 0: who possesses another user's would possess what is kept there."""
         try:
-            ring = self._client.search(self._context, USER, "keyring", self._name)
-            return ring if int(self._client.describe(self._context, ring).split(b";", 2)[1]) == os.geteuid() else 0
+            return find_own(self._client, self._context, USER, "keyring", self._name)
         except Refused as refused:
             if refused.errno in GONE:
                 return 0

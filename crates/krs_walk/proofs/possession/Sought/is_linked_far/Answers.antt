@@ -1,9 +1,7 @@
-use Rattle.std.proofs.Common.{sym, ◌∙◌}
-use Rattle.krs_model.specs.Levels.{search_depth}
+use Rattle.std.proofs.Common.{sym}
 use Rattle.krs_model.specs.Possession.{attached_with}
 use Rattle.krs_keys.specs.Keys.{shown}
 use Rattle.krs_walk.specs.Walks.{followed_rings, follows_link_to}
-use Rattle.krs_walk.proofs.DepthLemmas.{any_heads}
 use Rattle.krs_walk.proofs.EndsLemmas.{near_is_all}
 use Rattle.krs_walk.proofs.possession.Sought.is_linked_far.Goals as goal
 
@@ -14,14 +12,6 @@ returns-then-ends_near c =
     sym (near_is_all (follows_link_to keys c.args.self.now.clock caller c.args.self.now.serial)
     (followed_rings keys c.args.self.now.clock caller) (attached_with c.args.self.now.context.now c.args.self.now.process_ring)
     (c.ends_near.ensures c.if-ends_near.true) c.requires.near)
-
-pub returns-in-Err : goal.returns-in-Err
-returns-in-Err c =
-    let keys = shown c.args.self.now.keys.now.keys in
-    let caller = c.args.self.now.context.now.caller in
-    c.is_linked_within_reach.ensures
-    ∙ sym (any_heads (follows_link_to keys c.args.self.now.clock caller c.args.self.now.serial)
-    (followed_rings keys c.args.self.now.clock caller) (attached_with c.args.self.now.context.now c.args.self.now.process_ring) search_depth)
 
 pub returns-then-is_hinted_far : goal.returns-then-is_hinted_far
 returns-then-is_hinted_far c = sym (c.is_hinted_far.ensures c.if-is_hinted_far.true)

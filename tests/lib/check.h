@@ -1,4 +1,4 @@
-/* check.h: a line for each check that fails, for the tests of libkeyutils.so.1. */
+/* check.h: a line for each check that fails, and how many passed and failed, for the tests in C. */
 #ifndef KEYRETAIN_CHECK_H
 #define KEYRETAIN_CHECK_H
 

@@ -5,7 +5,7 @@ use Rattle.krs_keys.specs.Keys.{shown}
 use Rattle.krs_walk.specs.Walks.{followed_rings, follows_link_to}
 use Rattle.krs_walk.proofs.DepthLemmas.{any_heads}
 use Rattle.krs_walk.proofs.RoundsLemmas.{any_up}
-use Rattle.krs_walk.proofs.possession.Sought.is_linked.Goals as goal
+use Rattle.krs_walk.proofs.possession.Sought.is_linked_soon.Goals as goal
 
 pub returns-then-is_hinted : goal.returns-then-is_hinted
 returns-then-is_hinted c =
