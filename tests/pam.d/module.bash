@@ -409,6 +409,7 @@ try_else_kernel() {
 # setresuid(2) and setresgid(2) take -1 for no change: who let such a user in would have a keeper of root's.
 try_no_ids() {
   local ids
+  unshare --mount true 2>/dev/null || { skipped 'users without a uid or a gid: no mount namespace'; return; }
   log_in=(unshare --mount sh -c 'mount --bind "$0" /etc/passwd && exec "$@"' "$dir/passwd" "$dir/login")
   user=keyretain-none
   for ids in 4294967295:65534 65534:4294967295; do
