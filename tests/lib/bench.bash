@@ -44,13 +44,18 @@ timeout() { command timeout --foreground "$@"; }
 
 # ---- Checks
 
-# is NAME WANTED GOT: one check
+# is NAME WANTED GOT: one check. Of texts of lines it tells those that the other hasn't
 is() {
-  if [ "$2" = "$3" ]; then
+  local wanted=$2 got=$3
+  if [ "$wanted" = "$got" ]; then
     passed=$((passed + 1))
   else
     failed=$((failed + 1))
-    printf 'fails: %s: wanted %q, got %q\n' "$1" "$2" "$3"
+    if [[ $wanted == *$'\n'* && $got == *$'\n'* ]]; then
+      wanted=$(diff <(printf '%s\n' "$2") <(printf '%s\n' "$3") | sed -n 's/^< //p')
+      got=$(diff <(printf '%s\n' "$2") <(printf '%s\n' "$3") | sed -n 's/^> //p')
+    fi
+    printf 'fails: %s: wanted %q, got %q\n' "$1" "$wanted" "$got"
   fi
 }
 
