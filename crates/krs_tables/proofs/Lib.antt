@@ -12,3 +12,4 @@ pub mod WatchedKeys
 pub mod Removals
 pub mod Wanting
 pub mod KeptKeys
+pub mod OutOfReach

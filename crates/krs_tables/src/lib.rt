@@ -4,6 +4,7 @@
 //! definitions in `krs_model`.
 #![tactic(auto)]
 
+mod apart;
 mod holding;
 mod made_keys;
 mod making;

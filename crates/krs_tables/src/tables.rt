@@ -109,6 +109,26 @@ impl Tables {
         ensures { result ≡ possessed self.now context.now serial }
     {
         let ring = self.process_ring(context.process);
+        match self
+            .walker
+            .possesses_soon(&self.keys, context, ring, self.clock, name, serial)
+        {
+            Some(possessed) => possessed,
+            None => self.possesses_among_many(context, serial, name),
+        }
+    }
+
+    /// The same where that takes a look at many keyrings, unless the key is soon known to be out of their reach.
+    #[inline(never)]
+    #[tactic(auto, unfolding(krs_model::specs::Possession::possessed))]
+    fn possesses_among_many(&self, context: &Context, serial: Serial, name: &HashedName) -> bool
+        requires { name_in self.now serial ≡ Some name.now }
+        ensures { result ≡ possessed self.now context.now serial }
+    {
+        if self.is_apart(context, serial) {
+            return false;
+        }
+        let ring = self.process_ring(context.process);
         self.walker
             .possesses_named(&self.keys, context, ring, self.clock, name, serial)
     }
