@@ -8,8 +8,7 @@ ghost use Rattle.krs_walk.specs.Walks.{followed_rings};
 use crate::possession::{Sought, followed_rings};
 use krs_types::Serial;
 
-/// So many keyrings are few: they are walked over in about the time in which it is told from a key whether it hangs below
-/// them.
+/// So many keyrings are few: a walk over them takes about as long as to tell from a key whether it hangs below them.
 const FEW_RINGS: usize = 1024;
 
 impl Sought<'_> {
@@ -57,8 +56,8 @@ impl Sought<'_> {
         true
     }
 
-    /// Whether many keyrings are nested in the attached ones and in so many levels below them. No clause speaks of it: it
-    /// tells where to begin.
+    /// Whether many keyrings are nested in the attached ones and in so many levels below them. It only tells where to
+    /// begin, so no clause speaks of it.
     pub(crate) fn nests_many(&self, levels: u8) -> bool
         requires fit { AreFit self.now.keys.now.keys }
     {
