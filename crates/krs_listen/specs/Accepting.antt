@@ -1,6 +1,7 @@
--- What an acceptor over a socket shows: its counts; and which of its failures pass.
+-- What an acceptor over a socket shows: its counts; which of its failures pass; and how many seats there are.
 use Rattle.std.specs.Prelude.{ℕ, ℤ, pos, negsuc, Bool, false, Option, None, Some, ◌==◌, ◌||◌}
 use Rattle.krs_listen.specs.declared.acceptor.SocketAcceptor.{SocketAcceptor}
+use Rattle.krs_listen.specs.declared.free.FreeSeats.{FreeSeats}
 
 -- how many connections it accepted, and how many accepts failed
 abbrev pub accepted_by : {R F : Type 0} → SocketAcceptor R F → ℕ
@@ -15,3 +16,7 @@ abbrev pub is_passing : Option ℤ → Bool
 is_passing None = false
 is_passing (Some (negsuc n)) = false
 is_passing (Some (pos n)) = n == 11 || n == 12 || n == 23 || n == 24 || n == 103 || n == 105
+
+-- how many seats there are, those in use among them
+abbrev pub seat_count : {S : Type 0} → FreeSeats S → ℕ
+seat_count seats = seats.count

@@ -1,7 +1,11 @@
-ghost use Rattle.std.specs.Prelude.{◌≡◌, ◌<◌, ◌++◌, ◌∷◌, [], ◌↔◌, IfErr, OnOk, OnErr, IsErr, vec_len, vec_capacity};
+ghost use Rattle.std.specs.Prelude.{◌≡◌, ◌<◌, ◌++◌, ◌∷◌, [], ◌↔◌, IfErr, OnOk, OnErr, IsErr, IfSome, IfNone, IsSome};
+ghost use Rattle.std.specs.Prelude.{vec_len, vec_capacity};
+ghost use Rattle.krs_listen.specs.Accepting.{seat_count};
 
 use crate::AwaitsEnd;
 use crate::free_list::FreeList;
+use std::alloc::Global;
+use std::mem;
 use std::sync::{Condvar, CondvarTimeouts, Mutex, Wait};
 use std::time::{Clock, Duration};
 
@@ -10,12 +14,17 @@ use std::time::{Clock, Duration};
 pub struct FreeSeats<S> {
     seats: Mutex<FreeList<S>>,
     returned: Condvar,
+    /// How many there are, those in use among them.
+    count: usize,
 }
 
 impl<S: Drop> FreeSeats<S> {
     /// All of these are free. The list keeps room for each of them.
-    pub fn new(seats: Vec<S>) -> FreeSeats<S> {
+    pub fn new(seats: Vec<S>) -> FreeSeats<S>
+        ensures { seat_count result ≡ vec_len seats }
+    {
         FreeSeats {
+            count: seats.len(),
             seats: Mutex::new(FreeList::new(seats)),
             returned: Condvar::new(),
         }
@@ -39,6 +48,23 @@ impl<S: Drop> FreeSeats<S> {
     pub fn give<R: Wait>(&self, rt: &R, seat: S) {
         let _ = put_back(&mut self.seats.lock(rt).free, seat);
         self.returned.notify_one();
+    }
+
+    /// All seats, once each has been given back. Nothing is free then.
+    pub fn take_all<R: Wait>(&self, rt: &R, alloc: Global) -> Vec<S>
+        ensures { vec_len result ≡ seat_count self.now }
+    {
+        let count = self.count;
+        for _ in rt.forever() {
+            let seats = self.seats.lock(rt);
+            let mut seats = self
+                .returned
+                .wait_while(rt, seats, |seats| !seats.are_as_many(count));
+            if let Some(all) = all_of(&mut seats.free, alloc, count) {
+                return all;
+            }
+        }
+        unreachable!()
     }
 }
 
@@ -68,4 +94,17 @@ fn put_back<S: Drop>(free: &mut Vec<S>, seat: S) -> Result<(), S>
         return Ok(());
     }
     Err(seat)
+}
+
+/// What is in a list, where that are so many.
+fn all_of<S: Drop>(free: &mut Vec<S>, alloc: Global, count: usize) -> Option<Vec<S>>
+    ensures all { IfSome result (λ all. all.items ≡ free.old.items) }
+    ensures many { IfSome result (λ all. vec_len all ≡ count) }
+    ensures none { IfNone result (free.new ≡ free.old) }
+    ensures when { IsSome result ↔ (vec_len free.old ≡ count) }
+{
+    if free.len() != count {
+        return None;
+    }
+    Some(mem::replace(free, Vec::new(alloc)))
 }
