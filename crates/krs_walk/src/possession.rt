@@ -183,6 +183,17 @@ impl Sought<'_> {
         if self.is_hinted() {
             return Some(true);
         }
+        self.is_linked_unhinted(walker)
+    }
+
+    /// The same, where no hint leads to a link in the two nearest levels.
+    #[inline(never)]
+    fn is_linked_unhinted(&self, walker: &Walker) -> Option<bool>
+        requires fit { AreFit self.now.keys.now.keys }
+        requires name { name_at self.now.keys.now.keys self.now.serial ≡ Some self.now.name.now }
+        ensures { IfSome result (λ b. b ≡
+            is_linked (shown self.now.keys.now.keys) self.now.clock self.now.context.now self.now.process_ring self.now.serial) }
+    {
         if self.nests_many(0) {
             return self.is_linked_by_hints();
         }
