@@ -1,9 +1,10 @@
 -- The seats of a new desk.
-use Rattle.std.proofs.Common.{◌≡◌, ℕ, zero, suc, All, List, [], refl}
+use Rattle.std.proofs.Common.{◌≡◌, ℕ, zero, suc, All, List, refl}
 use Rattle.std.proofs.lemmas.List.Elements.{All-nil, All-push, All-same}
 use Rattle.atomic_table.specs.Seated.{TableId}
 use Rattle.krs_model.specs.State.{State}
 use Rattle.krs_desk.specs.Sitting.{Sitting, fresh_seat, fresh_seats}
+use Rattle.krs_serve.specs.Visits.{IsNew}
 
 fresh_opened : (table : TableId) (a : State) (n : ℕ) → All (λ s. s.opening ≡ a) (fresh_seats table a n)
 fresh_opened table a zero = All-nil (λ (s : Sitting). s.opening ≡ a)
@@ -17,15 +18,12 @@ pub all_opened :
 all_opened table a n xs is =
     All-same (λ (s : Sitting). s.opening ≡ a) xs (fresh_seats table a n) is (fresh_opened table a n)
 
-fresh_unasked : (table : TableId) (a : State) (n : ℕ) → All (λ s. s.part.mine ≡ []) (fresh_seats table a n)
-fresh_unasked table a zero = All-nil (λ (s : Sitting). s.part.mine ≡ [])
+fresh_unasked : (table : TableId) (a : State) (n : ℕ) → All IsNew (fresh_seats table a n)
+fresh_unasked table a zero = All-nil IsNew
 fresh_unasked table a (suc n) =
-    All-push (λ (s : Sitting). s.part.mine ≡ []) (fresh_seats table a n) (fresh_seat table a n)
-    (fresh_unasked table a n) refl
+    All-push IsNew (fresh_seats table a n) (fresh_seat table a n) (fresh_unasked table a n) (refl, refl)
 
--- and nothing was asked on it
+-- and is new
 pub all_unasked :
-    (table : TableId) (a : State) (n : ℕ) (xs : List Sitting) → xs ≡ fresh_seats table a n
-    → All (λ s. s.part.mine ≡ []) xs
-all_unasked table a n xs is =
-    All-same (λ (s : Sitting). s.part.mine ≡ []) xs (fresh_seats table a n) is (fresh_unasked table a n)
+    (table : TableId) (a : State) (n : ℕ) (xs : List Sitting) → xs ≡ fresh_seats table a n → All IsNew xs
+all_unasked table a n xs is = All-same IsNew xs (fresh_seats table a n) is (fresh_unasked table a n)

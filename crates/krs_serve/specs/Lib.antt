@@ -1,3 +1,4 @@
 pub mod Sessions
+pub mod Visits
 pub mod OneDesk
 pub mod AtDesk

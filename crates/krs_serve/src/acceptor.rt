@@ -2,7 +2,7 @@ ghost use Rattle.std.specs.Prelude.{◌≡◌, ◌<◌, ◌+◌, ℕ, OnOk, IfEr
 ghost use Rattle.krs_listen.specs.Accepting.{accepted_by, failed_at};
 
 use crate::connection::guest_of;
-use crate::{AtDesk, Sitting, SocketGuest};
+use crate::{AtDesk, SocketGuest, SocketSitting};
 use krs_listen::{AwaitsEnd, SocketAcceptor};
 use std::sync::Wait;
 use std::time::Clock;
@@ -28,13 +28,16 @@ pub trait Acceptor<G, F> {
 
 impl<'a, 'd, R: Wait + Clock, F: AwaitsEnd<R>, N: AtDesk> Acceptor<
     SocketGuest<'d, N>,
-    Sitting<'d, N>,
+    SocketSitting<'d, N>,
 > for SocketAcceptor<'a, R, F> {
     ghost accepted = { accepted_by };
 
     ghost failures = { failed_at };
 
-    fn accept(&mut self, free: Sitting<'d, N>) -> Result<SocketGuest<'d, N>, Sitting<'d, N>> {
+    fn accept(
+        &mut self,
+        free: SocketSitting<'d, N>,
+    ) -> Result<SocketGuest<'d, N>, SocketSitting<'d, N>> {
         match SocketAcceptor::accept(self) {
             Some((reader, writer)) => Ok(guest_of(free, reader, writer)),
             None => Err(free),

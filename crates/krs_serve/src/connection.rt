@@ -3,12 +3,14 @@
 ghost use Rattle.std.specs.Prelude.{◌≡◌, [], List, All, IfOk, vec_len};
 ghost use Rattle.krs_types.specs.declared.event.Event.{Event};
 ghost use Rattle.krs_model.specs.State.{starting_at};
-ghost use Rattle.krs_desk.specs.Sitting.{IsIdleAt};
+ghost use Rattle.krs_desk.specs.Seen.{IsOneHistory};
+ghost use Rattle.krs_desk.specs.Sitting.{IsIdleAt, Meets};
 ghost use Rattle.krs_wire.specs.declared.framed.Framed.{Framed};
 ghost use Rattle.krs_session.specs.declared.ended.Ended.{Ended};
 ghost use Rattle.krs_session.specs.Leads.{GainsSession};
 ghost use Rattle.krs_session.specs.Session.{HaveRoom, counts_of};
 ghost use Rattle.krs_serve.specs.Sessions.{ServesAtDesk, entry};
+ghost use Rattle.krs_serve.specs.Visits.{IsVisited, HasJustItsCalls, IsNew};
 
 use crate::{Entry, OpenGate, serve_entry};
 use krs_desk::{Desk, Seat};
@@ -35,22 +37,28 @@ impl AtDesk for Brand {
 }
 
 /// A seat beside its desk, as it goes from one thread to another. The desk was opened with an empty store. The seat is as
-/// it was dealt, or as its last session left it.
+/// it was dealt, or as its last session left it: what was asked on it are the asks of connections with such ends, one
+/// after another.
 #[derive(Drop)]
-pub struct Sitting<'d, N: AtDesk> {
+pub struct Sitting<'d, N: AtDesk, R: Source, W: Sink> {
     desk: &'d Desk,
     seat: Seat,
     at: PhantomData<N>,
+    ends: PhantomData<(R, W)>,
     pub ghost here: { desk.now ≡ N.desk },
     pub ghost own: { IsIdleAt N.desk seat },
     pub ghost empty: { seat.opening ≡ starting_at 3 },
+    pub ghost just: { HasJustItsCalls seat },
+    pub ghost visited: { ∥ IsVisited R.Source W.Sink 16777216 seat ∥₁ },
 }
 
 /// A seat that was dealt, or left by a session, beside its desk.
-fn sitting_of<'d, N: AtDesk>(desk: &'d Desk, seat: Seat) -> Sitting<'d, N>
+fn sitting_of<'d, N: AtDesk, R: Source, W: Sink>(desk: &'d Desk, seat: Seat) -> Sitting<'d, N, R, W>
     requires here { desk.now ≡ N.desk }
     requires own { IsIdleAt N.desk seat }
     requires empty { seat.opening ≡ starting_at 3 }
+    requires just { HasJustItsCalls seat }
+    requires visited { ∥ IsVisited R.Source W.Sink 16777216 seat ∥₁ }
     ensures desk { result.desk ≡ desk.entry }
     ensures seat { result.seat ≡ seat }
 {
@@ -58,19 +66,20 @@ fn sitting_of<'d, N: AtDesk>(desk: &'d Desk, seat: Seat) -> Sitting<'d, N>
         desk,
         seat,
         at: PhantomData,
+        ends: PhantomData,
     }
 }
 
 /// Each seat beside its desk. Nothing was asked on any of them.
-pub fn seated<'d, N: AtDesk>(
+pub(crate) fn seated<'d, N: AtDesk, R: Source, W: Sink>(
     alloc: Global,
     desk: &'d Desk,
     seats: Vec<Seat>,
-) -> Result<Vec<Sitting<'d, N>>, AllocError>
+) -> Result<Vec<Sitting<'d, N, R, W>>, AllocError>
     requires here { desk.now ≡ N.desk }
     requires own { All (IsIdleAt N.desk) seats.items }
     requires empty { All (λ seat. seat.opening ≡ starting_at 3) seats.items }
-    requires unasked { All (λ seat. seat.part.mine ≡ []) seats.items }
+    requires unasked { All IsNew seats.items }
     ensures count { IfOk result (λ sittings. vec_len sittings ≡ vec_len seats) }
     ensures unasked { IfOk result (λ sittings. All (λ s. s.seat.part.mine ≡ []) sittings.items) }
 {
@@ -85,17 +94,50 @@ pub fn seated<'d, N: AtDesk>(
     Ok(sittings)
 }
 
+/// What a seat has seen is one legal history.
+pub(crate) fn see_one_history<N: AtDesk, R: Source, W: Sink>(sitting: &Sitting<'_, N, R, W>)
+    ensures { IsOneHistory sitting.now.seat.opening sitting.now.seat.part.seen }
+{
+    sitting.seat.has_seen_one_history();
+}
+
+/// Two seats meet: both have then seen one history, which has the calls of both.
+pub(crate) fn meet_two<'d, N: AtDesk, R: Source, W: Sink>(
+    first: Sitting<'d, N, R, W>,
+    second: Sitting<'d, N, R, W>,
+) -> (Sitting<'d, N, R, W>, Sitting<'d, N, R, W>)
+    ensures { Meets first.entry.seat second.entry.seat result.0.seat result.1.seat }
+{
+    let Sitting {
+        desk,
+        seat,
+        at: _,
+        ends: _,
+    } = first;
+    let Sitting {
+        desk: _,
+        seat: other,
+        at: _,
+        ends: _,
+    } = second;
+    let (mut seat, mut other) = (seat, other);
+    desk.meet(&mut seat, &mut other);
+    let one = sitting_of(desk, seat);
+    let two = sitting_of(desk, other);
+    (one, two)
+}
+
 /// A connection that was accepted, at the seat that was free for it. Whoever lets it go unserved lets its seat go.
 #[derive(Drop)]
 pub struct Guest<'d, N: AtDesk, R: Source + Drop, W: Sink + Drop> {
-    sitting: Sitting<'d, N>,
+    sitting: Sitting<'d, N, R, W>,
     reader: R,
     writer: W,
     pub ghost room: { HaveRoom 16777216 (counts_of R.reads R.empties R.failures W.failures reader writer) },
 }
 
 impl<'d, N: AtDesk, R: Source + Drop, W: Sink + Drop> Guest<'d, N, R, W> {
-    fn new(sitting: Sitting<'d, N>, reader: R, writer: W) -> Guest<'d, N, R, W>
+    fn new(sitting: Sitting<'d, N, R, W>, reader: R, writer: W) -> Guest<'d, N, R, W>
         requires room { HaveRoom 16777216 (counts_of R.reads R.empties R.failures W.failures reader writer) }
         ensures sitting { result.sitting ≡ sitting.entry }
         ensures reader { result.reader ≡ reader }
@@ -109,12 +151,14 @@ impl<'d, N: AtDesk, R: Source + Drop, W: Sink + Drop> Guest<'d, N, R, W> {
     }
 }
 
-/// The ends of a connection that was accepted, as a session meets them.
+/// The seats of the daemon, and the ends of a connection that was accepted, as a session meets them.
+pub type SocketSitting<'d, N> = Sitting<'d, N, Over<SocketReader>, Over<SocketWriter>>;
+
 pub type SocketGuest<'d, N> = Guest<'d, N, Over<SocketReader>, Over<SocketWriter>>;
 
 /// Who came over a socket, at the seat that was free. No guest is made elsewhere, so that a daemon has none of its own.
 pub(crate) fn guest_of<'d, N: AtDesk>(
-    sitting: Sitting<'d, N>,
+    sitting: SocketSitting<'d, N>,
     reader: SocketReader,
     writer: SocketWriter,
 ) -> SocketGuest<'d, N>
@@ -131,7 +175,7 @@ pub fn serve_connection<'d, N: AtDesk, H: Wait, R: Source + Drop, W: Sink + Drop
     alloc: Global,
     guest: Guest<'d, N, R, W>,
     clock: C,
-) -> Sitting<'d, N>
+) -> Sitting<'d, N, R, W>
     ensures desk { result.desk ≡ guest.entry.sitting.desk }
     ensures session { (ended : Ended) × ServesAtDesk R.Source C.Clock W.Sink 16777216
         (entry guest.entry.reader guest.entry.writer clock) guest.entry.sitting.seat result.seat ended }
@@ -144,7 +188,12 @@ pub fn serve_connection<'d, N: AtDesk, H: Wait, R: Source + Drop, W: Sink + Drop
         reader,
         writer,
     } = guest;
-    let Sitting { desk, seat, at: _ } = sitting;
+    let Sitting {
+        desk,
+        seat,
+        at: _,
+        ends: _,
+    } = sitting;
     a_session_is_its_asks_and_leave::<R, W, C>();
     let connection = Entry {
         reader,

@@ -8,14 +8,18 @@ ghost use Rattle.krs_listen.specs.declared.choice.Choice.{Choice as ChoiceIs};
 ghost use Rattle.krs_listen.specs.Choice.{IsUnread, LeadsTo};
 ghost use Rattle.krs_listen.specs.Daemon.{Answers, EndsAs, Serves, connections_of, served_line};
 ghost use Rattle.krs_listen.specs.Saying.{heard};
+ghost use Rattle.krs_serve.specs.Visits.{IsNew};
 
-use crate::listening::{Hosting, accept_all};
-use crate::{AtDesk, seated};
+use crate::AtDesk;
+use crate::apart::Hosting;
+use crate::connection::seated;
+use crate::listening::accept_all;
 use krs_desk::{Desk, Refused, Seat};
 use krs_listen::{
     Accepted, Accepts, Choice, FreeSeats, Latest, Lines, NOT_BOUND, NOT_TEXT, OUT_OF_MEMORY,
-    Options, USAGE, Voices, choose, tell_cause,
+    Options, SocketReader, SocketWriter, USAGE, Voices, choose, tell_cause,
 };
+use krs_session::Over;
 use krs_store::{Seed, Store};
 use std::alloc::Global;
 use std::env::Args;
@@ -88,7 +92,7 @@ fn opened(
     ensures seats { IfOk result (λ d. d.1.items ≡ fresh_seats d.0 (starting_at 3) options.now.lanes) }
     ensures own { IfOk result (λ d. All (IsIdleAt d.0) d.1.items) }
     ensures empty { IfOk result (λ d. All (λ seat. seat.opening ≡ starting_at 3) d.1.items) }
-    ensures unasked { IfOk result (λ d. All (λ seat. seat.part.mine ≡ []) d.1.items) }
+    ensures unasked { IfOk result (λ d. All IsNew d.1.items) }
 {
     let seed = seed_of(RandomState::new(rt));
     Desk::open(alloc, options.lanes, Store::seeded(alloc, seed))
@@ -138,7 +142,7 @@ fn serve_all<
         (heard W.contents voices.old.output) (heard W.contents voices.new.output)
         (heard E.contents voices.old.errors) (heard E.contents voices.new.errors) result.0 }
 {
-    let (accepted, counts) = accept_all(hosting, listener, connections, voices);
+    let (accepted, counts, _seats) = accept_all(hosting, listener, connections, voices);
     let _ = fs::remove_file(hosting.rt, path);
     match accepted {
         Accepted::All => {
@@ -184,13 +188,13 @@ fn listen_at<
     requires here { desk.now ≡ N.desk }
     requires own { All (IsIdleAt desk.now) seats.items }
     requires empty { All (λ seat. seat.opening ≡ starting_at 3) seats.items }
-    requires unasked { All (λ seat. seat.part.mine ≡ []) seats.items }
+    requires unasked { All IsNew seats.items }
     ensures { Serves options.now (heard W.contents voices.old.output) (heard W.contents voices.new.output)
         (heard E.contents voices.old.errors) (heard E.contents voices.new.errors) result }
 {
     let path = options.path.as_str();
     let connections = connections_for(options.accept);
-    let made = seated::<N>(alloc, desk, seats);
+    let made = seated::<N, Over<SocketReader>, Over<SocketWriter>>(alloc, desk, seats);
     let (Ok(sittings), Ok(lines)) = (made, Lines::new(alloc, path, connections)) else {
         voices.output.say(OUT_OF_MEMORY);
         return 1;

@@ -2,6 +2,7 @@
 #![tactic(auto)]
 
 mod acceptor;
+mod apart;
 mod clock;
 mod connection;
 mod daemon;
@@ -13,9 +14,9 @@ mod sessions;
 
 pub use acceptor::Acceptor;
 pub use clock::SystemClock;
-pub use connection::{AtDesk, Guest, Sitting, SocketGuest, seated, serve_connection};
+pub use connection::{AtDesk, Guest, Sitting, SocketGuest, SocketSitting, serve_connection};
 pub use daemon::{listen, run_daemon};
 pub use entry::{Entry, serve_entry};
 pub use gate::OpenGate;
 pub use krs_listen::{Latest, Voice, Voices};
-pub use sessions::{run_sessions, serve_at_one_desk, serve_sessions};
+pub use sessions::{run_sessions, serve_sessions};

@@ -1,53 +1,24 @@
-ghost use Rattle.std.specs.Prelude.{◌≡◌, ◌<◌, ◌+◌, ◌^◌};
+ghost use Rattle.std.specs.Prelude.{◌≡◌, ◌<◌, ◌+◌, ◌^◌, map, vec_len};
+ghost use Rattle.krs_listen.specs.Accepting.{seat_count};
 ghost use Rattle.krs_listen.specs.Daemon.{AcceptsBy, TellsAccepted};
 ghost use Rattle.krs_listen.specs.Saying.{heard};
 ghost use Rattle.krs_listen.specs.Telling.{TellsFailure};
+ghost use Rattle.krs_serve.specs.OneDesk.{ServeInOneHistory};
 
-use crate::{Acceptor, AtDesk, Guest, Sitting, SocketGuest, SystemClock, serve_connection};
+use crate::apart::{Hosted, Hosting, serve_apart};
+use crate::meeting::meet_all;
+use crate::{Acceptor, AtDesk, SocketGuest, SocketSitting};
 use krs_listen::{
-    Accepted, Accepts, FreeSeats, Latest, NOT_ACCEPTED, SocketAcceptor, Voice, Voices,
+    Accepted, Accepts, NOT_ACCEPTED, SocketAcceptor, SocketReader, SocketWriter, Voice, Voices,
     tell_accepted,
 };
-use krs_session::{Sink, Source};
-use std::alloc::Global;
+use krs_session::{Over, Sink, Source};
 use std::io::Write;
 use std::os::unix::net::UnixListener;
 use std::sync::Wait;
 use std::thread;
 use std::thread::{Scope, Threads};
 use std::time::Clock;
-
-/// What each connection is given.
-#[derive(Drop)]
-pub struct Hosting<'s, 'd, N: AtDesk, R> {
-    pub rt: &'s R,
-    pub alloc: Global,
-    /// The seats, and where its own goes when it has ended.
-    pub free: &'s FreeSeats<Sitting<'d, N>>,
-    pub latest: &'s Latest,
-}
-
-/// Serves a connection on its seat, by a clock of its own, and gives the seat back.
-fn serve_guest<'s, 'd, N: AtDesk, R: Wait + Clock, I: Source + Drop, O: Sink + Drop>(
-    hosting: &Hosting<'s, 'd, N, R>,
-    guest: Guest<'d, N, I, O>,
-) {
-    let clock = SystemClock::new(hosting.rt, hosting.latest);
-    let sitting = serve_connection(hosting.rt, hosting.alloc, guest, clock);
-    hosting.free.give(hosting.rt, sitting);
-}
-
-/// Has a connection served in a thread of its own. Where no thread can be started it is served at once.
-fn serve_apart<'s, 'd, E, N: AtDesk + Send + Sync, R: Threads + Wait + Clock + Sync>(
-    hosting: &'s Hosting<'s, 'd, N, R>,
-    guest: SocketGuest<'d, N>,
-    scope: &'s Scope<'s, E>,
-) {
-    let serving = move || serve_guest(hosting, guest);
-    if let Err(refused) = scope.spawn(serving) {
-        (refused.value)();
-    }
-}
 
 /// Accepts so many connections, each for a free seat that it waits for, and has each served. A failed accept is told
 /// at once, and nothing is accepted after it.
@@ -57,7 +28,7 @@ fn accept_each<
     E,
     N: AtDesk + Send + Sync,
     R: Threads + Wait + Clock + Sync,
-    A: Acceptor<SocketGuest<'d, N>, Sitting<'d, N>>,
+    A: Acceptor<SocketGuest<'d, N>, SocketSitting<'d, N>>,
     W: Write,
 >(
     hosting: &'s Hosting<'s, 'd, N, R>,
@@ -65,16 +36,19 @@ fn accept_each<
     connections: u64,
     output: &mut Voice<W>,
     scope: &'s Scope<'s, E>,
+    hosted: &mut Hosted,
 ) -> Accepted
     requires accepted { A.accepted acceptor.old + connections < 2 ^ 64 }
     requires failures { A.failures acceptor.old < u64.MAX }
+    requires hosted { hosted.old.guests + connections < 2 ^ 64 }
     ensures count { AcceptsBy connections (A.accepted acceptor.old) (A.accepted acceptor.new)
         (A.failures acceptor.old) (A.failures acceptor.new) result }
     ensures told { TellsAccepted result (heard W.contents output.old) (heard W.contents output.new) }
+    ensures hosted { hosted.new.guests + A.accepted acceptor.old ≡ hosted.old.guests + A.accepted acceptor.new }
 {
     'accepts: for made in 0..connections {
         match acceptor.accept(hosting.free.take(hosting.rt)) {
-            Ok(guest) => serve_apart(hosting, guest, scope),
+            Ok(guest) => serve_apart(hosting, guest, scope, hosted),
             Err(sitting) => {
                 output.say(NOT_ACCEPTED);
                 hosting.free.give(hosting.rt, sitting);
@@ -107,12 +81,14 @@ fn accept_over<
     ensures cause { TellsFailure result.0 (heard E.contents voices.old.errors) (heard E.contents voices.new.errors) }
 {
     let mut acceptor = SocketAcceptor::new(hosting.rt, hosting.alloc, listener, hosting.free);
+    let mut hosted = Hosted::none();
     let accepted = accept_each(
         hosting,
         &mut acceptor,
         connections,
         &mut voices.output,
         scope,
+        &mut hosted,
     );
     let cause = acceptor.cause();
     tell_accepted(hosting.alloc, &mut voices.errors, accepted, &cause);
@@ -120,7 +96,8 @@ fn accept_over<
 }
 
 /// Accepts so many connections, and gives their counts. A failed accept is told at once. Then the socket is closed, and
-/// what was accepted is served to its end.
+/// what was accepted is served to its end. All seats come back, and meet: so there is one legal history, from the empty
+/// store, in which the calls of each are those of one connection after another.
 pub fn accept_all<
     's,
     'd,
@@ -133,10 +110,13 @@ pub fn accept_all<
     listener: UnixListener,
     connections: u64,
     voices: &mut Voices<W, E>,
-) -> (Accepted, Accepts)
+) -> (Accepted, Accepts, Vec<SocketSitting<'d, N>>)
     ensures count { AcceptsBy connections 0 result.1.accepted 0 result.1.failures result.0 }
     ensures told { TellsAccepted result.0 (heard W.contents voices.old.output) (heard W.contents voices.new.output) }
     ensures cause { TellsFailure result.0 (heard E.contents voices.old.errors) (heard E.contents voices.new.errors) }
+    ensures seats { vec_len result.2 ≡ seat_count hosting.now.free.now }
+    ensures one_history { ServeInOneHistory ⟦<Over<SocketReader> as Source>⟧ ⟦<Over<SocketWriter> as Sink>⟧ 16777216
+        (map (λ s. s.seat) result.2.items) }
 {
     let (accepted, counts, _voices) = thread::scope(
         thread::scope_env(),
@@ -146,5 +126,6 @@ pub fn accept_all<
             (accepted, counts, voices)
         },
     );
-    (accepted, counts)
+    let seats = meet_all(hosting.free.take_all(hosting.rt, hosting.alloc));
+    (accepted, counts, seats)
 }

@@ -1,51 +1,57 @@
-//! Seats that meet after their sessions, and so learn that these stand in one history.
-ghost use Rattle.std.specs.Prelude.{◌≡◌, All};
+//! Seats that meet after their connections, and so learn that these stand in one history.
+ghost use Rattle.std.specs.Prelude.{◌≡◌, map, vec_len};
 ghost use Rattle.std.specs.VecDeque.{deque_len, deque_capacity};
-ghost use Rattle.krs_desk.specs.Sitting.{IsIdleAt};
+ghost use Rattle.krs_model.specs.State.{starting_at};
 ghost use Rattle.krs_desk.specs.Seen.{IsOneHistory};
-ghost use Rattle.krs_serve.specs.OneDesk.{HasJustItsCalls, MeetsEach, HaveOneHistory};
+ghost use Rattle.krs_serve.specs.OneDesk.{MeetsEach, HaveOneHistory, ServeInOneHistory};
 
-use krs_desk::{Desk, Seat};
+use crate::connection::{meet_two, see_one_history};
+use crate::{AtDesk, Sitting};
+use krs_session::{Sink, Source};
 use std::collections::VecDeque;
 
 /// The first meets each of the others, which stay in order.
-fn meet_each<E>(desk: &Desk, first: &mut Seat, others: &mut VecDeque<(Seat, E)>)
-    requires first { IsIdleAt desk.now first.old }
-    requires own { HasJustItsCalls first.old }
-    requires history { IsOneHistory first.old.opening first.old.part.seen }
-    requires others { All (λ other. IsIdleAt desk.now other.0) others.old.items }
-    ensures first { IsIdleAt desk.now first.new }
-    ensures others { All (λ other. IsIdleAt desk.now other.0) others.new.items }
-    ensures met { MeetsEach first.old others.old.items first.new others.new.items }
+fn meet_each<'d, N: AtDesk, R: Source, W: Sink>(
+    first: Sitting<'d, N, R, W>,
+    others: &mut VecDeque<Sitting<'d, N, R, W>>,
+) -> Sitting<'d, N, R, W>
+    requires { IsOneHistory first.seat.opening first.seat.part.seen }
+    ensures met { MeetsEach first.entry.seat (map (λ s. s.seat) others.old.items) result.seat
+        (map (λ s. s.seat) others.new.items) }
     ensures len { deque_len others.new ≡ deque_len others.old }
     ensures room { deque_capacity others.new ≡ deque_capacity others.old }
 {
     let count = others.len();
+    let mut first = first;
     'others: for _met in 0..count {
-        let Some((mut other, beside)) = others.pop_front() else {
+        let Some(other) = others.pop_front() else {
             unreachable!()
         };
-        desk.meet(first, &mut other);
-        others.push_back_reserved((other, beside));
+        let (again, met) = meet_two(first, other);
+        first = again;
+        others.push_back_reserved(met);
     }
+    first
 }
 
 /// Has the seats meet until each knows of one history that has the calls of all. The first meets the others twice: what
 /// it has seen after the first round has all their calls, and what they have seen after the second begins with that and
 /// has no others.
-pub(crate) fn meet_all<E>(desk: &Desk, seats: Vec<(Seat, E)>) -> Vec<(Seat, E)>
-    requires idle { All (λ seat. IsIdleAt desk.now seat.0) seats.items }
-    requires own { All (λ seat. HasJustItsCalls seat.0) seats.items }
-    ensures idle { All (λ seat. IsIdleAt desk.now seat.0) result.items }
-    ensures history { HaveOneHistory seats.items result.items }
+pub(crate) fn meet_all<'d, N: AtDesk, R: Source, W: Sink>(
+    seats: Vec<Sitting<'d, N, R, W>>,
+) -> Vec<Sitting<'d, N, R, W>>
+    ensures len { vec_len result ≡ vec_len seats.entry }
+    ensures met { HaveOneHistory (starting_at 3) (map (λ s. s.seat) seats.entry.items)
+        (map (λ s. s.seat) result.items) }
+    ensures history { ServeInOneHistory R.Source W.Sink 16777216 (map (λ s. s.seat) result.items) }
 {
     let mut others = VecDeque::from(seats);
-    let Some((mut first, beside)) = others.pop_front() else {
+    let Some(first) = others.pop_front() else {
         return Vec::from(others);
     };
-    first.has_seen_one_history();
-    meet_each(desk, &mut first, &mut others);
-    meet_each(desk, &mut first, &mut others);
-    others.push_front_reserved((first, beside));
+    see_one_history(&first);
+    let once = meet_each(first, &mut others);
+    let twice = meet_each(once, &mut others);
+    others.push_front_reserved(twice);
     Vec::from(others)
 }

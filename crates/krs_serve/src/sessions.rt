@@ -2,17 +2,12 @@ ghost use Rattle.std.specs.Prelude.{◌≡◌, ◌<◌, ℕ, All, IfOk, IfErr, m
 ghost use Rattle.std.specs.List.{AllZip, zip};
 ghost use Rattle.krs_types.specs.declared.errno.Errno.TheVariants.{ENOMEM};
 ghost use Rattle.krs_session.specs.Session.{HaveRoom, counts_of};
-ghost use Rattle.krs_desk.specs.Sitting.{IsIdleAt};
-ghost use Rattle.krs_serve.specs.OneDesk.{ServeInOneHistory};
 ghost use Rattle.krs_serve.specs.Sessions.{EndsSession, ServesEntry};
 
-use crate::meeting::meet_all;
 use crate::{Entry, serve_entry};
-use krs_desk::{Desk, Seat};
 use krs_session::{Clock, Ended, Gate, Keeper, Sink, Source};
 use krs_types::Errno;
 use std::alloc::{AllocError, Global};
-use std::sync::Wait;
 use std::thread;
 use std::thread::Threads;
 
@@ -96,37 +91,6 @@ pub fn serve_sessions<
         Ok(served) => Ok(served),
         Err(_) => Err(Errno::ENOMEM),
     }
-}
-
-/// Serves many connections at once on seats of one desk, as `serve_sessions` does, and has the seats meet then. There is
-/// one legal history of them all: in it each connection's asks are those of the frames that it sent, in order, and then
-/// one LEAVE; and what was written to it is the text of their replies, as far as the connection took it.
-pub fn serve_at_one_desk<
-    H: Threads + Wait + Sync,
-    R: Source + Send + Drop,
-    W: Sink + Send + Drop,
-    C: Clock + Send + Drop,
-    G: Gate + Sync,
->(
-    rt: &H,
-    alloc: Global,
-    list: Vec<Entry<R, W, C>>,
-    desk: &Desk,
-    seats: Vec<Seat>,
-    gate: &G,
-    turns: u64,
-) -> Result<Vec<(Seat, Ended)>, Errno>
-    requires places { vec_len seats ≡ vec_len list }
-    requires ready { All (IsIdleAt desk.now) seats.items }
-    requires room { All (λ entry. HaveRoom turns
-        (counts_of R.reads R.empties R.failures W.failures entry.reader entry.writer)) list.items }
-    ensures one_history { IfOk result (λ served. ServeInOneHistory R.Source C.Clock W.Sink turns
-        (zip list.items seats.items) served.items) }
-    ensures ready { IfOk result (λ served. All (λ done. IsIdleAt desk.now done.0) served.items) }
-    ensures memory { IfErr result (λ error. error ≡ ENOMEM) }
-{
-    let served = serve_sessions(rt, alloc, list, desk, seats, gate, turns)?;
-    Ok(meet_all(desk, served))
 }
 
 /// Each entry beside the seat of its place. They are taken from the back, as that moves no other.

@@ -3,7 +3,7 @@ ghost use Rattle.std.specs.Prelude.{◌≡◌, All, IfOk};
 ghost use Rattle.krs_session.specs.Over.{over_reads, over_empties, over_failures};
 
 use krs_desk::Desk;
-use krs_serve::{Entry, serve_at_one_desk};
+use krs_serve::{Entry, run_sessions};
 use krs_session::{Clock, Ended, Failed, Gate, Over, Point, Sink};
 use krs_store::Store;
 use krs_wire::WireFault;
@@ -166,13 +166,9 @@ fn serve_at_once<R: Threads + Wait + Sync, G: Gate + Sync>(
     if seats.len() != list.len() {
         return Err(Fail::new("not a seat for each"));
     }
-    let Ok(served) = serve_at_one_desk(rt, alloc, list, &desk, seats, gate, turns) else {
+    let Ok(ends) = run_sessions(rt, alloc, list, &desk, seats, gate, turns) else {
         return Err(Fail::new("no memory"));
     };
-    let mut ends = Vec::new(alloc);
-    for (_, ended) in &served {
-        ends.push(*ended)?;
-    }
     let mut written = Vec::new(alloc);
     for text in &texts {
         written.push(Vec::from_slice(alloc, text.lock(rt).as_slice())?)?;

@@ -13,7 +13,10 @@ accept_each-accepted-requires g c κs =
           c.type_bounds.sync-R,
           (
             (refl, (refl, tt)),
-            (omega (arith, accepted, c.ranges.connections.fits), omega (arith, failures)),
+            (
+              omega (arith, accepted, c.ranges.connections.fits),
+              (omega (arith, failures), omega (arith, c.none-hosted.ensures, c.ranges.connections.fits)),
+            ),
           ),
         ),
       ),

@@ -1,31 +1,44 @@
-use Rattle.std.proofs.Common.{◌≡◌, ◌∷◌, ◌∙◌, sym, arith}
-use Rattle.std.proofs.lemmas.List.Elements.{All-rest, All-cons}
-use Rattle.krs_desk.specs.Sitting.{IsIdleAt}
-use Rattle.krs_serve.proofs.OneDeskLemmas.{no_seats, two_rounds}
+use Rattle.std.proofs.Common.{◌∷◌, ◌∙◌, map, sym, ap, subst, arith, slice_index_or}
+use Rattle.std.proofs.lemmas.List.{length-map}
+use Rattle.std.proofs.lemmas.List.Elements.{All-map}
+use Rattle.krs_model.specs.State.{State}
+use Rattle.krs_desk.specs.Sitting.{Sitting}
+use Rattle.krs_serve.specs.OneDesk.{HaveOneHistory}
+use Rattle.krs_serve.specs.Visits.{IsVisited}
+use Rattle.krs_serve.proofs.OneDeskLemmas.{no_seats, two_rounds, serve_in_one_history}
 use Rattle.krs_serve.proofs.meeting.meet_all.Goals as goal
+
+pub returns-in_default-clause-met : goal.returns-in_default-clause-met
+returns-in_default-clause-met g c =
+    let none = length-map c.args.seats.items (λ s. s.seat) in
+    let nobody = length-map c.from.result.items (λ s. s.seat) in
+    no_seats (map (λ s. s.seat) c.args.seats.items) (map (λ s. s.seat) c.from.result.items)
+    (omega (arith, none, c.in_default.ensures.cases.0, c.from-others.ensures.1, c.args.seats.ok.0))
+    (omega (arith, nobody, c.in_default.ensures.cases.1, c.from.ensures.1, c.from.result.ok.0))
 
 pub returns-in_default-clause-history : goal.returns-in_default-clause-history
 returns-in_default-clause-history g c =
-    no_seats c.args.seats.items c.from.result.items
-    (omega (arith, c.in_default.ensures.cases.0, c.from-others.ensures.1, c.args.seats.ok.0))
-    (omega (arith, c.in_default.ensures.cases.1, c.from.ensures.1, c.from.result.ok.0))
+    serve_in_one_history g.R.Source g.W.Sink 16777216 _ _ (returns-in_default-clause-met g c)
+    (All-map (λ (s : Sitting). ∥ IsVisited g.R.Source g.W.Sink 16777216 s ∥₁) _ c.from.result.items
+    (λ k d lt. (slice_index_or c.from.result.items k d).visited))
 
-pub meet_each-requires-clause-others : goal.meet_each-requires-clause-others
-meet_each-requires-clause-others g c =
-    All-rest (λ d. IsIdleAt c.args.desk.now d.0) (c.in-Some.first, c.in-Some.beside)
-    c.pop_front.new.self.items c.args.seats.items
-    (sym c.from-others.ensures.0 ∙ c.in-Some.ensures.items) c.requires.idle
-
-pub returns-clause-idle : goal.returns-clause-idle
-returns-clause-idle g c =
-    rw (c.from-2.ensures.0, c.push_front_reserved.ensures.items) (All-cons (λ d. IsIdleAt c.args.desk.now d.0)
-    (c.meet_each-2.new.first, c.in-Some.beside) c.meet_each-2.new.others.items c.meet_each-2.ensures.first
-    c.meet_each-2.ensures.others)
+pub returns-clause-met : goal.returns-clause-met
+returns-clause-met g c =
+    let seats = ap (λ l. map (λ s. s.seat) l) (sym c.from-others.ensures.0 ∙ c.in-Some.ensures.items) in
+    let later = ap (λ l. map (λ s. s.seat) l) (c.from-2.ensures.0 ∙ c.push_front_reserved.ensures.items) in
+    rw (seats, later) (subst
+    (λ (a : State). HaveOneHistory a (c.in-Some.first.seat ∷ map (λ s. s.seat) c.pop_front.new.self.items)
+    (c.meet_each-twice.result.seat ∷ map (λ s. s.seat) c.meet_each-twice.new.others.items)) c.in-Some.first.empty
+    (two_rounds c.in-Some.first.seat c.meet_each-once.result.seat c.meet_each-twice.result.seat
+    (map (λ s. s.seat) c.pop_front.new.self.items) (map (λ s. s.seat) c.meet_each-once.new.others.items)
+    (map (λ s. s.seat) c.meet_each-twice.new.others.items) c.meet_each-once.ensures.met c.meet_each-twice.ensures.met))
 
 pub returns-clause-history : goal.returns-clause-history
 returns-clause-history g c =
-    let seats : c.args.seats.items ≡ (c.in-Some.first, c.in-Some.beside) ∷ c.pop_front.new.self.items =
-    sym c.from-others.ensures.0 ∙ c.in-Some.ensures.items in
-    rw (seats, c.from-2.ensures.0, c.push_front_reserved.ensures.items) (two_rounds c.in-Some.first
-    c.meet_each.new.first c.meet_each-2.new.first c.in-Some.beside c.pop_front.new.self.items c.meet_each.new.others.items c.meet_each-2.new.others.items
-    c.meet_each.ensures.met c.meet_each-2.ensures.met)
+    serve_in_one_history g.R.Source g.W.Sink 16777216 _ _ (returns-clause-met g c)
+    (All-map (λ (s : Sitting). ∥ IsVisited g.R.Source g.W.Sink 16777216 s ∥₁) _ c.from-2.result.items
+    (λ k d lt. (slice_index_or c.from-2.result.items k d).visited))
+
+-- what the first has seen once it met the others is one history too
+pub meet_each-twice-requires : goal.meet_each-twice-requires
+meet_each-twice-requires g c = c.meet_each-once.ensures.met.history

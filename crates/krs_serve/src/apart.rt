@@ -1,0 +1,60 @@
+//! Guests, each in a thread of its own.
+ghost use Rattle.std.specs.Prelude.{◌≡◌, ◌<◌, ◌+◌};
+
+use crate::{AtDesk, SocketGuest, SocketSitting, SystemClock, serve_connection};
+use krs_listen::{FreeSeats, Latest};
+use std::alloc::Global;
+use std::sync::Wait;
+use std::thread::{Scope, Threads};
+use std::time::Clock;
+
+/// What each connection is given.
+#[derive(Drop)]
+pub struct Hosting<'s, 'd, N: AtDesk, R> {
+    pub rt: &'s R,
+    pub alloc: Global,
+    /// The seats, and where its own goes when it has ended.
+    pub free: &'s FreeSeats<SocketSitting<'d, N>>,
+    pub latest: &'s Latest,
+}
+
+/// How many guests were given to `serve_apart`, which alone counts them.
+#[derive(Drop)]
+pub(crate) struct Hosted {
+    guests: u64,
+}
+
+impl Hosted {
+    pub(crate) fn none() -> Hosted
+        ensures { result.guests ≡ 0 }
+    {
+        Hosted { guests: 0 }
+    }
+}
+
+/// Serves a connection on its seat, by a clock of its own, and gives the seat back.
+fn serve_guest<'s, 'd, N: AtDesk, R: Wait + Clock>(
+    hosting: &Hosting<'s, 'd, N, R>,
+    guest: SocketGuest<'d, N>,
+) {
+    let clock = SystemClock::new(hosting.rt, hosting.latest);
+    let sitting = serve_connection(hosting.rt, hosting.alloc, guest, clock);
+    hosting.free.give(hosting.rt, sitting);
+}
+
+/// Has a connection served in a thread of its own. Where no thread can be started it is served at once.
+pub(crate) fn serve_apart<'s, 'd, E, N: AtDesk + Send + Sync, R: Threads + Wait + Clock + Sync>(
+    hosting: &'s Hosting<'s, 'd, N, R>,
+    guest: SocketGuest<'d, N>,
+    scope: &'s Scope<'s, E>,
+    hosted: &mut Hosted,
+)
+    requires { hosted.old.guests < u64.MAX }
+    ensures { hosted.new.guests ≡ hosted.old.guests + 1 }
+{
+    hosted.guests += 1;
+    let serving = move || serve_guest(hosting, guest);
+    if let Err(refused) = scope.spawn(serving) {
+        (refused.value)();
+    }
+}
