@@ -65,34 +65,6 @@ leads_of_spelled words Memory spelled none = tt
 leads_of_spelled words (Shown text) spelled none = absurd (spelled.2.1 spelled.2.0)
 leads_of_spelled words (Refused text) spelled none = absurd (spelled.2.1 spelled.2.0)
 
--- what the one word `script` chooses
-pub script_chooses : {E : Type 0} (found : Found) (r : Result Choice E) → IsScript found → IfOk r (Runs found)
-    → IfOk r (Chooses found)
-script_chooses found (Ok choice) is runs = ((λ _. runs), λ other. absurd (other is))
-script_chooses found (Err e) is runs = tt
-
--- what other words choose, where there are some and a path is given
-call_chooses_one : (found : Found) (choice : Choice) (path : List ℕ) (caller : Caller)
-    → first_value found (codes "socket") ≡ Some path → Names found caller → command_in found ≢ []
-    → CallsOver path caller (command_in found) choice → Calls found choice
-call_chooses_one found Script path caller given names some calls = absurd calls
-call_chooses_one found (Remote other) path caller given names some calls = absurd calls
-call_chooses_one found (Call call) path caller given names some calls =
-    (given ∙ ap Some (sym calls.0), subst (Names found) (sym calls.1) names, some, calls.2)
-call_chooses_one found (Usage why) path caller given names some calls = absurd calls
-call_chooses_one found (NoCommand text) path caller given names some calls =
-    ((λ none. none-some path (sym none ∙ given)), some, calls)
-call_chooses_one found Memory path caller given names some calls = tt
-call_chooses_one found (Shown text) path caller given names some calls = absurd calls
-call_chooses_one found (Refused text) path caller given names some calls = absurd calls
-
-pub call_chooses : {E : Type 0} (found : Found) (r : Result Choice E) (path : List ℕ) (caller : Caller)
-    → ¬ IsScript found → first_value found (codes "socket") ≡ Some path → Names found caller → command_in found ≢ []
-    → IfOk r (CallsOver path caller (command_in found)) → IfOk r (Chooses found)
-call_chooses found (Ok choice) path caller other given names some calls =
-    ((λ is. absurd (other is)), λ _. call_chooses_one found choice path caller given names some calls)
-call_chooses found (Err e) path caller other given names some calls = tt
-
 -- one word is a text just where all words are that text alone
 text_alone : (text word : List ℕ) (b : Bool) → b ≡ pointwise nat_eq word text → IsTrue b ↔ (word ∷ [] ≡ text ∷ [])
 text_alone text word b is = search (rules, tests)

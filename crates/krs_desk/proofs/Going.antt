@@ -79,21 +79,6 @@ cell_same (cells.Answered m ask r) (cells.Answered m' ask' r') log log' p p' f f
     last_same p.mine e' e (ap (λ (z : List Event). z ++ e' ∷ []) (sym mine) ∙ (sym f'.2 ∙ (ev ∙ f.2))) in
     ap (λ (x : Event). cells.Answered x.moment x.ask x.reply) same
 
-pub after_lane : (p : Part) (m : Move) → (after p m).lane ≡ p.lane
-after_lane p move.stays = refl
-after_lane p (move.takes log) = refl
-after_lane p move.misses = refl
-after_lane p (move.puts_own log e) = refl
-after_lane p (move.puts_none log) = refl
-after_lane p (move.serves_own log e) = refl
-after_lane p (move.loads log) = refl
-after_lane p (move.posts moment ask) = refl
-after_lane p (move.finds lane) = refl
-after_lane p (move.grabs lane moment ask) = refl
-after_lane p (move.answers log e) = refl
-after_lane p (move.collects log e) = refl
-after_lane p (move.looks lane finished) = refl
-
 module _ (a : State) (s new : Board) (r : InOneOrder a s) (r' : InOneOrder a new) where
   abbrev pub Was : Part → Type 0
   Was p = IsSeatedIn (views_of s.views) p

@@ -32,25 +32,6 @@ use Rattle.krs_desk.proofs.Seats.{same_store}
 
 -- The turn is had.
 
--- the store that was read is that of the history that was found
-pub had_store :
-    (m n w : Me) (x : SlotValue) (store : State) → (h : Holds m n) → n.1 ≡ (0, x) ∷ rest n.1 → x ≡ Home store
-    → w ≡ (n.0, (0, Empty) ∷ rest n.1) → Had m w store
-had_store m n w x store h slot read left =
-    let both : (0, Home h.last) ∷ m.1 ≡ (0, x) ∷ rest n.1 = sym (ap (λ (k : Me). k.1) h.has) ∙ slot in
-    let head : ◌≡◌ {A = ℕ × SlotValue} (0, Home h.last) (0, x) = cc in
-    let same : h.last ≡ store = same_store h.last store (ap (λ (q : ℕ × SlotValue). q.1) head ∙ read) in
-    record {
-      log = h.log;
-      has = left ∙ ap (λ (k : Me). (k.0, (0, Empty) ∷ rest k.1)) h.has;
-      found =
-          record {
-            legal = subst (λ (z : State). IsLegal (opening m) h.log z) same h.found.legal;
-            seen = h.found.seen;
-            mine = h.found.mine;
-          };
-    }
-
 -- a token that just had the turn may serve; it has looked at no cell
 pub had_held :
     (lane : ℕ) (idle : Bool) (m n : Me) → IsSeated lane idle m → Holds m n → HoldsAll n × ((part n).checked ≡ [])
@@ -333,17 +314,6 @@ goes_on a p q r j k lane store next g s =
           (λ ne. s.done (g.done (omega arith) has));
     }
 
-pub goes_at :
-    (m n w : Me) (j k lane : ℕ) → Goes m j lane n → ServesLane n lane k w → Goes m (j + k) (lane + 1) w
-goes_at m n w j k lane g s =
-    let same : opening n ≡ opening m = ap opening g.1 in
-    let behind : rest n.1 ≡ rest m.1 = ap (λ (z : Me). rest z.1) g.1 in (
-      s.0,
-      s.1 ∙ (λ i. (sat (same i) (part w), (0, Home s.0) ∷ behind i)),
-      goes_on (opening m) (part m) (part n) (part w) j k lane g.0 s.0 g.2
-          (subst (λ (b : State). Served b (part n) lane k (part w) s.0) same s.2),
-    )
-
 pub held_at : (m n : Me) (j lane : ℕ) → HoldsAll m → Goes m j lane n → HoldsAll n
 held_at m n j lane h g =
     let same : opening n ≡ opening m = ap opening g.1 in
@@ -357,11 +327,6 @@ held_at m n j lane h g =
       legal = subst (λ (b : State). IsLegal b (held_of (part m).holding ++ g.2.events) g.0) (sym same) g.2.legal;
       unserving = g.2.unserving;
     }
-
-pub hand_at :
-    (m n : Me) (idle : Bool) (j lane : ℕ) → idle ≡ is_free (part m).flight → Goes m j lane n
-    → idle ≡ is_free (part n).flight
-hand_at m n idle j lane hand g = hand ∙ ap (λ f. is_free f) (sym g.2.stays.flight)
 
 -- The turn is given back.
 

@@ -257,24 +257,6 @@ gathered m n x i log moment ask told reply is slot read g =
     subst (λ (z : Result Answer Errno). Gathers (opening m) (part m) (event_of (part m).lane moment ask z) log)
     (same_reply i told x reply m.1 (rest n.1) (sym (ap (λ (k : Me). k.1) is) ∙ slot) read) g
 
-pub collected_seated :
-    (lane : ℕ) (idle : Bool) (m w : Me) (log : List Event) (e : Event) → IsSeated lane idle m
-    → Gathers (opening m) (part m) e log
-    → w ≡ (sat (opening m) (collected (part m) log e), (lane + 1, Empty) ∷ m.1) → IsSeated lane true w
-collected_seated lane idle m w log e seated g is =
-    let bare : m.1 ≡ [] = ap (λ (k : Me). k.1) seated.rests.0 ∙ ap (λ f. hand_of f (part m).lane) g.posted in
-    subst (λ (z : Me). IsSeated lane true z) (sym is)
-    record {
-      rests =
-          (λ i. (sat (opening m) (collected (part m) log e), (seated.numbered i + 1, Empty) ∷ bare i), seated.rests.1);
-      unserving = seated.unserving;
-      tells = refl;
-      numbered = seated.numbered;
-      sound = seated.sound;
-      last = g.last;
-      legal = g.legal;
-    }
-
 collects :
     (k : TableId) (a b : ℕ) (m : Me) (log : List Event) (moment : ℕ) (ask : Ask) (reply : Result Answer Errno)
     (c : List (ℕ × SlotValue)) → Gathers (opening m) (part m) (event_of (part m).lane moment ask reply) log

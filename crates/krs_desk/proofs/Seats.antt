@@ -63,12 +63,6 @@ missed_seated lane idle m n seated is =
       legal = seated.legal;
     }
 
-pub missed_is :
-    (k l : TableId) (served none : ℕ) (m n : Me) (s : Sitting) → sitting_of k served m ≡ s → l ≡ k → none ≡ 0
-    → n ≡ (sat (opening m) (missed (part m)), m.1) → sitting_of l none n ≡ missed_by s
-missed_is k l served none m n s view same zero_is is =
-    (λ i. sitting_of (same i) (zero_is i) (is i)) ∙ ap missed_by view
-
 -- one that has met another
 pub met_seated :
     (lane : ℕ) (idle : Bool) (a : State) (m n : Me) (log : List Event) (last : State) → IsSeated lane idle m → IsSound a

@@ -44,16 +44,6 @@ breaks_by old new (Rlist id) stop (inl g) = ask_gives_up_by old new (op.Read id)
 breaks_by old new (Rlist id) stop (inr (reply, mid, asks, g)) = list_stops_by mid new id reply stop g
 breaks_by old new (Readq queue room) stop g = ask_gives_up_by old new (op.ReadQueue queue room) stop g
 
--- a call that broke off prints no line
-pub call_stops : (old new : Talk) (caller : Caller) (command : Command) (stop : Stop)
-    → BreaksCall old caller command stop new → StopsCall old caller command stop new
-call_stops old new caller command Memory broke = inr (inl broke)
-call_stops old new caller command Usage broke = broke
-call_stops old new caller command Connection broke = broke
-call_stops old new caller command Reading broke = broke
-call_stops old new caller command TooLong broke = broke
-call_stops old new caller command Printing broke = broke
-
 pub if_ok : {A E : Type 0} (r : Result A E) (P Q : A → Type 0) → IfOk r P → ((x : A) → P x → Q x) → IfOk r Q
 if_ok (Ok x) P Q holds f = f x holds
 if_ok (Err e) P Q holds f = tt

@@ -9,15 +9,6 @@ use Rattle.krs_words.specs.Writing.{Prints, WritesSome, WritesFront}
 pub Prints-nil : (c : Option (List ℕ)) (p : List ℕ) → Prints c p c p []
 Prints-nil c p = ([], Appends-nil c, append-nil p)
 
--- a text that waits behind what waited
-pub Prints-later : (c : Option (List ℕ)) (p q text : List ℕ) → q ≡ p ++ text → Prints c p c q text
-Prints-later c p q text is = ([], Appends-nil c, sym is)
-
--- all that waited and the text are written
-pub Prints-out : (c v : Option (List ℕ)) (p q r text : List ℕ) → q ≡ p ++ text → r ≡ [] → Appends c v q
-    → Prints c p v r text
-Prints-out c v p q r text is none adds = (q, adds, rw (none, append-nil q) (sym is))
-
 joined : (p a b x q y r : List ℕ) → p ++ a ≡ x ++ q → q ++ b ≡ y ++ r → p ++ (a ++ b) ≡ (x ++ y) ++ r
 joined p a b x q y r first next =
     sym (append_assoc p a b) ∙ ap (λ l. l ++ b) first ∙ append_assoc x q b ∙ ap (λ l. x ++ l) next
@@ -50,28 +41,11 @@ Appends-kept (Some x) None c bs p q = absurd p
 Appends-kept (Some x) (Some y) None bs p q = absurd q
 Appends-kept (Some x) (Some y) (Some z) bs p q = q ∙ p
 
-pub Appends-none : (a b : Option (List ℕ)) → Keeps a b → Appends a b []
-Appends-none a b kept = Appends-kept a a b [] (Appends-nil a) kept
-
 -- one piece of a text more
 pub WritesSome-more : (a b c : Option (List ℕ)) (text rest left : List ℕ) → WritesSome a b text rest
     → WritesSome b c rest left → WritesSome a c text left
 WritesSome-more a b c text rest left (x, adds, first) (y, more, next) =
     (x ++ y, Appends-trans a b c x y adds more, first ∙ ap (λ l. x ++ l) next ∙ sym (append_assoc x y left))
-
--- a piece of a text
-pub WritesSome-piece : (a b : Option (List ℕ)) (text : List ℕ) (n : ℕ) → Appends a b (take n text)
-    → WritesSome a b text (drop n text)
-WritesSome-piece a b text n adds = (take n text, adds, sym (take-append-drop n text))
-
--- nothing of a text
-pub WritesSome-none : (a b : Option (List ℕ)) (text : List ℕ) → Keeps a b → WritesSome a b text text
-WritesSome-none a b text kept = ([], Appends-none a b kept, refl)
-
--- a writer that fails behind a piece of a text
-pub WritesFront-kept : (a b c : Option (List ℕ)) (text rest : List ℕ) → WritesSome a b text rest → Keeps b c
-    → WritesFront a c text
-WritesFront-kept a b c text rest (x, adds, is) kept = (rest, (x, Appends-kept a b c x adds kept, is))
 
 -- a text, and then nothing of another
 pub WritesFront-before : (a b : Option (List ℕ)) (text more : List ℕ) → WritesFront a b text

@@ -148,14 +148,3 @@ unfolding IsLegal
 blinded_legal hide _ _ _ _ hides (NoEvents s) = refl
 blinded_legal hide _ _ _ _ hides (FurtherEvents s next end event events blinded step rest) =
     (blind hide next, step_blind hide s next event hides step, blinded_legal hide next end events blinded hides rest)
-
--- two histories that differ in hidden payloads alone end so
-pub ends_alike :
-    (hide : Hiding) (a b x y : State) (events others blinded : List Event) → Hides hide
-    → blind hide a ≡ blind hide b → IsBlinded hide a events x blinded → IsBlinded hide b others y blinded
-    → blind hide x ≡ blind hide y
-ends_alike hide a b x y events others blinded hides same first second =
-    let legal = blinded_legal hide a x events blinded hides first in
-    one_history (blind hide b) (blind hide x) (blind hide y) blinded
-    (subst (λ (t : State). IsLegal t blinded (blind hide x)) same legal)
-    (blinded_legal hide b y others blinded hides second)
