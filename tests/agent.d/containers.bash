@@ -36,32 +36,16 @@ end_agent() {
 }
 
 # contain ID OPTION .. -- CMD ..: a command in a container
-contain() {
-  local id=$1
-  shift
-  timeout 120 "$dir/runtime" "$socket" "$id" "$@" </dev/null 2>&1
-}
+contain() { timeout 120 "$dir/runtime" "$socket" "$@" </dev/null 2>&1; }
 
 # calls ID WORD ..: key calls in a container
-calls() {
-  local id=$1
-  shift
-  contain "$id" -- "$dir/calls" "$@"
-}
+calls() { contain "$1" -- "$dir/calls" "${@:2}"; }
 
 # executes ID WORD ..: key calls of what is executed in the container whose first process is $first, as runc(8) tells it
-executes() {
-  local id=$1
-  shift
-  contain "$id" --pid "$first" -- "$dir/calls" "$@"
-}
+executes() { contain "$1" --pid "$first" -- "$dir/calls" "${@:2}"; }
 
 # says NAME LINES COMMAND ..: what a command prints, its lines side by side
-says() {
-  local name=$1 wanted=$2
-  shift 2
-  is "$name" "$wanted" "$("$@" | tr '\n' ' ')"
-}
+says() { is "$1" "$2" "$("${@:3}" | tr '\n' ' ')"; }
 
 has_no_containers() { [ -z "$(ls "$folder")" ]; }
 

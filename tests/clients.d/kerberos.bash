@@ -51,11 +51,7 @@ start_kdc() {
 has_answered() { has_ended "$1" || KRB5CCNAME=FILE:$dir/realm/first kinit -k -t "$dir/realm/keys" alice 2>/dev/null; }
 
 # in_realm WORD ..: what commands of a shell print in a new session, whose tickets it keeps
-in_realm() {
-  local commands=$1
-  shift
-  KRB5CCNAME=KEYRING:session:main in_session "$@" -- sh -c "$commands" 2>&1 | paste -sd' '
-}
+in_realm() { KRB5CCNAME=KEYRING:session:main in_session "${@:2}" -- sh -c "$1" 2>&1 | paste -sd' '; }
 
 try_kerberos() {
   local kdc word all=() ticket

@@ -10,11 +10,7 @@ none='KEYRETAIN_SESSION= KEYRETAIN_SOCKET='
 show=(show:KEYRETAIN_SESSION show:KEYRETAIN_SOCKET)
 
 # service NAME WORD ..: a service that has the module in its sessions, with these words
-service() {
-  local name=$1
-  shift
-  printf 'session optional %s %s\n' "$dir/$module/pam_keyretain.so" "$*" >"$dir/conf/$name"
-}
+service() { printf 'session optional %s %s\n' "$dir/$module/pam_keyretain.so" "${*:2}" >"$dir/conf/$1"; }
 
 # logs_in SERVICE ACT ..: what the application prints, its lines in one
 logs_in() {

@@ -31,25 +31,13 @@ prints() {
 }
 
 # tells NAME TEXT WORD ..: keyretain with these words tells this on standard error
-tells() {
-  local name=$1 wanted=$2
-  shift 2
-  is "$name" "$wanted" "$(timeout "$patience" "$keyretain" "$@" 2>&1 >/dev/null)"
-}
+tells() { is "$1" "$2" "$(timeout "$patience" "$keyretain" "${@:3}" 2>&1 >/dev/null)"; }
 
 # calls NAME STATUS TEXT WORD ..: the same of a single call by uid 1000
-calls() {
-  local name=$1 status=$2 text=$3
-  shift 3
-  prints "$name" "$status" "$text" --socket "$path" --uid 1000 --gid 1000 "$@" </dev/null
-}
+calls() { prints "$1" "$2" "$3" --socket "$path" --uid 1000 --gid 1000 "${@:4}" </dev/null; }
 
 # runs_script NAME STATUS TEXT LINE ..: the same of a script over the socket
-runs_script() {
-  local name=$1 status=$2 text=$3
-  shift 3
-  prints "$name" "$status" "$text" --socket "$path" script < <(printf '%s\n' "$@")
-}
+runs_script() { prints "$1" "$2" "$3" --socket "$path" script < <(printf '%s\n' "${@:4}"); }
 
 # open_client NAME: a client that is given its lines one by one
 open_client() {
