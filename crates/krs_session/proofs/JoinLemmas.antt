@@ -1,5 +1,6 @@
 -- How what was read, asked and written joins.
-use Rattle.std.proofs.Common.{◌≡◌, ℕ, List, [], ◌∷◌, ◌++◌, take, drop, sym, ap, subst, ◌∙◌, append_assoc, refl}
+use Rattle.std.proofs.Common.{◌≡◌, ◌≢◌, Bool, true, false, ℕ, List, [], ◌∷◌, ◌++◌, length, take, drop}
+use Rattle.std.proofs.Common.{arith, sym, ap, subst, ◌∙◌, append_assoc, refl}
 use Rattle.std.proofs.lemmas.List.{append-nil, map-append, take-append-drop}
 use Rattle.std.specs.Prelude.{Option, Some, None, Ok}
 use Rattle.krs_wire.specs.declared.framed.Framed.{Framed}
@@ -19,6 +20,7 @@ use Rattle.krs_model.specs.Lists.{Begins}
 use Rattle.krs_session.specs.Events.{asks_of, asks_in, moments_of, replies_of, reply_text, session_text, AllOfLane}
 use Rattle.krs_session.specs.Session.{TookFront}
 use Rattle.krs_session.specs.Serving.{Asked, Wrote, Pending, PendingNext, StopsBy, StopsNext, Answers, Holds}
+use Rattle.krs_session.specs.Serving.{IsAskedAnew}
 
 -- a part of the bytes was taken, and these are left
 pub record Taken {W : Type 0} (took : W → List ℕ → W → Type 0) (old new : W) (bytes left : List ℕ) : Type 0 where
@@ -265,3 +267,20 @@ module _ {S C W : Type 0} (leads : S → List Event → S → Type 0) (ticked : 
         wrote = pending_wrote took joins w0 w1 w2 held (session_text frames (replies_of a.events)) result a.pending
             wrote;
       }
+
+-- It was asked anew for one more ask: where it was asked before, then; else now, and nothing has changed before.
+pub anew_next : {C : Type 0} (renewed : C → ℕ → C → Type 0) (was : Bool) (first old new : C) (moment : ℕ)
+    → (was ≡ false → old ≡ first) → (was ≡ true → IsAskedAnew renewed first)
+    → (was ≡ false → renewed old moment new) → IsAskedAnew renewed first
+anew_next {C} renewed false first old new moment same before now =
+    (moment, new, subst (λ (c : C). renewed c moment new) (same refl) (now refl))
+anew_next renewed true first old new moment same before now = before refl
+
+-- where nothing is left to ask, as its rest is all of it, it was asked, if there was anything to ask
+pub anew_all : {C F : Type 0} (renewed : C → ℕ → C → Type 0) (was : Bool) (first : C) (all left : List F)
+    → (was ≡ false → left ≡ all) → (was ≡ true → IsAskedAnew renewed first) → left ≡ drop 1 left → all ≢ []
+    → IsAskedAnew renewed first
+anew_all renewed false first all [] same before none some = absurd (some (sym (same refl)))
+anew_all renewed false first all (x ∷ left) same before none some =
+    let fewer : length (x ∷ left) ≡ length left = ap length none in absurd (omega (arith, fewer))
+anew_all renewed true first all left same before none some = before refl

@@ -1,6 +1,7 @@
 pub mod Events
 pub mod Session
 pub mod Leads
+pub mod Long
 pub mod Alike
 pub mod Serving
 pub mod Over

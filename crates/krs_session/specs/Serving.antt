@@ -16,6 +16,10 @@ pub record Asked {S C : Type 0} (leads : S → List Event → S → Type 0) (tic
   pub moments : ticked clock0 (moments_of events) clock1
   pub lanes : AllOfLane lane events
 
+-- a clock was asked anew in this state, and has answered
+abbrev pub IsAskedAnew : {C : Type 0} → (C → ℕ → C → Type 0) → C → Type 0
+IsAskedAnew {C} renewed clock = (moment : ℕ) × (later : C) × renewed clock moment later
+
 -- what was written of a text: all of it, or its front where something stopped the writing, which is Write or Memory
 abbrev pub Wrote : {W : Type 0} → (W → List ℕ → W → Type 0) → W → W → List ℕ → Option Ended → Type 0
 Wrote took writer0 writer1 text None = took writer0 text writer1

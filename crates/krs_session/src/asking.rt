@@ -1,11 +1,12 @@
 // The asks of a session.
-ghost use Rattle.std.specs.Prelude.{◌≡◌, ◌<◌, [], ◌∷◌, Some, None};
+ghost use Rattle.std.specs.Prelude.{◌≡◌, ◌≢◌, ◌<◌, true, false, [], ◌∷◌, Some, None};
 ghost use Rattle.krs_types.specs.declared.event.Event.{Event};
 ghost use Rattle.krs_model.specs.History.{event_of};
 ghost use Rattle.krs_store.specs.Told.{reply_of, bytes_of};
 ghost use Rattle.krs_wire.specs.Reply.{reply_frame};
+ghost use Rattle.krs_session.specs.Long.{is_long};
 ghost use Rattle.krs_session.specs.Replies.{HoldsFrame, TellsNext};
-ghost use Rattle.krs_session.specs.Serving.{Asked, Answers, Holds, PendingNext, StopsBy, StopsNext};
+ghost use Rattle.krs_session.specs.Serving.{Asked, Answers, Holds, IsAskedAnew, PendingNext, StopsBy, StopsNext};
 
 use crate::writing::{flush, forget, send_reply};
 use crate::{Clock, Ended, Gate, Keeper, Point, Replies, Sink};
@@ -36,6 +37,7 @@ pub(crate) fn ask_one<H, S, D: Keeper<S, H>, C: Clock, G: Gate>(
     requires { D.ready setting.now.desk.now seat.old }
     ensures asked { (event : Event) × (event.ask ≡ ask) × (event.reply ≡ result)
         × Asked D.leads C.ticked (D.lane_of seat.old) seat.old seat.new clock.old clock.new (event ∷ []) }
+    ensures anew { IsAskedAnew C.renewed clock.old }
     ensures ready { D.ready setting.now.desk.now seat.new }
     ensures lane { D.lane_of seat.new ≡ D.lane_of seat.old }
     ensures rested { D.rested seat.new }
@@ -49,7 +51,9 @@ pub(crate) fn ask_one<H, S, D: Keeper<S, H>, C: Clock, G: Gate>(
 }
 
 /// Whether an ask may walk far, or make or drop much: behind such a one others don't wait for more.
-fn is_long(op: &Op) -> bool {
+fn is_long(op: &Op) -> bool
+    ensures { result ≡ is_long op.now }
+{
     matches!(
         op,
         Op::Link { .. }
@@ -82,6 +86,8 @@ fn ask_among<H, S, D: Keeper<S, H>, G: Gate>(
     ensures taken { HoldsFrame out.old (bytes_of result) out.new }
     ensures ready { D.ready setting.now.desk.now seat.new }
     ensures lane { D.lane_of seat.new ≡ D.lane_of seat.old }
+    ensures rested { more ≡ false → D.rested seat.new }
+    ensures long { is_long ask.op ≡ true → D.rested seat.new }
 {
     let goes_on = more && !setting.gate.may_hold() && !is_long(&ask.op);
     let lane = setting.desk.lane(seat);
@@ -95,7 +101,8 @@ fn ask_among<H, S, D: Keeper<S, H>, G: Gate>(
 
 /// The moment of an ask: the clock's next answer, or the one before again, where it was asked for this piece already.
 fn moment_of<C: Clock>(clock: &mut C, was_asked: bool) -> u64
-    ensures { C.ticked clock.old (result ∷ []) clock.new }
+    ensures ticked { C.ticked clock.old (result ∷ []) clock.new }
+    ensures anew { was_asked ≡ false → C.renewed clock.old result clock.new }
 {
     if was_asked {
         return clock.again();
@@ -173,6 +180,7 @@ fn ask_all<H, W: Sink, S, D: Keeper<S, H>, C: Clock, G: Gate>(
     ensures holds { Holds D.leads C.ticked W.took (D.lane_of seat.old) seat.old seat.new clock.old clock.new
         writer.old writer.new out.new.bytes.items frames.old.items result }
     ensures count { StopsBy (W.failures writer.old) (W.failures writer.new) result }
+    ensures anew { frames.old.items ≢ [] → IsAskedAnew C.renewed clock.old }
     ensures ready { D.ready setting.now.desk.now seat.new }
     ensures lane { D.lane_of seat.new ≡ D.lane_of seat.old }
 {

@@ -5,8 +5,12 @@ pub trait Clock {
     // From the first state to the second these are its answers, in order. A clock of the system tells nothing.
     ghost ticked: { Self → List ℕ → Self → Type 0 };
 
+    // From the first state to the second it was asked anew, and answered so. A clock of the system tells nothing.
+    ghost renewed: { Self → ℕ → Self → Type 0 } = { λ _ _ _. Unit {0} };
+
     fn now(&mut self) -> u64
-        ensures { ticked self.old (result ∷ []) self.new };
+        ensures ticked { ticked self.old (result ∷ []) self.new }
+        ensures anew { renewed self.old result self.new };
 
     /// One answer more, shortly behind another: it may be that one again.
     fn again(&mut self) -> u64

@@ -4,7 +4,7 @@ use Rattle.krs_model.specs.History.{event_of}
 use Rattle.krs_wire.specs.declared.framed.Framed.{Framed}
 use Rattle.krs_session.specs.Serving.{Asked}
 use Rattle.krs_store.specs.Told.{reply_of}
-use Rattle.krs_session.proofs.JoinLemmas.{holds_none, holds_told, stops_next}
+use Rattle.krs_session.proofs.JoinLemmas.{holds_none, holds_told, stops_next, anew_next, anew_all}
 use Rattle.krs_session.proofs.asking.ask_all.Goals as goal
 
 pub frames-init : goal.frames-init
@@ -19,6 +19,8 @@ frames-init g c = record {
   count = refl;
   ready = c.requires.ready;
   lane = refl;
+  same = λ is. (refl, refl);
+  anew = λ is. absurd (cc);
 }
 
 pub frames-preserved : goal.frames-preserved
@@ -33,7 +35,7 @@ frames-preserved g c =
     c.frames.clock c.moment_of-moment.new.clock (event ∷ [])) i.lane
     (record {
       led = g.met.D.Keeper.joins _ _ _ (event ∷ []) [] c.ask_among-told.ensures.led c.told_behind-stop.ensures.led;
-      moments = c.moment_of-moment.ensures;
+      moments = c.moment_of-moment.ensures.ticked;
       lanes = (refl, tt);
     }) in
     record {
@@ -50,4 +52,13 @@ frames-preserved g c =
       count = stops_next _ _ _ _ _ i.count c.told_behind-stop.ensures.count;
       ready = c.told_behind-stop.ensures.ready;
       lane = c.told_behind-stop.ensures.lane ∙ (c.ask_among-told.ensures.lane ∙ i.lane);
+      same = λ is. absurd (cc);
+      anew = λ is. anew_next g.C.Clock.renewed c.frames.was_asked _ _ _ _ (λ none. (i.same none).1) i.anew
+          c.moment_of-moment.ensures.anew;
     }
+
+pub returns-clause-anew : goal.returns-clause-anew
+returns-clause-anew g c =
+    let i = c.frames.invariant in
+    let e = c.in_default.ensures in
+    λ some. anew_all g.C.Clock.renewed c.frames.was_asked _ _ _ (λ none. (i.same none).0) i.anew (e.items ∙ e.rest) some

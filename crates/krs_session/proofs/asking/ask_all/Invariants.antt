@@ -1,6 +1,6 @@
-use Rattle.std.proofs.Common.{◌≡◌, ◌++◌, List, length}
+use Rattle.std.proofs.Common.{◌≡◌, ◌++◌, true, false, List, length}
 use Rattle.krs_wire.specs.declared.framed.Framed.{Framed}
-use Rattle.krs_session.specs.Serving.{Holds, StopsBy}
+use Rattle.krs_session.specs.Serving.{Holds, IsAskedAnew, StopsBy}
 use Rattle.krs_session.proofs.asking.ask_all.Given as goal
 
 abbrev pub invariant-frames : goal.invariant-frames
@@ -11,6 +11,8 @@ invariant-frames g l = record {
   count : StopsBy (g.W.Sink.failures l.initial.writer) (g.W.Sink.failures l.writer) l.stop;
   ready : g.D.Keeper.ready l.setting.desk.now l.seat;
   lane : g.D.Keeper.lane_of l.seat ≡ g.D.Keeper.lane_of l.initial.seat;
+  same : l.was_asked ≡ false → (l.frames.items ≡ l.initial.frames.items) × (l.clock ≡ l.initial.clock);
+  anew : l.was_asked ≡ true → IsAskedAnew g.C.Clock.renewed l.initial.clock;
 }
 
 abbrev pub decreases-frames : goal.decreases-frames

@@ -7,5 +7,8 @@ returns-clause-asked g c = (
   event_of (g.D.Keeper.lane_of c.args.seat.now) c.now-moment.result c.args.ask c.call-reply.result,
   refl,
   refl,
-  record { led = c.call-reply.ensures.led; moments = c.now-moment.ensures; lanes = (refl, tt) },
+  record { led = c.call-reply.ensures.led; moments = c.now-moment.ensures.ticked; lanes = (refl, tt) },
 )
+
+pub returns-clause-anew : goal.returns-clause-anew
+returns-clause-anew g c = (c.now-moment.result, c.now-moment.new.self, c.now-moment.ensures.anew)
