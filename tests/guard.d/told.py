@@ -110,7 +110,7 @@ def try_few_lines():
     run.daemon.wait()
     os.unlink(run.private)
     for _ in range(20):
-        run.one(*WHO).status(hello(UID, GID))
+        run.one(*WHO).status(*[hello(UID + 1, GID)] * 60)
     check('the daemon is told of', told_by(run).splitlines()[len(told):].count(
         'the daemon at PATH: No such file or directory') > 0, True)
 
