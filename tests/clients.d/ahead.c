@@ -4,7 +4,7 @@
 #include "check.h"
 #include "keyretain.h"
 
-enum { USER_KEYRING = -4, PROCESS_KEYRING = -2, LONG_PAYLOAD = 32767, ASKS = 60, WATCH = 9 };
+enum { USER_KEYRING = -4, PROCESS_KEYRING = -2, LONG_PAYLOAD = 32767, ASKS = 60, WATCH = 200 };
 
 static struct kr *connection;
 static uint32_t context;
