@@ -10,6 +10,7 @@ from compare import conclude, skipped
 import keyretain
 
 import admission
+import bodies
 import documents
 import foreign
 from places import compare, compare_all
@@ -213,7 +214,12 @@ def try_foreign():
         compare_all("ASSURANCE, the C functions that the daemon reaches", reached, foreign.listed())
 
 
-for case in (try_definitions, try_format, try_lists, try_pages, try_python, try_admission, try_bench, try_foreign):
+def try_bodies():
+    compare("wrong bodies that can't be applied", {}, bodies.misfits())
+
+
+for case in (try_definitions, try_format, try_lists, try_pages, try_python, try_admission, try_bench, try_foreign,
+             try_bodies):
     case()
 if os.access(KEYRETAIN, os.X_OK):
     try_help()
