@@ -1,4 +1,5 @@
 """relay.py PATH DAEMON: passes on what comes at PATH to a daemon, and its replies, as a guard does."""
+import os
 import socket
 import sys
 import threading
@@ -19,8 +20,9 @@ def pass_on(source, sink):
 
 def main(path, daemon):
     listener = socket.socket(socket.AF_UNIX)
-    listener.bind(path)
+    listener.bind(f"{path}.new")
     listener.listen()
+    os.rename(f"{path}.new", path)  # who sees it is served
     while True:
         client, _ = listener.accept()
         server = socket.socket(socket.AF_UNIX)
