@@ -21,21 +21,24 @@ use Rattle.krs_model.specs.Table.{at}
 use Rattle.krs_model.specs.Lookup.{context_of, if_own}
 use Rattle.krs_model.specs.Step.{Step, Ends, outcome_of}
 use Rattle.krs_model.specs.History.{IsLegal}
-use Rattle.krs_model.specs.Revocation.{Reads}
 use Rattle.krs_model.specs.Asks.Hello.{hello}
 use Rattle.krs_model.specs.Belonging.{HasGreeted}
-use Rattle.krs_model.specs.Confidentiality.{KeepsPrivate, AreUnchanged}
+use Rattle.krs_model.specs.Confidentiality.{KeepsPrivate}
 use Rattle.krs_model.proofs.Asks.Later.{bind_ok, same_ok}
 use Rattle.krs_model.proofs.History.Belongings.{contexts_greeted, readers_greeted}
 use Rattle.krs_model.proofs.Isolation.Histories.{private_legal, leaves_alone}
 use Rattle.krs_model.proofs.Isolation.Steps.{none_alone}
 use Rattle.krs_model.proofs.Lookups.Serials.{own_there}
 use Rattle.krs_model.proofs.Sound.Steps.{start_sound}
+use Rattle.krs_laws.specs.Belonging.{BeganEmpty}
+use Rattle.krs_desk.proofs.Seen.{next_step}
 use Rattle.krs_screen.specs.declared.claim.Peer.{Peer}
 use Rattle.krs_screen.specs.Reading.{Harmless, nobody, trusted, own}
 use Rattle.krs_screen.specs.Run.{AsksHarmless}
 use Rattle.krs_screen.proofs.Arriving.{arrives}
 use Rattle.krs_guarded.specs.Guarded.{IsPassedOn, IsBehindGuard, IsPeerOf}
+use Rattle.krs_guarded.specs.Guarded.{NoPeerActsAsAnother, NoPeerReadsAnothers, NoPeerChangesAnothers}
+use Rattle.krs_guarded.specs.Guarded.{AreReadByTheirPeers}
 
 -- what all of a list meet, one in it meets
 each_meets : {A : Type 0} (P : A → Type 0) (xs : List A) (y : A) (ys : List A) → AllByRecursion P (xs ++ y ∷ ys) → P y
@@ -129,35 +132,46 @@ own_client s client number c h =
     let there = bind_ok (or_refuse ESRCH (at s.contexts number)) (if_own client) c h in
     own_is_client client there.0 c there.2
 
-pub peers_act :
-    (n : ℕ) (events : List Event) (end : State) → IsLegal (starting_at n) events end
-    → (lane : ℕ) (peer : Peer) → IsBehindGuard peer lane events
-    → (number : ℕ) (c : Context) → context_of end lane number ≡ Ok c → IsPeerOf peer c.caller.uid
-peers_act n events end legal lane peer behind number c mine =
-    greeted_is n events end lane peer c.caller legal behind
+-- a list from a store that began empty is one from the empty store
+legal_empty :
+    (start end : State) (events : List Event) (began : BeganEmpty start) → IsLegal start events end
+    → IsLegal (starting_at began.0) events end
+legal_empty start end events began = subst (λ (s : State). IsLegal s events end) began.1
+
+private_empty :
+    (uid : ℕ) (start old : State) (before : List Event) (last : ℕ → Bool) (began : BeganEmpty start)
+    → KeepsPrivate uid (λ k. false) start before old last
+    → KeepsPrivate uid (λ k. false) (starting_at began.0) before old last
+private_empty uid start old before last began =
+    subst (λ (s : State). KeepsPrivate uid (λ k. false) s before old last) began.1
+
+pub peers_act : (start : State) → NoPeerActsAsAnother start
+peers_act start began events end legal lane peer behind number c mine =
+    let from = legal_empty start end events began legal in
+    greeted_is began.0 events end lane peer c.caller from behind
     (subst (λ (z : ℕ). HasGreeted z c.caller events) (own_client end lane number c mine)
-    (contexts_greeted n events end legal number c (own_there end lane number c mine)))
+    (contexts_greeted began.0 events end from number c (own_there end lane number c mine)))
 
-pub peers_read :
-    (n uid : ℕ) (before : List Event) (old : State) (last : ℕ → Bool)
-    → KeepsPrivate uid (λ k. false) (starting_at n) before old last
-    → (reading : Event) (end : State) (serial : ℕ) → last serial ≡ true → Step old reading end
-    → Reads old reading serial
-    → (peer : Peer) → IsBehindGuard peer reading.lane before → IsPeerOf peer uid
-peers_read n uid before old last keeps reading end serial m step reads peer behind =
-    let r = readers_greeted n uid before old last keeps reading end serial m step reads in
+pub peers_read : (start : State) → NoPeerReadsAnothers start
+peers_read start began uid before old last keeps reading end serial m step reads peer behind =
+    let kept = private_empty uid start old before last began keeps in
+    let r = readers_greeted began.0 uid before old last kept reading end serial m step reads in
     subst (IsPeerOf peer) r.1
-    (greeted_is n before old reading.lane peer r.0
-    (private_legal uid (λ k. false) (starting_at n) before old last keeps) behind r.2)
+    (greeted_is began.0 before old reading.lane peer r.0
+    (private_legal uid (λ k. false) (starting_at began.0) before old last kept) behind r.2)
 
-pub peers_change :
-    (n uid : ℕ) (before : List Event) (old : State) (last : ℕ → Bool)
-    → KeepsPrivate uid (λ k. false) (starting_at n) before old last
-    → (event : Event) (new : State) → Step old event new
-    → (peer : Peer) → IsBehindGuard peer event.lane before → (IsPeerOf peer uid → ⊥) → AreUnchanged last old event new
-peers_change n uid before old last keeps event new step peer behind other =
-    leaves_alone uid (λ k. false) (starting_at n) (start_sound n) (none_alone uid (starting_at n)) before old last keeps event
-    new step
+pub peers_seen : (start end : State) (seen : List Event) → IsLegal start seen end → AreReadByTheirPeers start seen
+peers_seen start end seen legal began uid last before rest reading old serial is keeps m reads =
+    let front = private_legal uid (λ k. false) start before old last keeps in
+    let step = next_step start old end before reading rest front
+    (subst (λ (l : List Event). IsLegal start l end) is legal) in
+    peers_read start began uid before old last keeps reading step.0 serial m step.1 reads
+
+pub peers_change : (start : State) → NoPeerChangesAnothers start
+peers_change start began uid before old last keeps event new step peer behind other =
+    let empty = starting_at began.0 in
+    let kept = private_empty uid start old before last began keeps in
+    leaves_alone uid (λ k. false) empty (start_sound began.0) (none_alone uid empty) before old last kept event new step
     (λ asked. other (subst (IsPeerOf peer) asked.acts.own
-    (peers_act n before old (private_legal uid (λ k. false) (starting_at n) before old last keeps) event.lane peer behind
+    (peers_act start began before old (private_legal uid (λ k. false) start before old last keeps) event.lane peer behind
     asked.number asked.acts.context asked.acts.there)))

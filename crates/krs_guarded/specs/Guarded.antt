@@ -3,13 +3,14 @@ use Rattle.std.specs.Prelude.{◌≡◌, ◌<◌, ◌⊎◌, ℕ, List, ◌∷�
 use Rattle.krs_types.specs.declared.ask.Ask.{Ask}
 use Rattle.krs_types.specs.declared.context.Context.{Context}
 use Rattle.krs_types.specs.declared.event.Event.{Event}
-use Rattle.krs_model.specs.State.{State, starting_at}
+use Rattle.krs_model.specs.State.{State}
 use Rattle.krs_model.specs.Lookup.{context_of}
 use Rattle.krs_model.specs.Step.{Step}
 use Rattle.krs_model.specs.History.{IsLegal}
 use Rattle.krs_model.specs.Revocation.{Reads}
 use Rattle.krs_model.specs.Confidentiality.{KeepsPrivate, AreUnchanged}
 use Rattle.krs_model.specs.Belonging.{HasStayed}
+use Rattle.krs_laws.specs.Belonging.{BeganEmpty}
 use Rattle.krs_wire.specs.declared.framed.Framed.{Framed}
 use Rattle.krs_wire.specs.Frame.{Frames, End}
 use Rattle.krs_screen.specs.declared.claim.Peer.{Peer}
@@ -46,25 +47,33 @@ abbrev pub IsPeerOf : Peer → ℕ → Type 0
 IsPeerOf peer uid = (peer.is_trusted ≡ true) ⊎ (peer.uid ≡ uid)
 
 -- each context of a lane behind the guard acts as a caller of the peer's uid
-abbrev pub NoPeerActsAsAnother : Type 0
-NoPeerActsAsAnother =
-    (n : ℕ) (events : List Event) (end : State) → IsLegal (starting_at n) events end
+abbrev pub NoPeerActsAsAnother : State → Type 0
+NoPeerActsAsAnother start =
+    BeganEmpty start → (events : List Event) (end : State) → IsLegal start events end
     → (lane : ℕ) (peer : Peer) → IsBehindGuard peer lane events
     → (number : ℕ) (c : Context) → context_of end lane number ≡ Ok c → IsPeerOf peer c.caller.uid
 
 -- each accepted READ of a key that a uid has to itself, and has not given away, is of a peer of that uid
-abbrev pub NoPeerReadsAnothers : Type 0
-NoPeerReadsAnothers =
-    (n uid : ℕ) (before : List Event) (old : State) (last : ℕ → Bool)
-    → KeepsPrivate uid (λ k. false) (starting_at n) before old last
+abbrev pub NoPeerReadsAnothers : State → Type 0
+NoPeerReadsAnothers start =
+    BeganEmpty start → (uid : ℕ) (before : List Event) (old : State) (last : ℕ → Bool)
+    → KeepsPrivate uid (λ k. false) start before old last
     → (reading : Event) (end : State) (serial : ℕ) → last serial ≡ true → Step old reading end
     → Reads old reading serial
     → (peer : Peer) → IsBehindGuard peer reading.lane before → IsPeerOf peer uid
 
+-- so is each of those in this list, which begins there
+abbrev pub AreReadByTheirPeers : State → List Event → Type 0
+AreReadByTheirPeers start seen =
+    BeganEmpty start → (uid : ℕ) (last : ℕ → Bool) (before rest : List Event) (reading : Event) (old : State)
+    (serial : ℕ) → seen ≡ before ++ reading ∷ rest → KeepsPrivate uid (λ k. false) start before old last
+    → last serial ≡ true → Reads old reading serial
+    → (peer : Peer) → IsBehindGuard peer reading.lane before → IsPeerOf peer uid
+
 -- an ask of any other peer leaves each key that a uid has to itself, and has not given away, as it was
-abbrev pub NoPeerChangesAnothers : Type 0
-NoPeerChangesAnothers =
-    (n uid : ℕ) (before : List Event) (old : State) (last : ℕ → Bool)
-    → KeepsPrivate uid (λ k. false) (starting_at n) before old last
+abbrev pub NoPeerChangesAnothers : State → Type 0
+NoPeerChangesAnothers start =
+    BeganEmpty start → (uid : ℕ) (before : List Event) (old : State) (last : ℕ → Bool)
+    → KeepsPrivate uid (λ k. false) start before old last
     → (event : Event) (new : State) → Step old event new
     → (peer : Peer) → IsBehindGuard peer event.lane before → (IsPeerOf peer uid → ⊥) → AreUnchanged last old event new
