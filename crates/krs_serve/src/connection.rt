@@ -151,9 +151,10 @@ impl<'d, N: AtDesk, R: Source + Drop, W: Sink + Drop> Guest<'d, N, R, W> {
     }
 }
 
-/// The seats of the daemon, and the ends of a connection that was accepted, as a session meets them.
+/// A seat of the daemon, whose connections come over a socket.
 pub type SocketSitting<'d, N> = Sitting<'d, N, Over<SocketReader>, Over<SocketWriter>>;
 
+/// The ends of a connection that was accepted, as a session meets them.
 pub type SocketGuest<'d, N> = Guest<'d, N, Over<SocketReader>, Over<SocketWriter>>;
 
 /// Who came over a socket, at the seat that was free. No guest is made elsewhere, so that a daemon has none of its own.
