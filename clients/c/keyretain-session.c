@@ -9,6 +9,8 @@
 #include "../../guard/listener.h"
 #include "launch.h"
 
+#include <sys/xattr.h>
+
 #ifndef KEYRETAIN_LIBRARY_FOLDER
 #define KEYRETAIN_LIBRARY_FOLDER "/usr/local/lib/keyretain"
 #endif
@@ -154,12 +156,13 @@ static const char *library_folder(void) { return named_folder() ? named_folder()
 
 /* Ends where somebody else may change what is there. Of a folder above the library's another user may write to one such
  * as /tmp, where each may rename its own alone; and who owns / is root, which may have no number in a user namespace. A
- * group with its owner's number is the owner's own. */
+ * group with its owner's number is the owner's own, unless a list names others: acl(5). A link is anybody's. */
 static void refuse_others(const char *path, const struct stat *status, bool is_above) {
     struct stat root;
     bool is_own = status->st_uid == geteuid() || status->st_uid == 0 ||
                   (is_above && stat("/", &root) == 0 && status->st_uid == root.st_uid);
-    mode_t writers = status->st_gid == status->st_uid ? S_IWOTH : S_IWGRP | S_IWOTH;
+    bool is_listed = lgetxattr(path, "system.posix_acl_access", NULL, 0) > 0;
+    mode_t writers = status->st_gid == status->st_uid && !is_listed ? S_IWOTH : S_IWGRP | S_IWOTH;
     errno = EACCES;
     if (!is_own || (status->st_mode & writers && !(is_above && status->st_mode & S_ISVTX))) fail(NO_CONNECTION, path);
 }
@@ -187,7 +190,7 @@ static void export_library(void) {
     if (!folder) fail(NO_CONNECTION, library_folder());
     snprintf(library, sizeof library, "%s/libkeyutils.so.1", folder);
     if (named_folder()) check_folder(folder);
-    if (access(library, R_OK) < 0 || stat(library, &status) < 0) fail(NO_CONNECTION, library);
+    if (access(library, R_OK) < 0 || lstat(library, &status) < 0) fail(NO_CONNECTION, library);
     if (named_folder()) refuse_others(library, &status, false);
     if (!others) others = "";
     if (asprintf(&folders, "%s%s%s", folder, *others ? ":" : "", others) < 0) fail(REFUSED, "LD_LIBRARY_PATH");
