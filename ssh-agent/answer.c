@@ -23,13 +23,11 @@ static uint32_t context;
 static int32_t head, keyring;
 static unsigned char payload[PAYLOAD_MOST], made_lock[SALT_SIZE + HASH_SIZE]; /* the second is a lock */
 
-/* 0 where its user has none there, and -1 where the daemon doesn't tell. A search also finds what another user has put
- * into a keyring that is linked there: who possesses that would possess private keys. */
+/* 0 where its user has none there, and -1 where the daemon doesn't tell. Who possesses another user's would possess
+ * private keys. */
 static int32_t find_ring(int32_t from) {
-    struct kr_attributes told;
-    int32_t found = kr_search(connection, context, from, "keyring", ring_name, 0);
-    if (found < 0) return errno == ENOKEY || errno == EKEYREVOKED || errno == EKEYEXPIRED ? 0 : -1;
-    return kr_read_attributes(connection, context, found, &told) == 0 && told.owner == geteuid() ? found : 0;
+    int32_t found = kr_find_own(connection, context, from, "keyring", ring_name);
+    return found < 0 && (errno == ENOKEY || errno == EKEYREVOKED || errno == EKEYEXPIRED) ? 0 : found;
 }
 
 int open_ring(void) {

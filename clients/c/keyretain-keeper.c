@@ -163,28 +163,16 @@ static void hold_session(const struct options *options) {
 
 /* ---- A keyring that is held as long as it has keys ---- */
 
-/* The user's key of this type and name in the user keyring, or -1: ENOKEY also where another user's was found, in a
- * keyring that is linked there. */
-static int32_t find_key(struct kr *connection, uint32_t context, const char *type, const char *name) {
-    char text[KR_SESSION_NAME_ROOM + 64] = "";
-    unsigned owner;
-    int32_t key = kr_search(connection, context, KEY_SPEC_USER_KEYRING, type, name, 0);
-    if (key < 0) return -1;
-    kr_describe(connection, context, key, text, sizeof text - 1);
-    errno = ENOKEY;
-    return sscanf(text, "%*[^;];%u;", &owner) == 1 && owner == geteuid() ? key : -1;
-}
-
-/* The same. Where there is none it is made beside the user keyring and moved there: of two keepers that do so at once
- * the second finds what the first has made. */
+/* The user's key of this type and name in the user keyring, or -1. Where there is none it is made beside the user
+ * keyring and moved there: of two keepers that do so at once the second finds what the first has made. */
 static int32_t have_key(struct kr *connection, uint32_t context, const char *type, const char *name,
                         const char *payload) {
     const int32_t beside = KEY_SPEC_THREAD_KEYRING, user = KEY_SPEC_USER_KEYRING;
-    int32_t key = find_key(connection, context, type, name);
+    int32_t key = kr_find_own(connection, context, user, type, name);
     if (key >= 0 || errno != ENOKEY) return key;
     key = kr_add(connection, context, type, name, payload, strlen(payload), beside);
     if (key < 0 || kr_move(connection, context, key, beside, user, KEYCTL_MOVE_EXCL) == 0) return key;
-    return errno == EEXIST ? find_key(connection, context, type, name) : -1;
+    return errno == EEXIST ? kr_find_own(connection, context, user, type, name) : -1;
 }
 
 /* Unlinks the keys that can't be used any more, and answers whether one is left that can: there may be one where the

@@ -244,7 +244,7 @@ static void give_variable(struct kr *connection, uint32_t context, char *word) {
     static char secret[PAYLOAD_MAX + 1];
     char *key = strchr(word, '=');
     *key++ = '\0';
-    int64_t id = *key == '%' ? kr_search(connection, context, KEY_SPEC_SESSION_KEYRING, "user", key + 6, 0)
+    int64_t id = *key == '%' ? kr_find_own(connection, context, KEY_SPEC_SESSION_KEYRING, "user", key + 6)
                              : strtoll(key, NULL, DECIMAL);
     if (id > INT32_MAX) errno = ENOKEY;
     int64_t length = id < 0 || id > INT32_MAX ? -1 : kr_read(connection, context, (int32_t)id, secret, PAYLOAD_MAX);

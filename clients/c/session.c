@@ -91,6 +91,16 @@ int kr_read_attributes(struct kr *connection, uint32_t context, int32_t ring, st
     return kr_parse_attributes(text, attributes) ? 0 : 1;
 }
 
+int32_t kr_find_own(struct kr *connection, uint32_t context, int32_t head, const char *type, const char *name) {
+    char text[KR_SESSION_NAME_ROOM + 64] = "";
+    unsigned owner;
+    int32_t key = kr_search(connection, context, head, type, name, 0);
+    if (key < 0) return -1;
+    kr_describe(connection, context, key, text, sizeof text - 1);
+    errno = ENOKEY;
+    return sscanf(text, "%*[^;];%u;", &owner) == 1 && owner == geteuid() ? key : -1;
+}
+
 /* Whether the keyring is this user's, and gives nothing to group and others. 1 where it isn't, or the daemon doesn't
  * tell; -1 where the connection fails. */
 static int check_private(struct kr *connection, uint32_t context, int32_t ring, uint32_t uid,

@@ -63,6 +63,10 @@ bool kr_parse_attributes(const char *described, struct kr_attributes *attributes
 /* The same of the daemon's: 0; 1 where it doesn't tell; -1 where the connection fails. */
 int kr_read_attributes(struct kr *connection, uint32_t context, int32_t ring, struct kr_attributes *attributes);
 
+/* The effective user's own key of this type and name, which a search from there finds. -1 with errno: ENOKEY also where
+ * it finds another user's, in a keyring that is linked there. */
+int32_t kr_find_own(struct kr *connection, uint32_t context, int32_t head, const char *type, const char *name);
+
 /* ---- holder.c: what holds a session ----
  *
  * What a process has, and hands on, in place of the connection that holds a session: the writing end of the pipe on

@@ -63,13 +63,18 @@ static void let_go(struct entry *entry) {
 int32_t kr_search(struct kr *connection, uint32_t context, int32_t ring, const char *type, const char *name,
                   int32_t destination) {
     check(connection, context);
-    bool finds_ring = strcmp(type, "keyring") == 0;
-    if (destination || (!finds_ring && ring != RING)) abort();
-    if (finds_ring && has_ring) return RING;
-    for (int i = 0; i < ENTRIES && !finds_ring; i++)
+    if (destination || strcmp(type, "user") != 0 || ring != RING) abort();
+    for (int i = 0; i < ENTRIES; i++)
         if (entries[i].payload && strcmp(entries[i].name, name) == 0) return FIRST + i;
     errno = ENOKEY;
     return -1;
+}
+
+int32_t kr_find_own(struct kr *connection, uint32_t context, int32_t ring, const char *type, const char *name) {
+    check(connection, context);
+    if (ring == RING || strcmp(type, "keyring") != 0 || strcmp(name, "ssh-agent") != 0) abort();
+    errno = ENOKEY;
+    return has_ring ? RING : -1;
 }
 
 int32_t kr_add(struct kr *connection, uint32_t context, const char *type, const char *name, const void *payload,

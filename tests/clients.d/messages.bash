@@ -88,6 +88,11 @@ try_variables() {
   # shellcheck disable=SC2016 # the command's own
   says 'a null byte' 1 'null: Invalid argument' in_session -- sh -c 'printf "a\\0b" | keyctl padd user null @s >&2
     exec "$0" --env TOKEN=%user:null --join -- true' "$dir/c/keyretain-session"
+  # shellcheck disable=SC2016 # the command's own
+  says "another user's key" 1 'planted: Required key not available' env PYTHONPATH="$top/clients/python" \
+    KEYRETAIN_LIBRARY_FOLDER="$dir/keyretain" python3 -B "$parts/planted.py" "$path" "$dir/c/keyretain-session" -- \
+    sh -c 'keyctl link "$PLANTED" @s
+    exec "$0" --env TOKEN=%user:planted --join -- true' "$dir/c/keyretain-session"
   for key in TOKEN 1T=5 TOKEN= TOKEN=%logon:a:b TOKEN=5x TOKEN=%user:; do
     says "--env $key" 2 '--env is VARIABLE=' in_session --env "$key" -- true
   done
