@@ -109,6 +109,24 @@ impl Tables {
         ensures { result ≡ possessed self.now context.now serial }
     {
         let ring = self.process_ring(context.process);
+        if self
+            .walker
+            .possesses_hinted(&self.keys, context, ring, self.clock, name, serial)
+        {
+            return true;
+        }
+        self.possesses_unhinted(context, serial, name)
+    }
+
+    /// The same of a key that no hint finds: where that takes a look at many keyrings, it may soon be known to be out of
+    /// their reach.
+    #[inline(never)]
+    #[tactic(auto, unfolding(krs_model::specs::Possession::possessed))]
+    fn possesses_unhinted(&self, context: &Context, serial: Serial, name: &HashedName) -> bool
+        requires { name_in self.now serial ≡ Some name.now }
+        ensures { result ≡ possessed self.now context.now serial }
+    {
+        let ring = self.process_ring(context.process);
         match self
             .walker
             .possesses_soon(&self.keys, context, ring, self.clock, name, serial)
@@ -118,8 +136,7 @@ impl Tables {
         }
     }
 
-    /// The same where that takes a look at many keyrings, unless the key is soon known to be out of their reach.
-    #[inline(never)]
+    /// The same, where it does take such a look.
     #[tactic(auto, unfolding(krs_model::specs::Possession::possessed))]
     fn possesses_among_many(&self, context: &Context, serial: Serial, name: &HashedName) -> bool
         requires { name_in self.now serial ≡ Some name.now }

@@ -1,4 +1,4 @@
-ghost use Rattle.std.specs.Prelude.{◌≡◌, ◌≤◌, [], false, Some, drop, length, IfOk, IfSome, OnOk};
+ghost use Rattle.std.specs.Prelude.{◌≡◌, ◌≤◌, [], true, false, Some, drop, length, IfOk, IfSome, OnOk};
 ghost use Rattle.std.specs.List.{list_any};
 ghost use Rattle.std.specs.Option.{option_to_list};
 ghost use Rattle.krs_model.specs.Levels.{is_in};
@@ -102,7 +102,37 @@ impl Walker {
         sought.is_linked(self)
     }
 
-    /// The same where it takes a look at few keyrings: else none.
+    /// Whether it is attached, or hints lead to a link of it at once.
+    pub fn possesses_hinted(
+        &self,
+        keys: &KeyTable,
+        context: &Context,
+        process_ring: Option<Serial>,
+        clock: u64,
+        name: &HashedName,
+        serial: Serial,
+    ) -> bool
+        requires fit { AreFit keys.now.keys }
+        requires name { name_at keys.now.keys serial ≡ Some name.now }
+        ensures { result ≡ true →
+            possessed_with (shown keys.now.keys) clock context.now process_ring serial ≡ true }
+    {
+        keys.only_keyrings_link();
+        if is_attached(context, &process_ring, serial) {
+            return true;
+        }
+        let sought = Sought {
+            keys,
+            context,
+            process_ring,
+            clock,
+            name,
+            serial,
+        };
+        sought.is_hinted()
+    }
+
+    /// Whether it is possessed, where that takes a look at few keyrings: else none. No hint of it is looked at.
     pub fn possesses_soon(
         &self,
         keys: &KeyTable,
@@ -145,8 +175,23 @@ pub(crate) struct Sought<'a> {
 }
 
 impl Sought<'_> {
-    /// Whether a followed keyring of the first `SEARCH_DEPTH` levels links it.
+    /// Whether a followed keyring of the first `SEARCH_DEPTH` levels links it. Hints are followed first: they mostly lead
+    /// to the link at once, however many keyrings there are.
     fn is_linked(&self, walker: &Walker) -> bool
+        requires fit { AreFit self.now.keys.now.keys }
+        requires name { name_at self.now.keys.now.keys self.now.serial ≡ Some self.now.name.now }
+        ensures { result ≡
+            is_linked (shown self.now.keys.now.keys) self.now.clock self.now.context.now self.now.process_ring self.now.serial }
+    {
+        if self.is_hinted() {
+            return true;
+        }
+        self.is_linked_unhinted(walker)
+    }
+
+    /// The same, where no hint leads to a link in the two nearest levels.
+    #[inline(never)]
+    fn is_linked_unhinted(&self, walker: &Walker) -> bool
         requires fit { AreFit self.now.keys.now.keys }
         requires name { name_at self.now.keys.now.keys self.now.serial ≡ Some self.now.name.now }
         ensures { result ≡
@@ -172,23 +217,8 @@ impl Sought<'_> {
         self.is_linked_by_levels(walker)
     }
 
-    /// The same, where few keyrings have to be looked at: else none. Hints are followed first: they mostly lead to the
-    /// link at once, however many keyrings there are.
+    /// The same, where few keyrings have to be looked at: else none.
     fn is_linked_soon(&self, walker: &Walker) -> Option<bool>
-        requires fit { AreFit self.now.keys.now.keys }
-        requires name { name_at self.now.keys.now.keys self.now.serial ≡ Some self.now.name.now }
-        ensures { IfSome result (λ b. b ≡
-            is_linked (shown self.now.keys.now.keys) self.now.clock self.now.context.now self.now.process_ring self.now.serial) }
-    {
-        if self.is_hinted() {
-            return Some(true);
-        }
-        self.is_linked_unhinted(walker)
-    }
-
-    /// The same, where no hint leads to a link in the two nearest levels.
-    #[inline(never)]
-    fn is_linked_unhinted(&self, walker: &Walker) -> Option<bool>
         requires fit { AreFit self.now.keys.now.keys }
         requires name { name_at self.now.keys.now.keys self.now.serial ≡ Some self.now.name.now }
         ensures { IfSome result (λ b. b ≡

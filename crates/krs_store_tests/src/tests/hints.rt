@@ -98,6 +98,19 @@ impl Hinted {
         }
     }
 
+    /// Whether just these are named one behind the other.
+    fn names_all(&self, key: u32, all: &[u32]) -> bool {
+        let mut last = 0;
+        for ring in all {
+            let next = number_of(self.keys.linker_behind(Serial::new(key), last));
+            if next != *ring {
+                return false;
+            }
+            last = next;
+        }
+        self.keys.linker_behind(Serial::new(key), last).is_none()
+    }
+
     /// The keyrings that are named for a key: the two that stand with it, and a further one; 0 is none.
     fn hints(&self, key: u32) -> [u32; 3] {
         let (first, second) = self.keys.near_linkers(Serial::new(key));
@@ -114,40 +127,41 @@ fn number_of(ring: Option<Serial>) -> u32 {
     }
 }
 
-/// A step, a key, which keyrings are named for it then, and what it is. The keyrings have the serials 1 to 5, and link
-/// that of 6.
+/// A step, a key, which keyrings are named for it then, all of them by their serials, and what it is. The keyrings have
+/// the serials 1 to 5, and link that of 6.
 #[rattlefmt::skip]
-const ROWS: [(Step, u32, [u32; 3], &str); 23] = [
-    (Step::Insert(1), 1, [0, 0, 0], "a keyring that nothing links"),
-    (Step::Insert(2), 2, [0, 0, 0], "a second"),
-    (Step::Insert(3), 3, [0, 0, 0], "a third"),
-    (Step::Insert(4), 4, [0, 0, 0], "a fourth"),
-    (Step::Insert(5), 5, [0, 0, 0], "a fifth"),
-    (Step::InsertLinked { ring: 1, named: 6 }, 6, [1, 0, 0], "one that comes with a link"),
-    (Step::Link { ring: 2, named: 6, key: 6 }, 6, [1, 2, 0], "a second link"),
-    (Step::Link { ring: 2, named: 6, key: 6 }, 6, [1, 2, 0], "the same link again"),
-    (Step::Link { ring: 3, named: 6, key: 6 }, 6, [1, 2, 3], "a third link"),
-    (Step::Link { ring: 4, named: 6, key: 6 }, 6, [1, 2, 3], "a fourth link"),
-    (Step::Link { ring: 1, named: 6, key: 5 }, 6, [0, 2, 3], "a link in the place of the first"),
-    (Step::Link { ring: 3, named: 6, key: 5 }, 6, [0, 2, 4], "a link in the place of the third"),
-    (Step::Link { ring: 3, named: 7, key: 6 }, 6, [3, 2, 4], "a link in the room of the first"),
-    (Step::Clear(2), 6, [3, 0, 4], "a keyring that is cleared"),
-    (Step::Revoke(3), 6, [0, 0, 4], "a keyring that is revoked"),
-    (Step::Link { ring: 2, named: 6, key: 6 }, 6, [2, 0, 4], "a link after it"),
-    (Step::Link { ring: 5, named: 6, key: 6 }, 6, [2, 5, 4], "a link beside it"),
-    (Step::Remove(2), 6, [0, 5, 4], "a keyring that goes"),
-    (Step::Clear(4), 6, [0, 5, 0], "the last of those beyond two"),
-    (Step::Remove(6), 6, [0, 0, 0], "the key itself"),
-    (Step::Insert(7), 7, [0, 0, 0], "another key in its place"),
-    (Step::InsertLinked { ring: 5, named: 6 }, 8, [5, 0, 0], "one that displaces it"),
-    (Step::Link { ring: 5, named: 6, key: 7 }, 8, [0, 0, 0], "one that displaces that"),
+const ROWS: [(Step, u32, [u32; 3], &[u32], &str); 23] = [
+    (Step::Insert(1), 1, [0, 0, 0], &[], "a keyring that nothing links"),
+    (Step::Insert(2), 2, [0, 0, 0], &[], "a second"),
+    (Step::Insert(3), 3, [0, 0, 0], &[], "a third"),
+    (Step::Insert(4), 4, [0, 0, 0], &[], "a fourth"),
+    (Step::Insert(5), 5, [0, 0, 0], &[], "a fifth"),
+    (Step::InsertLinked { ring: 1, named: 6 }, 6, [1, 0, 0], &[1], "one that comes with a link"),
+    (Step::Link { ring: 2, named: 6, key: 6 }, 6, [1, 2, 0], &[1, 2], "a second link"),
+    (Step::Link { ring: 2, named: 6, key: 6 }, 6, [1, 2, 0], &[1, 2], "the same link again"),
+    (Step::Link { ring: 3, named: 6, key: 6 }, 6, [1, 2, 3], &[1, 2, 3], "a third link"),
+    (Step::Link { ring: 4, named: 6, key: 6 }, 6, [1, 2, 3], &[1, 2, 3, 4], "a fourth link"),
+    (Step::Link { ring: 1, named: 6, key: 5 }, 6, [0, 2, 3], &[2, 3, 4], "a link in the place of the first"),
+    (Step::Link { ring: 3, named: 6, key: 5 }, 6, [0, 2, 4], &[2, 4], "a link in the place of the third"),
+    (Step::Link { ring: 3, named: 7, key: 6 }, 6, [3, 2, 4], &[2, 3, 4], "a link in the room of the first"),
+    (Step::Clear(2), 6, [3, 0, 4], &[3, 4], "a keyring that is cleared"),
+    (Step::Revoke(3), 6, [0, 0, 4], &[4], "a keyring that is revoked"),
+    (Step::Link { ring: 2, named: 6, key: 6 }, 6, [2, 0, 4], &[2, 4], "a link after it"),
+    (Step::Link { ring: 5, named: 6, key: 6 }, 6, [2, 5, 4], &[2, 4, 5], "a link beside it"),
+    (Step::Remove(2), 6, [0, 5, 4], &[4, 5], "a keyring that goes"),
+    (Step::Clear(4), 6, [0, 5, 0], &[5], "the last of those beyond two"),
+    (Step::Remove(6), 6, [0, 0, 0], &[], "the key itself"),
+    (Step::Insert(7), 7, [0, 0, 0], &[], "another key in its place"),
+    (Step::InsertLinked { ring: 5, named: 6 }, 8, [5, 0, 0], &[5], "one that displaces it"),
+    (Step::Link { ring: 5, named: 6, key: 7 }, 8, [0, 0, 0], &[], "one that displaces that"),
 ];
 
 fn check_rows(rt: &impl Abort, table: &mut Hinted) {
-    for (step, key, hints, row) in &ROWS {
+    for (step, key, hints, all, row) in &ROWS {
         assert!(rt; table.step(*step).is_ok(), "{row}");
         let named = table.hints(*key);
         assert!(rt; named == *hints, "{row}: {named:?}");
+        assert!(rt; table.names_all(*key, all), "{row}");
     }
 }
 

@@ -1,0 +1,10 @@
+use Rattle.std.proofs.Common.{◌≡◌, Some, sym, subst}
+use Rattle.krs_model.specs.State.{State}
+use Rattle.krs_tables.specs.Linked.{name_in}
+use Rattle.krs_tables.proofs.Links.{name_kept}
+use Rattle.krs_tables.proofs.tables.Tables.possesses_unhinted.Goals as goal
+
+pub possesses_soon-requires-clause-name : goal.possesses_soon-requires-clause-name
+possesses_soon-requires-clause-name c =
+    name_kept c.self.inside c.args.serial c.args.name.now
+    (subst (λ (t : State). name_in t c.args.serial ≡ Some c.args.name.now) (sym c.self.view_is) c.requires)
