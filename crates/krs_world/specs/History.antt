@@ -138,6 +138,10 @@ IsDealing dealt holder views = (v : View) × (get_elem? views holder ≡ some v)
 
 -- There is one history, `log`. The turn is 0 where it is free, 1 where it is out, and 2 while the seats are dealt;
 -- `home` is the store's state, none where no store is at home; `views` is what each seat knows.
+-- The claim is in four fields. `legal`: the history is the sequential store's. `at_home`: it ends in the store's state.
+-- `each`, by `Known`: it begins with what each lane has seen (`seen`), and has the lane's operations once, in their
+-- order (`fits`). `undealt`: it has no others. The other fields are there so that each step keeps these: who has the
+-- turn, which seat stands for which lane, which call is served, and that no operation is lost between two of them.
 pub record OneHistory (opening : State) (turn : ℕ) (home : Option State) (cell : ℕ → Cell) (views : List View)
     : Type 0 where
   pub log : List Event  -- the history
