@@ -78,11 +78,24 @@ IsReading made found =
 abbrev pub HasTurn : Part → Type 0
 HasTurn p = (log : List Event) × (p.holding ≡ Some log)
 
--- By which step on which word each is made, and what was found there: nothing at a store. The turn is taken by a try
--- that finds it free, and missed by one that finds it out, at another token; who gives it back, has a call of its own
--- served, finds, takes up or answers a call, or looks at a cell, has the turn. A call is posted in the lane's own cell,
--- and taken up where one is posted; a reply is collected where the cell was answered, by who hasn't the turn, and there
--- alone a step may find something and tell nothing of it. What was seen begins what is seen then.
+-- By which step each is made. A step is on one word: it loads it, stores a number there whatever it was, or exchanges
+-- one number for another where it finds that. A cell here is the word of a lane's cell.
+--
+-- | Move         | Word, and the step on it       | Found there  | Of the token                                      |
+-- |--------------|--------------------------------|--------------|---------------------------------------------------|
+-- | `takes`      | the turn, FREE to OUT          | FREE         | hadn't the turn                                   |
+-- | `misses`     | the turn, FREE to OUT          | not FREE     | hadn't the turn                                   |
+-- | `puts_own`   | the turn, OUT to FREE          | OUT          | held `log`, served nobody, had no call in flight  |
+-- | `puts_none`  | the turn, OUT to FREE          | OUT          | held `log`, served nobody                         |
+-- | `serves_own` | the turn, a load               | anything     | held `log`, served nobody, had no call in flight  |
+-- | `loads`      | the turn, a load               | anything     | had seen a beginning of `log`                     |
+-- | `posts`      | its own cell, a store          | isn't told   | had no call in flight                             |
+-- | `finds`      | a cell                         | POSTED       | had the turn                                      |
+-- | `grabs`      | a cell, POSTED to SERVING      | POSTED       | had the turn, served nobody                       |
+-- | `answers`    | the cell of the call, a store  | isn't told   | held `log`, served this call                      |
+-- | `looks`      | a cell                         | not POSTED   | had the turn                                      |
+-- | `collects`   | its own cell, ANSWERED to EMPTY| ANSWERED     | hadn't the turn, had seen a beginning of `log`    |
+-- | `stays`      | its own cell                   | not ANSWERED | hadn't the turn; alone it finds and tells nothing |
 abbrev pub IsMadeAt : Step SlotValue → Option ℕ → Part → Move → Type 0
 IsMadeAt made found p stays =
     (made.word ≡ cell_of p.lane) × ((n : ℕ) × (found ≡ Some n) × (n ≢ ANSWERED)) × (p.holding ≡ None)

@@ -46,8 +46,9 @@ KeepsTurn more s t = (more ≡ false → t.kept ≡ 0) × (t.kept ≢ 0 → (t.k
 abbrev pub missed_by : Sitting → Sitting
 missed_by s = record (rested s) { part = missed s.part }
 
--- A call was made. Some beginning `upto` of what is now seen is legal from the opening state, begins with all that had
--- been seen, and ends with the call. The call is one more of the lane's, and what is now seen has just those.
+-- A call was made: it is in what is now seen, behind all that had been seen. What is now seen up to the call is `upto`,
+-- which is legal from the opening state; what others asked since is `between`. The call is one more of the lane's, and
+-- what is now seen has just those.
 pub record Adds (s : Sitting) (event : Event) (t : Sitting) : Type 0 where
   pub table : t.table ≡ s.table
   pub opening : t.opening ≡ s.opening
