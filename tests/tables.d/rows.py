@@ -39,6 +39,11 @@ def equations(text, function):
     return {first or second: right for first, second, right in found}
 
 
+def types():
+    """The names of the types of keys."""
+    return re.findall(r'^kind_name \w+ = codes "(\w+)"$', text_of("crates/krs_types/specs/Kind.antt"), re.M)
+
+
 # ---- Asks
 
 # The forms of fields that have a name, with what the definitions say of each.

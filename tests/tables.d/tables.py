@@ -18,7 +18,7 @@ import rows
 import vectors
 
 KEYRETAIN, CODEC, CALLS = (*sys.argv[1:], None, None)[:3]
-KEYRINGS, TYPES = "@t @p @s @u @us", "user logon keyring"
+KEYRINGS, TYPES = "@t @p @s @u @us", rows.types()
 ASKS, COMMANDS = rows.asks(), rows.commands()
 
 
@@ -98,7 +98,7 @@ def offered(command, word):
         return "off"
     if word in ("create", "excl"):
         return word
-    return {"KEY": KEYRINGS, "RING": KEYRINGS, "FROM": KEYRINGS, "TO": KEYRINGS, "TYPE": TYPES}.get(word, "")
+    return {"KEY": KEYRINGS, "RING": KEYRINGS, "FROM": KEYRINGS, "TO": KEYRINGS, "TYPE": " ".join(TYPES)}.get(word, "")
 
 
 def try_completion():
@@ -203,6 +203,13 @@ def try_bench():
             sorted({word_of(name.split(",")[0].split(" ")[0]) for name in named}))
 
 
+def try_types():
+    """What is told of an unknown type, and where a page counts the types up."""
+    listed = f"types are {', '.join(TYPES[:-1])} and {TYPES[-1]}"
+    for place in ("crates/krs_ctl/src/advice.rt", "man/keyretain-keyutils.7", "man/keyretain-syscalls.7"):
+        compare(f"{place}, the types", True, listed in rows.text_of(place))
+
+
 # ---- What the proofs rest on
 
 
@@ -218,8 +225,8 @@ def try_bodies():
     compare("wrong bodies that can't be applied", {}, bodies.misfits())
 
 
-for case in (try_definitions, try_format, try_lists, try_pages, try_python, try_admission, try_bench, try_foreign,
-             try_bodies):
+for case in (try_definitions, try_format, try_lists, try_pages, try_python, try_admission, try_bench, try_types,
+             try_foreign, try_bodies):
     case()
 if os.access(KEYRETAIN, os.X_OK):
     try_help()
