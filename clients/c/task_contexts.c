@@ -16,14 +16,17 @@ void end_seats(struct task *task) {
     while (task->count > 0) drop_seat(task, task->count - 1);
 }
 
-/* Those whose connection has ended are dropped. */
+/* Those whose connection has ended are dropped. Who has joined a session itself is in it while its user is the real
+ * one. */
 struct seat *find_seat(struct task *task, const struct user *user, const struct asker *asker) {
     for (unsigned i = task->count; i > 0; i--)
         if (!context_connection(&task->seats[i - 1].context)) drop_seat(task, i - 1);
     const struct admission_process *now = &asker->process;
+    bool is_real = user->identity.uid == now->uids.real;
     return FIND_SEAT(task, seat, seat->user == user &&
-                                     (seat->has_joined || (seat->is_elsewhere == asker->is_elsewhere &&
-                                                           memcmp(&seat->made_for, now, sizeof *now) == 0)));
+                                     (seat->has_joined ? is_real
+                                                       : seat->is_elsewhere == asker->is_elsewhere &&
+                                                             memcmp(&seat->made_for, now, sizeof *now) == 0));
 }
 
 static struct seat *find_in_session(struct task *task, const struct user *user, struct admitted admitted) {
@@ -91,6 +94,7 @@ void bring_seats(struct task *task, struct session *session) {
             seat_set_session(seat, is_in ? session : NULL);
             seat->is_lost = !is_in;
             seat->has_joined = false;
+            if (!is_in && session_leave(&seat->context) < 0) drop_seat(task, i - 1);
         } else {
             drop_seat(task, i - 1);
         }

@@ -96,6 +96,8 @@ try_keyinit() {
 try_deputies() {
   local wanted='EKEYREVOKED, then none' copied
   [ "$(id -u)" = 0 ] || { skipped 'set-uid programs: not root'; return; }
+  prints 'who has joined a session, and has another real uid' EACCES "$dir/tree" leaves-joined
+  prints 'and has joined that one'"'"'s, with a process keyring' EACCES "$dir/tree" leaves-joined joins
   install -m 4755 "$dir/tree" "$dir/tree-set-uid"
   prints 'a set-uid program of a user below a session of root' "$wanted" "$dir/tree" deputy "$dir/tree-set-uid"
   prints 'a set-uid program of a user that has joined a session' "EKEYREVOKED, then its user's" "$dir/tree" \
