@@ -6,7 +6,7 @@ ghost use Rattle.krs_listen.specs.Telling.{TellsFailure};
 ghost use Rattle.krs_serve.specs.OneDesk.{ServeInOneHistory};
 
 use crate::apart::{Hosted, Hosting, serve_apart};
-use crate::meeting::meet_all;
+use crate::meeting::take_back;
 use crate::{Acceptor, AtDesk, SocketGuest, SocketSitting};
 use krs_listen::{
     Accepted, Accepts, NOT_ACCEPTED, SocketAcceptor, SocketReader, SocketWriter, Voice, Voices,
@@ -96,8 +96,37 @@ fn accept_over<
 }
 
 /// Accepts so many connections, and gives their counts. A failed accept is told at once. Then the socket is closed, and
-/// what was accepted is served to its end. All seats come back, and meet: so there is one legal history, from the empty
-/// store, in which the calls of each are those of one connection after another.
+/// what was accepted is served to its end.
+fn accept_and_serve<
+    's,
+    'd,
+    N: AtDesk + Send + Sync,
+    R: Threads + Wait + Clock + Sync,
+    W: Write,
+    E: Write,
+>(
+    hosting: &'s Hosting<'s, 'd, N, R>,
+    listener: UnixListener,
+    connections: u64,
+    voices: &mut Voices<W, E>,
+) -> (Accepted, Accepts)
+    ensures count { AcceptsBy connections 0 result.1.accepted 0 result.1.failures result.0 }
+    ensures told { TellsAccepted result.0 (heard W.contents voices.old.output) (heard W.contents voices.new.output) }
+    ensures cause { TellsFailure result.0 (heard E.contents voices.old.errors) (heard E.contents voices.new.errors) }
+{
+    let (accepted, counts, _voices) = thread::scope(
+        thread::scope_env(),
+        hosting.rt,
+        move |scope| {
+            let (accepted, counts) = accept_over(hosting, listener, connections, voices, scope);
+            (accepted, counts, voices)
+        },
+    );
+    (accepted, counts)
+}
+
+/// The same, and then all seats come back, and meet: so there is one legal history, from the empty store, in which the
+/// calls of each are those of one connection after another.
 pub fn accept_all<
     's,
     'd,
@@ -118,14 +147,7 @@ pub fn accept_all<
     ensures one_history { ServeInOneHistory ⟦<Over<SocketReader> as Source>⟧ ⟦<Over<SocketWriter> as Sink>⟧ 16777216
         (map (λ s. s.seat) result.2.items) }
 {
-    let (accepted, counts, _voices) = thread::scope(
-        thread::scope_env(),
-        hosting.rt,
-        move |scope| {
-            let (accepted, counts) = accept_over(hosting, listener, connections, voices, scope);
-            (accepted, counts, voices)
-        },
-    );
-    let seats = meet_all(hosting.free.take_all(hosting.rt, hosting.alloc));
+    let (accepted, counts) = accept_and_serve(hosting, listener, connections, voices);
+    let seats = take_back(hosting.rt, hosting.alloc, hosting.free);
     (accepted, counts, seats)
 }

@@ -3,12 +3,16 @@ ghost use Rattle.std.specs.Prelude.{◌≡◌, map, vec_len};
 ghost use Rattle.std.specs.VecDeque.{deque_len, deque_capacity};
 ghost use Rattle.krs_model.specs.State.{starting_at};
 ghost use Rattle.krs_desk.specs.Seen.{IsOneHistory};
+ghost use Rattle.krs_listen.specs.Accepting.{seat_count};
 ghost use Rattle.krs_serve.specs.OneDesk.{MeetsEach, HaveOneHistory, ServeInOneHistory};
 
 use crate::connection::{meet_two, see_one_history};
 use crate::{AtDesk, Sitting};
+use krs_listen::FreeSeats;
 use krs_session::{Sink, Source};
+use std::alloc::Global;
 use std::collections::VecDeque;
+use std::sync::Wait;
 
 /// The first meets each of the others, which stay in order.
 fn meet_each<'d, N: AtDesk, R: Source, W: Sink>(
@@ -54,4 +58,17 @@ pub(crate) fn meet_all<'d, N: AtDesk, R: Source, W: Sink>(
     let twice = meet_each(once, &mut others);
     others.push_front_reserved(twice);
     Vec::from(others)
+}
+
+/// All seats, once each has come back, and has met the others.
+pub(crate) fn take_back<'d, N: AtDesk, S: Source, T: Sink, R: Wait>(
+    rt: &R,
+    alloc: Global,
+    free: &FreeSeats<Sitting<'d, N, S, T>>,
+) -> Vec<Sitting<'d, N, S, T>>
+    ensures seats { vec_len result ≡ seat_count free.now }
+    ensures one_history { ServeInOneHistory S.Source T.Sink 16777216 (map (λ s. s.seat) result.items) }
+{
+    let seats = free.take_all(rt, alloc);
+    meet_all(seats)
 }
