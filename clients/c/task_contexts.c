@@ -94,6 +94,7 @@ void bring_seats(struct task *task, struct session *session) {
             seat_set_session(seat, is_in ? session : NULL);
             seat->is_lost = !is_in;
             seat->has_joined = false;
+            memset(&seat->made_for, -1, sizeof seat->made_for); /* nobody: who asks next is judged anew */
             if (!is_in && session_leave(&seat->context) < 0) drop_seat(task, i - 1);
         } else {
             drop_seat(task, i - 1);

@@ -1,6 +1,7 @@
 /* tree-logins.c: of the program tree: logins, set-uid programs, and identities that come and go. */
 #define _GNU_SOURCE
 #include <grp.h>
+#include <linux/securebits.h>
 #include <sched.h>
 #include <sys/prctl.h>
 #include <sys/resource.h>
@@ -52,14 +53,21 @@ static int init_keyrings(void) {
     return puts(keyctl(KEYCTL_REVOKE, (unsigned long)joined, 0, 0, 0) == 0 ? "revoked" : error_name()) < 0;
 }
 
-/* A user joins a session, and its real uid is another one then; with `joins` it joins that one's, and has a process
- * keyring to lose: whether a key of the first session is read. */
-static int leave_joined(bool joins) {
-    const uid_t same = (uid_t)-1, other = NOBODY + 1;
-    if (setresuid(NOBODY, NOBODY, 0) < 0 || join(NULL) < 0) return 2;
+/* A user with this real uid, who may take another. */
+static bool be_user_of(uid_t real) {
+    return prctl(PR_SET_SECUREBITS, SECBIT_NO_SETUID_FIXUP, 0, 0, 0) == 0 && setresuid(real, NOBODY, NOBODY) == 0;
+}
+
+/* A user joins a session, and its real uid is another one then: whether a key of the session is read. With `joins` it
+ * joins a session of that other one's too, and with `brought` it has asked as that before: with a process keyring. */
+static int leave_joined(const char *how) {
+    const bool joins = strcmp(how, "joins") == 0, is_brought = strcmp(how, "brought") == 0;
+    const uid_t other = NOBODY + 1;
+    if (is_brought && (!be_user_of(other) || add_key("user", "own", "x", 1, KEY_SPEC_PROCESS_KEYRING) < 0)) return 2;
+    if (!be_user_of(NOBODY) || join(NULL) < 0) return 2;
     long key = add_key("user", "left", "read", 4, KEY_SPEC_SESSION_KEYRING);
     if (key < 0 || (joins && add_key("user", "own", "x", 1, KEY_SPEC_PROCESS_KEYRING) < 0)) return 2;
-    if (setresuid(same, 0, same) < 0 || setresuid(other, NOBODY, 0) < 0 || (joins && join(NULL) < 0)) return 2;
+    if (!be_user_of(other) || (joins && join(NULL) < 0)) return 2;
     return print_read(key);
 }
 
@@ -230,7 +238,7 @@ int logins_modes(const char *mode, int many, int count, char **words) {
     if (strcmp(mode, "putting") == 0 && count == 3) return put_for_user(words[2]);
     if (strcmp(mode, "read") == 0) return print_read(many);
     if (strcmp(mode, "keyinit") == 0) return init_keyrings();
-    if (strcmp(mode, "leaves-joined") == 0) return leave_joined(count > 2);
+    if (strcmp(mode, "leaves-joined") == 0 && count == 3) return leave_joined(words[2]);
     if (strcmp(mode, "deputy") == 0 && count > 2) return have_deputy(words[2], count > 3);
     if (strcmp(mode, "joined-deputy") == 0 && count == 3) return have_joined_deputy(words[2]);
     if (strcmp(mode, "acts") == 0 && count == 3) return act(many);

@@ -94,10 +94,11 @@ try_keyinit() {
 
 # A user's program, executed set-uid, that asks and becomes its user again; below a session of root's.
 try_deputies() {
-  local wanted='EKEYREVOKED, then none' copied
+  local wanted='EKEYREVOKED, then none' copied how
   [ "$(id -u)" = 0 ] || { skipped 'set-uid programs: not root'; return; }
-  prints 'who has joined a session, and has another real uid' EACCES "$dir/tree" leaves-joined
-  prints 'and has joined that one'"'"'s, with a process keyring' EACCES "$dir/tree" leaves-joined joins
+  for how in alone joins brought; do
+    prints "who has joined a session, and has another real uid: $how" EACCES "$dir/tree" leaves-joined "$how"
+  done
   install -m 4755 "$dir/tree" "$dir/tree-set-uid"
   prints 'a set-uid program of a user below a session of root' "$wanted" "$dir/tree" deputy "$dir/tree-set-uid"
   prints 'a set-uid program of a user that has joined a session' "EKEYREVOKED, then its user's" "$dir/tree" \
