@@ -1,6 +1,6 @@
 -- A call that is posted, helped and collected, and what its caller is told.
 use Rattle.std.proofs.Common.{◌≡◌, ◌+◌, ◌<◌, ℕ, List, [], ◌∷◌, ◌++◌, Some, Result, refl, sym, ap, ◌∙◌, subst, arith}
-use Rattle.std.proofs.Common.{append_assoc}
+use Rattle.std.proofs.Common.{append_assoc, inl, inr, ⊎_elim}
 use Rattle.atomic_table.specs.Seated.{TableId}
 use Rattle.krs_types.specs.declared.ask.Ask.{Ask}
 use Rattle.krs_types.specs.declared.ask.Answer.{Answer}
@@ -29,7 +29,7 @@ waits_posted desk s t moment ask is =
       mine = refl;
       seen = prefix_self s.part.seen;
       rises = λ lt. omega arith;
-      looked = λ lt. absurd (omega arith);
+      looked = (λ lt. absurd (omega arith), λ _. inl refl);
     }
 
 helped_on :
@@ -48,7 +48,7 @@ helped_on desk s t u moment ask (Took count) w h =
           prefix_trans s.part.seen t.part.seen u.part.seen w.seen
           (subst (Begins t.part.seen) (sym h.seen) (prefix_more t.part.seen u.part.base h.answered h.before));
       rises = λ lt. rises (omega arith);
-      looked = λ lt. h.checked;
+      looked = (λ lt. h.checked, λ same. absurd (rises (omega arith)));
     }
 helped_on desk s t u moment ask Busy w h =
     subst (Waits desk s moment ask) (sym h.1)
@@ -129,8 +129,10 @@ adds_collected desk s t u moment ask reply w c =
 pub looked_collected :
     (desk : TableId) (s t u : Sitting) (moment : ℕ) (ask : Ask) (reply : Result Answer Errno)
     → Waits desk s moment ask t → Collects t reply u → HasLooked desk s u
-looked_collected desk s t u moment ask reply w c =
-    λ lt. c.checked ∙ w.looked (subst (λ (n : ℕ). s.part.taken < n) c.taken lt)
+looked_collected desk s t u moment ask reply w c = (
+  λ lt. c.checked ∙ w.looked.0 (subst (λ (n : ℕ). s.part.taken < n) c.taken lt),
+  λ same. ⊎_elim (λ none. inl (c.checked ∙ none)) (λ all. inr (c.checked ∙ all)) (w.looked.1 (sym c.taken ∙ same)),
+)
 
 -- Tries that found the turn taken.
 

@@ -32,22 +32,18 @@ use Rattle.krs_desk.proofs.Seats.{same_store}
 
 -- The turn is had.
 
--- a token that just had the turn may serve; it has looked at no cell
-pub had_held :
-    (lane : ℕ) (idle : Bool) (m n : Me) → IsSeated lane idle m → Holds m n → HoldsAll n × ((part n).checked ≡ [])
+-- a token that just had the turn may serve
+pub had_held : (lane : ℕ) (idle : Bool) (m n : Me) → IsSeated lane idle m → Holds m n → HoldsAll n
 had_held lane idle m n seated had =
-    subst (λ (z : Me). HoldsAll z × ((part z).checked ≡ [])) (sym had.has) (
-      record {
-        log = had.log;
-        last = had.last;
-        has =
-            ap (λ (k : Me). (sat (opening m) (taken (part m) had.log), (0, Home had.last) ∷ k.1)) seated.rests.0;
-        held = refl;
-        legal = had.found.legal;
-        unserving = seated.unserving;
-      },
-      refl,
-    )
+    subst (λ (z : Me). HoldsAll z) (sym had.has)
+    record {
+      log = had.log;
+      last = had.last;
+      has = ap (λ (k : Me). (sat (opening m) (taken (part m) had.log), (0, Home had.last) ∷ k.1)) seated.rests.0;
+      held = refl;
+      legal = had.found.legal;
+      unserving = seated.unserving;
+    }
 
 pub had_hand :
     (lane : ℕ) (idle : Bool) (m n : Me) → IsSeated lane idle m → Holds m n → idle ≡ is_free (part n).flight
@@ -251,8 +247,8 @@ serves_none m lane x w h is three =
 
 -- All lanes.
 
-pub starts : (m : Me) → HoldsAll m → (part m).checked ≡ [] → Goes m 0 0 m
-starts m h unlooked =
+pub starts : (m : Me) → HoldsAll m → Goes m 0 0 m
+starts m h =
     let all : held_of (part m).holding ≡ h.log = ap held_of h.held in (
       h.last,
       in_hand m h,
@@ -272,7 +268,7 @@ starts m h unlooked =
           found = refl;
         };
         unserving = h.unserving;
-        checked = unlooked;
+        checked = sym (append-nil (part m).checked);
         done = λ lt. absurd (omega arith);
       },
     )
@@ -308,7 +304,10 @@ goes_on a p q r j k lane store next g s =
       answers = length-append g.events s.events ∙ (λ i. g.answers i + s.answers i);
       stays = stays_on p q r g.stays s.stays;
       unserving = s.unserving;
-      checked = s.checked ∙ (ap (λ l. l ++ lane ∷ []) g.checked ∙ sym (below_more lane));
+      checked =
+          s.checked
+          ∙ (ap (λ l. l ++ lane ∷ []) g.checked
+          ∙ (append_assoc p.checked (below lane) (lane ∷ []) ∙ ap (λ l. p.checked ++ l) (sym (below_more lane))));
       done = λ lt has. dite (ℕ_discrete lane p.lane)
           (λ (e : lane ≡ p.lane). s.own (e ∙ sym g.stays.same_lane) (λ no. has (sym g.stays.flight ∙ no)))
           (λ ne. s.done (g.done (omega arith) has));

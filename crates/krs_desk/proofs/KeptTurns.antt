@@ -1,6 +1,6 @@
 -- A turn that a seat keeps: what its token and its seat are then, and what its caller is told.
 use Rattle.std.proofs.Common.{◌≡◌, ◌≢◌, ℕ, zero, suc, ◌<◌, Bool, true, List, [], ◌∷◌, ◌++◌, Some, None, Option, Result}
-use Rattle.std.proofs.Common.{refl, sym, ap, ◌∙◌, subst, append-nil, arith}
+use Rattle.std.proofs.Common.{refl, sym, ap, ◌∙◌, subst, append-nil, arith, inl, inr, ⊎_elim}
 use Rattle.atomic_table.specs.Seated.{TableId}
 use Rattle.atomic_table.specs.Table.{rest}
 use Rattle.krs_types.specs.declared.ask.Ask.{Ask}
@@ -14,16 +14,15 @@ use Rattle.krs_model.proofs.History.Legal.{legal_more}
 use Rattle.krs_world.specs.declared.view.Flight.{Flight}
 use Rattle.krs_world.specs.declared.view.Part.{Part}
 use Rattle.krs_world.specs.Knowing.{events_of, put_own, put_none, kept}
-use Rattle.krs_world.proofs.Keeping.{own_event}
+use Rattle.krs_world.proofs.Keeping.{prefix_self}
 use Rattle.krs_desk.specs.declared.slot.SlotValue.{SlotValue}
 use Rattle.krs_desk.specs.declared.slot.SlotValue.TheVariants.{Home}
 use Rattle.krs_desk.specs.Parts.{sat, hand_of}
 use Rattle.krs_desk.specs.Sitting.{Sitting, Adds, rested}
 use Rattle.krs_desk.specs.Seated.{Me, part, opening, sitting_of, is_free, IsSeated, Serves}
-use Rattle.krs_desk.specs.Helping.{HoldsAll, Finishes, HasLooked, held_of}
-use Rattle.krs_desk.specs.Keeping.{HasKept, given_back, at_rest, IsPlaced, GoesOn}
-use Rattle.krs_desk.proofs.Running.{same_list}
-use Rattle.krs_desk.proofs.Turns.{serves_is, serves_last}
+use Rattle.krs_desk.specs.Helping.{HoldsAll, Goes, Finishes, HasLooked, below, lanes_of, held_of}
+use Rattle.krs_desk.specs.Keeping.{HasKept, given_back, at_rest, IsPlaced, GoesRound, GoesOn}
+use Rattle.krs_desk.proofs.Turns.{serves_is, serves_last, adds}
 
 -- A seat, whether or not it has kept a turn.
 
@@ -69,7 +68,7 @@ free_none : (f : Option Flight) → true ≡ is_free f → f ≡ None
 free_none None e = refl
 free_none (Some call) e = absurd cc
 
-none_free : (f : Option Flight) → f ≡ None → is_free f ≡ true
+pub none_free : (f : Option Flight) → f ≡ None → is_free f ≡ true
 none_free f e = ap (λ (g : Option Flight). is_free g) e
 
 pub idle_told : (t : TableId) (lane : ℕ) (idle : Bool) (served : ℕ) (m : Me) (s : Sitting)
@@ -194,64 +193,88 @@ goes_kept m n e h quiet g =
       quiet = quiet;
     }
 
--- A call in a turn that was kept.
+-- In a turn that was kept calls that were posted are answered, and then a call of the seat is served as the last.
 
-pub kept_seated : (lane : ℕ) (idle : Bool) (served : ℕ) (m w : Me) (e : Event) → served ≢ 0
-    → IsPlaced lane idle served m → Finishes m e w → IsSeated lane idle w
-kept_seated lane idle served m w e not placed f =
+-- the list that was left, and the seat's token
+has_gone :
+    (m n w : Me) (count looked : ℕ) (e : Event) → HasKept m → (g : Goes m count looked n) → (f : Finishes n e w)
+    → (f.log ≡ (part m).seen ++ g.2.events)
+    × (w ≡ (sat (opening m) (put_own (part n) ((part m).seen ++ g.2.events) e), rest m.1))
+has_gone m n w count looked e kept g f =
+    let log_is : f.log ≡ (part m).seen ++ g.2.events =
+    ap held_of (sym f.held ∙ g.2.holds) ∙ ap (λ l. held_of l ++ g.2.events) kept.whole in
+    let open_n : opening n ≡ opening m = ap opening g.1 in
+    let rest_n : rest n.1 ≡ rest m.1 = ap (λ (z : Me). rest z.1) g.1 in
+    (log_is, f.has ∙ (λ i. (sat (open_n i) (put_own (part n) (log_is i) e), rest_n i)))
+
+legal_gone :
+    (m n w : Me) (count looked : ℕ) (e : Event) → HasKept m → (g : Goes m count looked n) → (f : Finishes n e w)
+    → IsLegal (opening m) (((part m).seen ++ g.2.events) ++ e ∷ []) f.after
+legal_gone m n w count looked e kept g f =
+    let gone = has_gone m n w count looked e kept g f in
+    let open_n : opening n ≡ opening m = ap opening g.1 in
+    subst (λ (z : State × List Event). IsLegal z.0 (z.1 ++ e ∷ []) f.after) (λ i. (open_n i, gone.0 i))
+    (legal_more (opening n) f.last f.after f.log e f.legal f.step)
+
+pub kept_seated : (lane : ℕ) (idle : Bool) (served : ℕ) (m n w : Me) (count looked : ℕ) (e : Event) → served ≢ 0
+    → IsPlaced lane idle served m → Goes m count looked n → Finishes n e w → IsSeated lane idle w
+kept_seated lane idle served m n w count looked e not placed g f =
     let seated = rests_back lane idle served m not placed.rests in
     let kept = placed.keeps not in
-    let hand : rest m.1 ≡ hand_of (part m).flight (part m).lane = ap (λ (k : Me). rest k.1) kept.holds.has in
-    subst (λ (z : Me). IsSeated lane idle z) (sym f.has)
+    let gone = has_gone m n w count looked e kept g f in
+    let hand : rest m.1 ≡ hand_of (part n).flight (part n).lane =
+    ap (λ (k : Me). rest k.1) kept.holds.has ∙ (λ i. hand_of (sym g.2.stays.flight i) (sym g.2.stays.same_lane i)) in
+    let q : Part = put_own (part n) ((part m).seen ++ g.2.events) e in
+    subst (λ (z : Me). IsSeated lane idle z) (sym gone.1)
     record {
-      rests = (ap (λ (c : List (ℕ × SlotValue)). (sat (opening m) (put_own (part m) f.log e), c)) hand, refl);
-      unserving = kept.holds.unserving;
-      tells = seated.tells;
-      numbered = seated.numbered;
+      rests = (ap (λ (c : List (ℕ × SlotValue)). (sat (opening m) q, c)) hand, refl);
+      unserving = g.2.unserving;
+      tells = seated.tells ∙ ap (λ f. is_free f) (sym g.2.stays.flight);
+      numbered = seated.numbered ∙ sym g.2.stays.same_lane;
       sound = seated.sound;
       last = f.after;
-      legal = legal_more (opening m) f.last f.after f.log e f.legal f.step;
-    }
-
-kept_adds : (t : TableId) (a b : ℕ) (m w : Me) (e : Event) → HasKept m → (f : Finishes m e w) → e.lane ≡ (part m).lane
-    → Adds (sitting_of t a m) e (sitting_of t b (sat (opening m) (put_own (part m) f.log e), rest m.1))
-kept_adds t a b m w e kept f lane =
-    let same : f.log ≡ (part m).seen = same_list f.log (part m).seen (sym f.held ∙ kept.whole) in record {
-      table = refl;
-      opening = refl;
-      lane = refl;
-      upto = f.log ++ e ∷ [];
-      between = [];
-      last = f.after;
-      begins = ([], append-nil (f.log ++ e ∷ []));
-      legal = legal_more (opening m) f.last f.after f.log e f.legal f.step;
-      ends = ap (λ l. l ++ e ∷ []) (same ∙ sym (append-nil (part m).seen));
-      mine = refl;
-      own = own_event (part m).lane f.log e lane ∙ ap (λ l. l ++ e ∷ []) f.mine;
+      legal = legal_gone m n w count looked e kept g f;
     }
 
 pub kept_told :
-    (t t' : TableId) (m w : Me) (s : Sitting) (lane : ℕ) (idle : Bool) (served then moment : ℕ) (ask : Ask)
-    (reply : Result Answer Errno) → sitting_of t served m ≡ s → t' ≡ t → served ≢ 0 → IsPlaced lane idle served m
-    → Finishes m (event_of lane moment ask reply) w
+    (t t' : TableId) (m n w : Me) (s : Sitting) (lane : ℕ) (idle : Bool) (served then count looked moment : ℕ)
+    (ask : Ask) (reply : Result Answer Errno) → sitting_of t served m ≡ s → t' ≡ t → served ≢ 0 → IsPlaced lane idle served m
+    → Goes m count looked n → Finishes n (event_of lane moment ask reply) w
     → Adds s (event_of s.part.lane moment ask reply) (sitting_of t' then w)
-kept_told t t' m w s lane idle served then moment ask reply view same not placed f =
+kept_told t t' m n w s lane idle served then count looked moment ask reply view same not placed g f =
     let e : Event = event_of lane moment ask reply in
     let is : lane ≡ (part m).lane = (knows lane idle served m placed).numbered in
+    let kept = placed.keeps not in
+    let gone = has_gone m n w count looked e kept g f in
+    let own : events_of (part n).lane ((part m).seen ++ g.2.events) ≡ (part n).mine =
+    ap (events_of (part n).lane) (sym gone.0) ∙ f.mine in
+    let v : Me = (sat (opening m) (put_own (part n) ((part m).seen ++ g.2.events) e), rest m.1) in
+    let made : Adds (sitting_of t served m) e (sitting_of t then v) =
+    adds t served then m (part n) (part m).seen g.2.events e f.after (rest m.1) (prefix_self (part m).seen)
+    g.2.stays.same_lane g.2.stays.mine (legal_gone m n w count looked e kept g f) own
+    (is ∙ sym g.2.stays.same_lane) in
     let there : Adds (sitting_of t served m) e (sitting_of t' then w) =
-    subst (λ (z : Sitting). Adds (sitting_of t served m) e z) (λ i. sitting_of (sym same i) then (sym f.has i))
-    (kept_adds t served then m w e (placed.keeps not) f is) in
+    subst (λ (z : Sitting). Adds (sitting_of t served m) e z) (λ i. sitting_of (sym same i) then (sym gone.1 i)) made in
     subst (λ (z : Sitting). Adds z (event_of z.part.lane moment ask reply) (sitting_of t' then w)) view
     (subst (λ (j : ℕ). Adds (sitting_of t served m) (event_of j moment ask reply) (sitting_of t' then w)) is there)
 
-pub kept_idle : (m w : Me) (e : Event) → HasKept m → Finishes m e w → (part w).flight ≡ None
-kept_idle m w e kept f = ap (λ (z : Me). (part z).flight) f.has ∙ kept.quiet
+pub kept_idle : (m n w : Me) (count looked : ℕ) (e : Event) → HasKept m → Goes m count looked n → Finishes n e w
+    → (part w).flight ≡ None
+kept_idle m n w count looked e kept g f =
+    ap (λ (z : Me). (part z).flight) f.has ∙ (g.2.stays.flight ∙ kept.quiet)
 
--- the turn was taken before
-pub kept_looked : (desk t t' : TableId) (served : ℕ) (m w : Me) (s : Sitting) (e : Event)
-    → sitting_of t served m ≡ s → Finishes m e w → HasLooked desk s (sitting_of t' 0 w)
-kept_looked desk t t' served m w s e view f lt =
-    let same : (part w).taken ≡ (part m).taken = ap (λ (z : Me). (part z).taken) f.has in
+-- the turn was taken before, and each lane's cell looked at once more, or none
+pub kept_looked : (desk t t' : TableId) (served : ℕ) (m n w : Me) (s : Sitting) (e : Event)
+    → sitting_of t served m ≡ s → GoesRound desk m n → Finishes n e w → HasLooked desk s (sitting_of t' 0 w)
+kept_looked desk t t' served m n w s e view g f =
     let was : (part m).taken ≡ s.part.taken = ap (λ (z : Sitting). z.part.taken) view in
-    let less : s.part.taken < (part w).taken = lt in
-    absurd (omega arith)
+    let same : (part w).taken ≡ (part m).taken = ap (λ (z : Me). (part z).taken) f.has ∙ g.goes.2.stays.taken in
+    let before : (part m).checked ≡ s.part.checked = ap (λ (z : Sitting). z.part.checked) view in
+    let looked : (part w).checked ≡ s.part.checked ++ below g.looked =
+    ap (λ (z : Me). (part z).checked) f.has ∙ (g.goes.2.checked ∙ ap (λ l. l ++ below g.looked) before) in (
+      λ lt. let less : s.part.taken < (part w).taken = lt in absurd (omega arith),
+      λ _. ⊎_elim
+          (λ (none : g.looked ≡ 0).
+          inl (looked ∙ (ap (λ l. s.part.checked ++ below l) none ∙ append-nil s.part.checked)))
+          (λ (all : g.looked ≡ lanes_of desk). inr (looked ∙ ap (λ l. s.part.checked ++ below l) all)) g.whole,
+    )

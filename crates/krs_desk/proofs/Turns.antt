@@ -1,6 +1,6 @@
 -- A call that is served as the last of its turn: what its token and its seat are then, and what its caller is told.
-use Rattle.std.proofs.Common.{◌≡◌, ℕ, Bool, List, [], ◌∷◌, ◌++◌, Some, None, Result, refl, sym, ap}
-use Rattle.std.proofs.Common.{◌∙◌, subst, append-nil, append_assoc}
+use Rattle.std.proofs.Common.{◌≡◌, ℕ, ◌+◌, Bool, List, [], ◌∷◌, ◌++◌, Some, None, Result, refl, sym, ap}
+use Rattle.std.proofs.Common.{◌∙◌, subst, append-nil, append_assoc, arith}
 use Rattle.atomic_table.specs.Seated.{TableId}
 use Rattle.atomic_table.specs.Table.{rest}
 use Rattle.krs_types.specs.declared.ask.Ask.{Ask}
@@ -20,7 +20,7 @@ use Rattle.krs_desk.specs.declared.slot.SlotValue.TheVariants.{Home}
 use Rattle.krs_desk.specs.Parts.{sat, hand_of}
 use Rattle.krs_desk.specs.Sitting.{Sitting, Adds}
 use Rattle.krs_desk.specs.Seated.{Me, part, opening, sitting_of, is_free, IsSeated, Holds, Serves, HoldsBefore}
-use Rattle.krs_desk.specs.Helping.{HoldsAll, Goes, Finishes, HasLooked, lanes_of, held_of}
+use Rattle.krs_desk.specs.Helping.{HoldsAll, Goes, Finishes, HasLooked, below, lanes_of, held_of}
 use Rattle.krs_desk.proofs.Seats.{same_store}
 
 -- The token.
@@ -124,7 +124,7 @@ turn_seated lane idle m n k w count lanes e seated h g f =
       legal = legal_left m n k w count lanes e h g f;
     }
 
-adds :
+pub adds :
     (table : TableId) (a b : ℕ) (m : Me) (q : Part) (log : List Event) (events : List Event) (e : Event) (next : State)
     (c : List (ℕ × SlotValue)) → Begins (part m).seen log → q.lane ≡ (part m).lane → q.mine ≡ (part m).mine
     → IsLegal (opening m) ((log ++ events) ++ e ∷ []) next → events_of q.lane (log ++ events) ≡ q.mine
@@ -177,6 +177,13 @@ turn_idle m n k w count lanes e quiet h g f =
 
 -- each lane's cell was looked at
 pub turn_looked :
-    (desk table : TableId) (s : Sitting) (n k w : Me) (count : ℕ) (e : Event)
-    → Goes n count (lanes_of desk) k → Finishes k e w → HasLooked desk s (sitting_of table 0 w)
-turn_looked desk table s n k w count e g f = λ lt. ap (λ (z : Me). (part z).checked) f.has ∙ g.2.checked
+    (desk table was : TableId) (a : ℕ) (s : Sitting) (m n k w : Me) (count : ℕ) (e : Event) → sitting_of was a m ≡ s
+    → Holds m n → Goes n count (lanes_of desk) k → Finishes k e w → HasLooked desk s (sitting_of table 0 w)
+turn_looked desk table was a s m n k w count e view h g f =
+    let before : (part m).taken ≡ s.part.taken = ap (λ (z : Sitting). z.part.taken) view in
+    let then : (part n).taken ≡ (part m).taken + 1 = ap (λ (z : Me). (part z).taken) h.has in
+    let same : (part w).taken ≡ (part n).taken = ap (λ (z : Me). (part z).taken) f.has ∙ g.2.stays.taken in
+    let none : (part n).checked ≡ [] = ap (λ (z : Me). (part z).checked) h.has in (
+      λ lt. ap (λ (z : Me). (part z).checked) f.has ∙ (g.2.checked ∙ ap (λ l. l ++ below (lanes_of desk)) none),
+      λ still. let is : (part w).taken ≡ s.part.taken = still in absurd (omega arith),
+    )

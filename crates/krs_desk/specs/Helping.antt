@@ -1,5 +1,5 @@
 -- What a turn of help does, and what a call knows of its seat while it waits. The form is this project's own.
-use Rattle.std.specs.Prelude.{◌≡◌, ◌≢◌, ℕ, zero, suc, ◌+◌, ◌-◌, ◌<◌, Bool, true, false, List, [], ◌∷◌, ◌++◌}
+use Rattle.std.specs.Prelude.{◌≡◌, ◌≢◌, ◌⊎◌, ℕ, zero, suc, ◌+◌, ◌-◌, ◌<◌, Bool, true, false, List, [], ◌∷◌, ◌++◌}
 use Rattle.std.specs.Prelude.{Option, Some, None, length}
 use Rattle.atomic_table.specs.Seated.{TableId}
 use Rattle.atomic_table.specs.Table.{rest, turned}
@@ -56,9 +56,13 @@ abbrev pub HasHelped : TableId → Sitting → Helped → Sitting → Type 0
 HasHelped desk s (Took count) t = Helps desk s count t
 HasHelped desk s Busy t = (t.table ≡ s.table) × (t ≡ missed_by s)
 
--- if the seat took the turn in between, it looked at each lane's cell once, in order, as it last had it
+-- If the seat took the turn in between, it looked at each lane's cell once, in order, as it last had it. Else it looked
+-- at each once more, in order, in the turn that it had kept, or at none.
 abbrev pub HasLooked : TableId → Sitting → Sitting → Type 0
-HasLooked desk s t = s.part.taken < t.part.taken → t.part.checked ≡ below (lanes_of desk)
+HasLooked desk s t =
+    (s.part.taken < t.part.taken → t.part.checked ≡ below (lanes_of desk))
+    × (t.part.taken ≡ s.part.taken
+    → (t.part.checked ≡ s.part.checked) ⊎ (t.part.checked ≡ s.part.checked ++ below (lanes_of desk)))
 
 -- what holds of a seat while its call, posted at s, is in flight
 pub record Waits (desk : TableId) (s : Sitting) (moment : ℕ) (ask : Ask) (t : Sitting) : Type 0 where
@@ -124,7 +128,7 @@ pub record Stays (p q : Part) : Type 0 where
   pub taken : q.taken ≡ p.taken
   pub found : q.found ≡ p.found
 
--- the cells of the lanes below `lane` were looked at, and so many calls answered, since the lane p had the turn
+-- the cells of the lanes below `lane` were looked at, and so many calls answered, in the turn that p has
 pub record Progress (a : State) (p : Part) (count lane : ℕ) (q : Part) (store : State) : Type 0 where
   pub events : List Event
   pub holds : q.holding ≡ Some (held_of p.holding ++ events)
@@ -132,7 +136,7 @@ pub record Progress (a : State) (p : Part) (count lane : ℕ) (q : Part) (store 
   pub answers : length events ≡ count
   pub stays : Stays p q
   pub unserving : q.serving ≡ None
-  pub checked : q.checked ≡ below lane
+  pub checked : q.checked ≡ p.checked ++ below lane
   pub done : p.lane < lane → p.flight ≢ None → q.done ≡ true
 
 -- the same slots in hand, and the store in its own

@@ -1,5 +1,6 @@
 -- A turn that a seat keeps from one call to the next. The form is this project's own.
-use Rattle.std.specs.Prelude.{◌≡◌, ◌≢◌, ℕ, zero, suc, Bool, List, ◌∷◌, Some, None}
+use Rattle.std.specs.Prelude.{◌≡◌, ◌≢◌, ◌⊎◌, ℕ, zero, suc, Bool, List, ◌∷◌, Some, None}
+use Rattle.atomic_table.specs.Seated.{TableId}
 use Rattle.atomic_table.specs.Table.{rest}
 use Rattle.krs_types.specs.declared.event.Event.{Event}
 use Rattle.krs_model.specs.State.{State}
@@ -9,7 +10,7 @@ use Rattle.krs_world.specs.Knowing.{events_of, kept}
 use Rattle.krs_desk.specs.declared.slot.SlotValue.TheVariants.{Home}
 use Rattle.krs_desk.specs.Parts.{sat}
 use Rattle.krs_desk.specs.Seated.{Me, part, opening, untold, IsSeated}
-use Rattle.krs_desk.specs.Helping.{HoldsAll}
+use Rattle.krs_desk.specs.Helping.{HoldsAll, Goes, lanes_of}
 
 -- The token has the turn, and has seen the list that it holds. No call of its own is in flight.
 pub record HasKept (m : Me) : Type 0 where
@@ -30,6 +31,13 @@ at_rest (suc n) m = given_back m
 pub record IsPlaced (lane : ℕ) (idle : Bool) (served : ℕ) (m : Me) : Type 0 where
   pub rests : IsSeated lane idle (at_rest served m)
   pub keeps : served ≢ 0 → HasKept m
+
+-- each lane's cell was looked at once more, in order, and so many calls answered; or none was looked at
+pub record GoesRound (desk : TableId) (m n : Me) : Type 0 where
+  pub count : ℕ
+  pub looked : ℕ
+  pub whole : (looked ≡ 0) ⊎ (looked ≡ lanes_of desk)
+  pub goes : Goes m count looked n
 
 -- a call of the token's own lane was served, and the turn is kept
 pub record GoesOn (m : Me) (event : Event) (n : Me) : Type 0 where

@@ -1,4 +1,4 @@
-//! Which lanes' threads sleep, and how they are woken.
+//! Which lanes' threads sleep, and how they are woken. Whether a turn is kept, calls are posted, and threads wait for one.
 use std::alloc::{AllocError, Global};
 use std::sync::Wait;
 use std::sync::atomic::{AtomicU64, Ordering};
@@ -16,8 +16,15 @@ pub(crate) struct Bells {
     // it is never too low.
     sleepers: AtomicU64,
 
-    // How many threads have posted a call, and wait until it is answered.
+    // How many calls are posted and not answered. It is raised before a call is posted and lowered after that is
+    // answered, so it is never too low.
+    posted: AtomicU64,
+
+    // How many threads have posted a call, and wait until it is answered, behind which they have more.
     waiting: AtomicU64,
+
+    // 1 while a turn is kept.
+    keeping: AtomicU64,
     bells: Vec<AtomicU64>,
 }
 
@@ -30,7 +37,9 @@ impl Bells {
         }
         Ok(Bells {
             sleepers: AtomicU64::new(0),
+            posted: AtomicU64::new(0),
             waiting: AtomicU64::new(0),
+            keeping: AtomicU64::new(0),
             bells,
         })
     }
@@ -41,13 +50,29 @@ impl Bells {
         self.sleepers.load(Ordering::SeqCst) > 0
     }
 
-    /// Whether any thread waits, asleep or not.
+    /// Whether any call is posted and not answered.
+    #[inline]
+    pub(crate) fn is_any_posted(&self) -> bool {
+        self.posted.load(Ordering::SeqCst) > 0
+    }
+
+    /// One call more is about to be posted.
+    pub(crate) fn begin_to_post(&self) {
+        self.posted.fetch_add(1, Ordering::SeqCst);
+    }
+
+    /// One call that was posted is answered.
+    pub(crate) fn tell_answered(&self) {
+        self.posted.fetch_sub(1, Ordering::SeqCst);
+    }
+
+    /// Whether any thread waits that has more calls.
     #[inline]
     pub(crate) fn is_any_waiting(&self) -> bool {
         self.waiting.load(Ordering::SeqCst) > 0
     }
 
-    /// From here on one thread more waits.
+    /// From here on one such thread more waits.
     pub(crate) fn begin_to_wait(&self) {
         self.waiting.fetch_add(1, Ordering::SeqCst);
     }
@@ -55,6 +80,23 @@ impl Bells {
     /// It waits no more.
     pub(crate) fn stop_waiting(&self) {
         self.waiting.fetch_sub(1, Ordering::SeqCst);
+    }
+
+    /// Whether a turn is kept.
+    pub(crate) fn is_kept(&self) -> bool {
+        self.keeping.load(Ordering::SeqCst) > 0
+    }
+
+    /// The thread that has the turn keeps it from here on.
+    #[inline]
+    pub(crate) fn begin_to_keep(&self) {
+        self.keeping.store(1, Ordering::SeqCst);
+    }
+
+    /// It is about to give it back.
+    #[inline]
+    pub(crate) fn stop_keeping(&self) {
+        self.keeping.store(0, Ordering::SeqCst);
     }
 
     /// Whether the lane's thread is to be rung.

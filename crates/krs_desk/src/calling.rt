@@ -8,7 +8,7 @@ ghost use Rattle.krs_desk.specs.Helping.{HasLooked};
 use crate::desk::Desk;
 use crate::nobody::{Nobody, reply_in};
 use crate::seat::Seat;
-use crate::waiting::{FIRST_PAUSE, TRIES, pause};
+use crate::waiting::{FIRST_PAUSE, TRIES, TRIES_ALONE, pause};
 use crate::word::FREE;
 use krs_store::{Taker, Told};
 use krs_types::{Ask, Reply};
@@ -43,6 +43,7 @@ impl Desk {
         }
         let _answered = self.serve_all(&mut seat.token, true);
         if self.may_keep(more, 0) {
+            self.bells.begin_to_keep();
             let told = self.go_on(&mut seat.token, seat.lane, moment, ask, taker);
             seat.served = 1;
             return Ok(told);
@@ -75,8 +76,15 @@ impl Desk {
         unreachable!()
     }
 
-    // The same, and while it waits no turn is kept.
-    fn call_in_line<R: Wait>(&self, rt: &R, seat: &mut Seat, moment: u64, ask: Ask) -> Reply
+    // The same. Where more calls follow, no turn is kept while it waits.
+    fn call_in_line<R: Wait>(
+        &self,
+        rt: &R,
+        seat: &mut Seat,
+        moment: u64,
+        ask: Ask,
+        more: bool,
+    ) -> Reply
         requires table { seat.old.table ≡ self.now }
         requires idle { seat.old.part.flight ≡ None }
         ensures table { seat.new.table ≡ seat.old.table }
@@ -85,6 +93,9 @@ impl Desk {
         ensures looked { HasLooked self.now seat.old seat.new }
         ensures rested { seat.new.kept ≡ 0 }
     {
+        if !more {
+            return self.call_by_post(rt, seat, moment, ask);
+        }
         self.bells.begin_to_wait();
         let reply = self.call_by_post(rt, seat, moment, ask);
         self.bells.stop_waiting();
@@ -115,7 +126,10 @@ impl Desk {
     {
         let mut ask = ask;
         let mut spins = FIRST_PAUSE;
-        for _ in 0..TRIES {
+        for tries in 0..TRIES {
+            if !more && tries >= TRIES_ALONE && self.bells.is_kept() {
+                break;
+            }
             spins = pause(spins);
             if self.is_free() {
                 ask = match self.call_in_turn(seat, moment, ask, more, taker) {
@@ -124,7 +138,7 @@ impl Desk {
                 };
             }
         }
-        Told::Reply(self.call_in_line(rt, seat, moment, ask))
+        Told::Reply(self.call_in_line(rt, seat, moment, ask, more))
     }
 
     // Asks the store in a turn that is taken for it, and keeps that where more calls follow.

@@ -60,8 +60,6 @@ impl Desk {
     #[inline]
     pub(crate) fn wake(&self, freed: Freed) {
         let Freed { _turn: () } = freed;
-        if self.bells.is_any_asleep() {
-            self.wake_some();
-        }
+        self.wake_if_asleep();
     }
 }

@@ -1,5 +1,5 @@
 //! A turn of `call` or `help` answers the calls that it finds posted.
-ghost use Rattle.std.specs.Prelude.{◌≡◌, ◌≢◌, ◌+◌, ◌≤◌, ◌<◌, [], IfOk, IfErr, None};
+ghost use Rattle.std.specs.Prelude.{◌≡◌, ◌≢◌, ◌+◌, ◌≤◌, ◌<◌, IfOk, IfErr, None};
 ghost use Rattle.atomic_table.specs.Table.{rest};
 ghost use Rattle.krs_model.specs.History.{event_of};
 ghost use Rattle.krs_world.specs.Knowing.{events_of, missed, put_none};
@@ -94,6 +94,7 @@ impl Desk {
         let reply = self.serve_behind(token, idle, lane, moment, ask);
         drop(table.exchange(token, cell, SlotValue::Replied(reply)));
         table.store::<Answers>(token, cell, ANSWERED);
+        self.bells.tell_answered();
         1
     }
 
@@ -118,7 +119,6 @@ impl Desk {
         requires table { token.old.table_id ≡ self.now }
         requires held { HoldsAll token.old.me }
         requires hand { idle ≡ is_free (part token.old.me).flight }
-        requires unlooked { (part token.old.me).checked ≡ [] }
         ensures table { token.new.table_id ≡ token.old.table_id }
         ensures gone { Goes token.old.me result (lanes_of self.now) token.new.me }
     {

@@ -9,7 +9,7 @@ ghost use Rattle.krs_desk.specs.Steps.{event_in};
 ghost use Rattle.krs_desk.specs.Sitting.{Adds, KeepsTurn, rested};
 ghost use Rattle.krs_desk.specs.Seated.{HoldsBefore, part, opening};
 ghost use Rattle.krs_desk.specs.Helping.{HoldsAll, HasLooked};
-ghost use Rattle.krs_desk.specs.Keeping.{HasKept, GoesOn, at_rest};
+ghost use Rattle.krs_desk.specs.Keeping.{HasKept, GoesOn, GoesRound, at_rest};
 
 use crate::desk::Desk;
 use crate::seat::Seat;
@@ -82,6 +82,7 @@ impl Desk {
         if *served == 0 {
             return;
         }
+        self.bells.stop_keeping();
         self.bring(token);
         *served = 0;
     }
@@ -96,12 +97,28 @@ impl Desk {
     }
 
     // Whether a turn that has served so many calls of its seat is kept, where more follow. It isn't while somebody waits
-    // with a call that was posted: the next turn begins with that, and who sleeps is woken as this one is given back.
+    // with a call that was posted and has more: answered one by one in the turns of others, they would take long.
     #[inline]
     pub(crate) fn may_keep(&self, more: bool, served: u32) -> bool
         ensures { result ≡ true → (more ≡ true) × (served < 63) }
     {
         more && served < MOST_KEPT && !self.bells.is_any_waiting()
+    }
+
+    // Answers the calls that are posted, in a turn that is kept, and wakes those whose call it was.
+    #[inline]
+    fn answer_posted(&self, token: &mut Token)
+        requires table { token.old.table_id ≡ self.now }
+        requires held { HoldsAll token.old.me }
+        requires idle { (part token.old.me).flight ≡ None }
+        ensures table { token.new.table_id ≡ token.old.table_id }
+        ensures gone { GoesRound self.now token.old.me token.new.me }
+    {
+        if !self.bells.is_any_posted() {
+            return;
+        }
+        let _answered = self.serve_all(token, true);
+        self.wake_if_asleep();
     }
 
     // Asks the store in the turn that the seat has kept. The ask comes back where it has none.
@@ -129,11 +146,13 @@ impl Desk {
         if seat.served == 0 {
             return Err(ask);
         }
+        self.answer_posted(&mut seat.token);
         if self.may_keep(more, seat.served) {
             let told = self.go_on(&mut seat.token, seat.lane, moment, ask, taker);
             seat.served += 1;
             return Ok(told);
         }
+        self.bells.stop_keeping();
         let told = self.finish(&mut seat.token, seat.lane, moment, ask, taker);
         seat.served = 0;
         Ok(told)

@@ -17,6 +17,7 @@ impl Desk {
         ensures { seat.new ≡ posted_by seat.old moment ask }
     {
         self.give_back(&mut seat.served, &mut seat.token);
+        self.bells.begin_to_post();
         let table = &self.table;
         let cell = cell_of!(seat.lane);
         drop(table.exchange(&mut seat.token, cell, SlotValue::Asked(moment, ask)));

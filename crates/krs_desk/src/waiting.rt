@@ -13,9 +13,14 @@ use crate::word::{ANSWERED, FREE, POSTED, TURN, cell_of};
 use std::hint;
 use std::sync::Wait;
 
-/// So often a call that found the turn taken tries again before it is posted, and so often a posted call looks at its cell
-/// and the turn before it sleeps. The pauses between them have 5,116 spins, each time.
+/// So often a call that found the turn taken tries again before it is posted, where more calls of its seat follow, and
+/// so often a posted call looks at its cell and the turn before it sleeps. The pauses between them have 5,116 spins,
+/// each time.
 pub(crate) const TRIES: u32 = 16;
+
+/// So often at least where no more follow, with 124 spins, and not again while the turn is kept: who keeps it answers
+/// posted calls before the next of its own.
+pub(crate) const TRIES_ALONE: u32 = 5;
 
 /// So long a call pauses after its first try. After each try it pauses twice as long. Mostly the turn is given back at
 /// once; where it isn't, whoever has it can take it again for its next call: where the turn goes to another processor,
@@ -95,9 +100,17 @@ impl Desk {
         let _was_asleep = self.bells.get_up(lane);
     }
 
+    // Wakes whom it may concern that calls were answered or the turn given back.
+    #[inline]
+    pub(crate) fn wake_if_asleep(&self) {
+        if self.bells.is_any_asleep() {
+            self.wake_some();
+        }
+    }
+
     // Wakes each thread whose call was answered, and one whose call is still posted, if there is one.
     #[inline(never)]
-    pub(crate) fn wake_some(&self) {
+    fn wake_some(&self) {
         let lanes = (self.table.word_count() - 1) as u32;
         let mut is_one_called = false;
         for lane in 0..lanes {

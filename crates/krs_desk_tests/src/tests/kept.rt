@@ -1,7 +1,7 @@
 //! A turn that a seat keeps for the calls that follow.
 ghost use Rattle.krs_desk.specs.Sitting.{IsIdleAt};
 
-use crate::two_seats;
+use crate::{three_seats, two_seats};
 use krs_desk::{Desk, Helped, Seat};
 use krs_store::Store;
 use krs_store_asks::{hello, leave, number_of, read};
@@ -62,6 +62,30 @@ fn a_turn_serves_64_calls_of_its_seat(rt: HostRuntime) -> Result<(), Fail> {
     assert_eq!(rt; count_free(&rt, &desk, &mut first, &mut second, 1), 1);
     assert_eq!(rt; count_free(&rt, &desk, &mut first, &mut second, 63), 0);
     assert_eq!(rt; count_free(&rt, &desk, &mut first, &mut second, 1), 1);
+    Ok(())
+}
+
+// What is posted while a turn is kept is answered in it, before the next call of its seat, and the turn stays. So it is
+// at the last call of the turn.
+#[test]
+fn a_kept_turn_answers_what_is_posted(rt: HostRuntime) -> Result<(), Fail> {
+    let alloc = rt.alloc();
+    let (desk, mut first, mut second, mut third) = three_seats(alloc, Store::new(alloc)).ok_or(
+        "no desk",
+    )?;
+    let _ = desk.call_on(&rt, &mut first, 0, leave(), true);
+    desk.post(&mut second, 0, hello(alloc, 1000));
+    let own = number_of(&desk.call_on(&rt, &mut first, 0, hello(alloc, 1000), true));
+    let posted = desk.collect(&mut second).ok_or("it isn't answered")?;
+    assert_eq!(rt; (number_of(&posted), own), (1, 2));
+    assert!(rt; !finds_it_free(&desk, &mut third), "it is kept");
+    desk.post(&mut second, 0, hello(alloc, 1000));
+    let own = number_of(&desk.call(&rt, &mut first, 0, hello(alloc, 1000)));
+    let posted = desk
+        .collect(&mut second)
+        .ok_or("it isn't answered at the end")?;
+    assert_eq!(rt; (number_of(&posted), own), (3, 4));
+    assert!(rt; finds_it_free(&desk, &mut third), "it is given back");
     Ok(())
 }
 

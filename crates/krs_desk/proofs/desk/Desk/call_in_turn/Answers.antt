@@ -35,16 +35,7 @@ serve_all-answered-requires-clause-held g c =
     let none = ap (λ (s : Sitting). s.kept) c.seat.view_is ∙ c.requires.rested in
     let seated = unkept_seated seat.lane seat.idle seat.served m none c.seat.invariant.0 in
     let had = c.take.ensures.had c.if-take-ne-FREE.false in
-    (had_held seat.lane seat.idle m _ seated had).0
-
-pub serve_all-answered-requires-clause-unlooked : goal.serve_all-answered-requires-clause-unlooked
-serve_all-answered-requires-clause-unlooked g c =
-    let seat = c.seat.inside in
-    let m = seat.token.me in
-    let none = ap (λ (s : Sitting). s.kept) c.seat.view_is ∙ c.requires.rested in
-    let seated = unkept_seated seat.lane seat.idle seat.served m none c.seat.invariant.0 in
-    let had = c.take.ensures.had c.if-take-ne-FREE.false in
-    (had_held seat.lane seat.idle m _ seated had).1
+    had_held seat.lane seat.idle m _ seated had
 
 pub serve_all-answered-requires-clause-hand : goal.serve_all-answered-requires-clause-hand
 serve_all-answered-requires-clause-hand g c =
@@ -61,7 +52,7 @@ go_on-told-requires-clause-held g c =
     let none = ap (λ (s : Sitting). s.kept) c.seat.view_is ∙ c.requires.rested in
     let seated = unkept_seated seat.lane seat.idle seat.served m none c.seat.invariant.0 in
     let had = c.take.ensures.had c.if-take-ne-FREE.false in
-    held_at c.take.new.token.me c.serve_all-answered.new.token.me _ _ (had_held seat.lane seat.idle m _ seated had).0
+    held_at c.take.new.token.me c.serve_all-answered.new.token.me _ _ (had_held seat.lane seat.idle m _ seated had)
     c.serve_all-answered.ensures.gone
 
 pub go_on-told-requires-clause-idle : goal.go_on-told-requires-clause-idle
@@ -90,7 +81,7 @@ finish-requires-clause-held g c =
     let none = ap (λ (s : Sitting). s.kept) c.seat.view_is ∙ c.requires.rested in
     let seated = unkept_seated seat.lane seat.idle seat.served m none c.seat.invariant.0 in
     let had = c.take.ensures.had c.if-take-ne-FREE.false in
-    held_at c.take.new.token.me c.serve_all-answered.new.token.me _ _ (had_held seat.lane seat.idle m _ seated had).0
+    held_at c.take.new.token.me c.serve_all-answered.new.token.me _ _ (had_held seat.lane seat.idle m _ seated had)
     c.serve_all-answered.ensures.gone
 
 pub finish-requires-clause-idle : goal.finish-requires-clause-idle
@@ -121,7 +112,7 @@ invariant_of-seat-then-may_keep g c =
     let view = c.seat.view_is in
     let had = c.take.ensures.had c.if-take-ne-FREE.false in
     let held =
-    held_at c.take.new.token.me c.serve_all-answered.new.token.me _ _ (had_held seat.lane seat.idle m _ seated had).0
+    held_at c.take.new.token.me c.serve_all-answered.new.token.me _ _ (had_held seat.lane seat.idle m _ seated had)
     c.serve_all-answered.ensures.gone in
     let quiet =
     c.serve_all-answered.ensures.gone.2.stays.flight
@@ -164,9 +155,11 @@ returns-then-may_keep-clause-idle g c =
 
 pub returns-then-may_keep-clause-looked : goal.returns-then-may_keep-clause-looked
 returns-then-may_keep-clause-looked g c =
+    let seat = c.seat.inside in
     let w = c.go_on-told.new.token.me in
-    turn_looked c.args.self.now c.go_on-told.new.token.table_id c.args.seat.now c.take.new.token.me
-    c.serve_all-answered.new.token.me (given_back w) _ _ c.serve_all-answered.ensures.gone
+    turn_looked c.args.self.now c.go_on-told.new.token.table_id seat.token.table_id _ c.args.seat.now seat.token.me
+    c.take.new.token.me c.serve_all-answered.new.token.me (given_back w) _ _ c.seat.view_is
+    (c.take.ensures.had c.if-take-ne-FREE.false) c.serve_all-answered.ensures.gone
     (goes_finished c.serve_all-answered.new.token.me w _ c.go_on-told.ensures.gone)
 
 pub invariant_of-seat-2 : goal.invariant_of-seat-2
@@ -209,6 +202,7 @@ returns-clause-idle g c =
 
 pub returns-clause-looked : goal.returns-clause-looked
 returns-clause-looked g c =
-    turn_looked c.args.self.now c.finish.new.token.table_id c.args.seat.now c.take.new.token.me
-    c.serve_all-answered.new.token.me c.finish.new.token.me _ _ c.serve_all-answered.ensures.gone
-    c.finish.ensures.finished
+    let seat = c.seat.inside in
+    turn_looked c.args.self.now c.finish.new.token.table_id seat.token.table_id _ c.args.seat.now seat.token.me
+    c.take.new.token.me c.serve_all-answered.new.token.me c.finish.new.token.me _ _ c.seat.view_is
+    (c.take.ensures.had c.if-take-ne-FREE.false) c.serve_all-answered.ensures.gone c.finish.ensures.finished

@@ -34,16 +34,7 @@ serve_all-answered-requires-clause-held c =
     let seated =
     given_seated seat.lane seat.idle seat.served seat.token.me m c.seat.invariant.0 c.give_back.ensures.given in
     let had = c.take.ensures.had c.if-take-ne-FREE.false in
-    (had_held seat.lane seat.idle m _ seated had).0
-
-pub serve_all-answered-requires-clause-unlooked : goal.serve_all-answered-requires-clause-unlooked
-serve_all-answered-requires-clause-unlooked c =
-    let seat = c.seat.inside in
-    let m = c.give_back.new.token.me in
-    let seated =
-    given_seated seat.lane seat.idle seat.served seat.token.me m c.seat.invariant.0 c.give_back.ensures.given in
-    let had = c.take.ensures.had c.if-take-ne-FREE.false in
-    (had_held seat.lane seat.idle m _ seated had).1
+    had_held seat.lane seat.idle m _ seated had
 
 pub serve_all-answered-requires-clause-hand : goal.serve_all-answered-requires-clause-hand
 serve_all-answered-requires-clause-hand c =

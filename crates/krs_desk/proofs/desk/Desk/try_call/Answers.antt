@@ -37,7 +37,7 @@ finish-told-requires-clause-held c =
     let seated =
     given_seated seat.lane seat.idle seat.served seat.token.me m c.seat.invariant.0 c.give_back.ensures.given in
     let had = c.take.ensures.had c.if-take-ne-FREE.false in
-    (had_held seat.lane seat.idle m _ seated had).0
+    had_held seat.lane seat.idle m _ seated had
 
 pub finish-told-requires-clause-idle : goal.finish-told-requires-clause-idle
 finish-told-requires-clause-idle c =
@@ -67,7 +67,7 @@ invariant_of-seat-2 c =
     let held = had_held seat.lane seat.idle m _ seated had in (
       placed seat.lane seat.idle c.give_back.new.served c.finish-told.new.token.me c.give_back.ensures.none
           (turn_seated seat.lane seat.idle m c.take.new.token.me c.take.new.token.me c.finish-told.new.token.me 0 0 _ seated
-          had (starts _ held.0 held.1) c.finish-told.ensures.finished),
+          had (starts _ held) c.finish-told.ensures.finished),
       search rules,
     )
 
@@ -85,7 +85,7 @@ returns-clause-added c =
     rw c.reply_in.ensures
     (turn_adds c.give_back.new.token.table_id c.finish-told.new.token.table_id _ _ m c.take.new.token.me c.take.new.token.me
     c.finish-told.new.token.me c.args.seat.now seat.lane seat.idle 0 0 c.args.moment c.args.ask
-    (reply_of c.finish-told.result) view (search rules) seated had (starts _ held.0 held.1) c.finish-told.ensures.finished)
+    (reply_of c.finish-told.result) view (search rules) seated had (starts _ held) c.finish-told.ensures.finished)
 
 pub returns-clause-idle : goal.returns-clause-idle
 returns-clause-idle c =
@@ -99,7 +99,7 @@ returns-clause-idle c =
     let had = c.take.ensures.had c.if-take-ne-FREE.false in
     let held = had_held seat.lane seat.idle m _ seated had in
     turn_idle m c.take.new.token.me c.take.new.token.me c.finish-told.new.token.me 0 0 _
-    (ap (λ (s : Sitting). s.part.flight) view ∙ c.requires.idle) had (starts _ held.0 held.1) c.finish-told.ensures.finished
+    (ap (λ (s : Sitting). s.part.flight) view ∙ c.requires.idle) had (starts _ held) c.finish-told.ensures.finished
 
 pub returns-clause-alone : goal.returns-clause-alone
 returns-clause-alone c =

@@ -1,0 +1,24 @@
+use Rattle.std.proofs.Common.{refl, sym, inl, inr}
+use Rattle.krs_desk.specs.Helping.{lanes_of}
+use Rattle.krs_desk.proofs.Helps.{starts}
+use Rattle.krs_desk.proofs.KeptTurns.{none_free}
+use Rattle.krs_desk.proofs.desk.Desk.answer_posted.Goals as goal
+
+pub returns-then-not-is_any_posted-clause-gone : goal.returns-then-not-is_any_posted-clause-gone
+returns-then-not-is_any_posted-clause-gone c = record {
+  count = 0;
+  looked = 0;
+  whole = inl refl;
+  goes = starts c.args.token.now.me c.requires.held;
+}
+
+pub serve_all-answered-requires-clause-hand : goal.serve_all-answered-requires-clause-hand
+serve_all-answered-requires-clause-hand c = sym (none_free _ c.requires.idle)
+
+pub returns-clause-gone : goal.returns-clause-gone
+returns-clause-gone c = record {
+  count = c.serve_all-answered.result;
+  looked = lanes_of c.args.self.now;
+  whole = inr refl;
+  goes = c.serve_all-answered.ensures.gone;
+}
