@@ -313,6 +313,17 @@ goes_on a p q r j k lane store next g s =
           (λ ne. s.done (g.done (omega arith) has));
     }
 
+pub goes_at :
+    (m n w : Me) (j k lane : ℕ) → Goes m j lane n → ServesLane n lane k w → Goes m (j + k) (lane + 1) w
+goes_at m n w j k lane g s =
+    let same : opening n ≡ opening m = ap opening g.1 in
+    let behind : rest n.1 ≡ rest m.1 = ap (λ (z : Me). rest z.1) g.1 in (
+      s.0,
+      s.1 ∙ (λ i. (sat (same i) (part w), (0, Home s.0) ∷ behind i)),
+      goes_on (opening m) (part m) (part n) (part w) j k lane g.0 s.0 g.2
+          (subst (λ (b : State). Served b (part n) lane k (part w) s.0) same s.2),
+    )
+
 pub held_at : (m n : Me) (j lane : ℕ) → HoldsAll m → Goes m j lane n → HoldsAll n
 held_at m n j lane h g =
     let same : opening n ≡ opening m = ap opening g.1 in
