@@ -3,6 +3,7 @@ pub mod Clock
 pub mod CommandLine
 pub mod Choice
 pub mod Daemon
+pub mod Ends
 pub mod Saying
 pub mod Telling
 pub mod Timeline

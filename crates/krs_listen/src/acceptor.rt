@@ -4,7 +4,7 @@ ghost use Rattle.std.specs.IoError.{raw_os_error};
 ghost use Rattle.krs_listen.specs.Accepting.{accepted_by, failed_at, is_passing};
 
 use crate::ends::{ends_of, shared};
-use crate::{SocketReader, SocketWriter};
+use crate::SocketEnds;
 use std::alloc::Global;
 use std::io;
 use std::os::unix::net::{UnixListener, UnixStream};
@@ -104,7 +104,7 @@ impl<'a, R: Wait + Clock, F: AwaitsEnd<R>> SocketAcceptor<'a, R, F> {
     }
 
     /// The ends of the next connection, or none where an accept failed for good.
-    pub fn accept(&mut self) -> Option<(SocketReader, SocketWriter)>
+    pub fn accept(&mut self) -> Option<SocketEnds>
         requires accepted { accepted_by self.old < u64.MAX }
         requires failures { failed_at self.old < u64.MAX }
         ensures one { IfSome result (λ _. accepted_by self.new ≡ accepted_by self.old + 1) }
@@ -142,7 +142,7 @@ impl<'a, R: Wait + Clock, F: AwaitsEnd<R>> SocketAcceptor<'a, R, F> {
     }
 
     /// The next connection, waited for through failures that pass.
-    fn next(&self) -> io::Result<(SocketReader, SocketWriter)> {
+    fn next(&self) -> io::Result<SocketEnds> {
         let mut idle = 0;
         for _ in self.rt.forever() {
             match self.listener.accept() {
@@ -157,7 +157,7 @@ impl<'a, R: Wait + Clock, F: AwaitsEnd<R>> SocketAcceptor<'a, R, F> {
     }
 
     /// The ends of a stream. Where there is no memory for what they share, it waits until others have given some back.
-    fn in_two(&self, stream: UnixStream) -> io::Result<(SocketReader, SocketWriter)> {
+    fn in_two(&self, stream: UnixStream) -> io::Result<SocketEnds> {
         let mut stream = stream;
         for _ in self.rt.forever() {
             match shared(self.alloc, stream) {

@@ -17,6 +17,27 @@ pub struct SocketWriter {
     stream: Arc<UnixStream, Global>,
 }
 
+/// Both ends of one connection. Only `ends_of` makes them, of one stream, so that nobody joins an end of one connection to
+/// an end of another.
+#[derive(Drop)]
+pub struct SocketEnds {
+    reader: SocketReader,
+    writer: SocketWriter,
+}
+
+impl SocketEnds {
+    ghost use Rattle.std.specs.Prelude.{◌≡◌};
+    ghost use Rattle.krs_listen.specs.Ends.{reader_of, writer_of};
+
+    pub fn into_two(self) -> (SocketReader, SocketWriter)
+        ensures reader { result.0 ≡ reader_of self }
+        ensures writer { result.1 ≡ writer_of self }
+    {
+        let SocketEnds { reader, writer } = self;
+        (reader, writer)
+    }
+}
+
 /// What both ends of a connection share, if there is memory for it. Else the stream comes back.
 pub(crate) fn shared(
     alloc: Global,
@@ -29,11 +50,12 @@ pub(crate) fn shared(
 }
 
 /// Both ends. There are never too many ends to count.
-pub(crate) fn ends_of(
-    stream: Arc<UnixStream, Global>,
-) -> Result<(SocketReader, SocketWriter), AllocError> {
+pub(crate) fn ends_of(stream: Arc<UnixStream, Global>) -> Result<SocketEnds, AllocError> {
     let other = Arc::try_clone(&stream)?;
-    Ok((SocketReader { stream }, SocketWriter { stream: other }))
+    Ok(SocketEnds {
+        reader: SocketReader { stream },
+        writer: SocketWriter { stream: other },
+    })
 }
 
 impl Read for SocketReader {

@@ -39,7 +39,7 @@ impl<'a, 'd, R: Wait + Clock, F: AwaitsEnd<R>, N: AtDesk> Acceptor<
         free: SocketSitting<'d, N>,
     ) -> Result<SocketGuest<'d, N>, SocketSitting<'d, N>> {
         match SocketAcceptor::accept(self) {
-            Some((reader, writer)) => Ok(guest_of(free, reader, writer)),
+            Some(ends) => Ok(guest_of(free, ends)),
             None => Err(free),
         }
     }

@@ -7,14 +7,16 @@ ghost use Rattle.krs_desk.specs.Seen.{IsOneHistory};
 ghost use Rattle.krs_desk.specs.Sitting.{IsIdleAt, Meets};
 ghost use Rattle.krs_wire.specs.declared.framed.Framed.{Framed};
 ghost use Rattle.krs_session.specs.declared.ended.Ended.{Ended};
+ghost use Rattle.krs_listen.specs.Ends.{reader_of, writer_of};
 ghost use Rattle.krs_session.specs.Leads.{GainsSession};
+ghost use Rattle.krs_session.specs.Over.{over_end};
 ghost use Rattle.krs_session.specs.Session.{HaveRoom, counts_of};
 ghost use Rattle.krs_serve.specs.Sessions.{ServesAtDesk, entry};
 ghost use Rattle.krs_serve.specs.Visits.{IsVisited, HasJustItsCalls, IsNew};
 
 use crate::{Entry, OpenGate, serve_entry};
 use krs_desk::{Desk, Seat};
-use krs_listen::{SocketReader, SocketWriter};
+use krs_listen::{SocketEnds, SocketReader, SocketWriter};
 use krs_session::{Clock, Over, Sink, Source, a_session_is_its_asks_and_leave};
 use std::alloc::{AllocError, Global};
 use std::marker::{Brand, PhantomData};
@@ -160,11 +162,13 @@ pub type SocketGuest<'d, N> = Guest<'d, N, Over<SocketReader>, Over<SocketWriter
 /// Who came over a socket, at the seat that was free. No guest is made elsewhere, so that a daemon has none of its own.
 pub(crate) fn guest_of<'d, N: AtDesk>(
     sitting: SocketSitting<'d, N>,
-    reader: SocketReader,
-    writer: SocketWriter,
+    ends: SocketEnds,
 ) -> SocketGuest<'d, N>
-    ensures { result.sitting ≡ sitting.entry }
+    ensures sitting { result.sitting ≡ sitting.entry }
+    ensures reader { over_end result.reader ≡ reader_of ends }
+    ensures writer { over_end result.writer ≡ writer_of ends }
 {
+    let (reader, writer) = ends.into_two();
     Guest::new(sitting, Over::new(reader), Over::new(writer))
 }
 
