@@ -3,8 +3,8 @@ ghost use Rattle.std.specs.Duration.{as_nanos};
 ghost use Rattle.std.specs.IoError.{raw_os_error};
 ghost use Rattle.krs_listen.specs.Accepting.{accepted_by, failed_at, is_passing};
 
-use crate::ends::{ends_of, shared};
 use crate::SocketEnds;
+use crate::ends::{ends_of, shared};
 use std::alloc::Global;
 use std::io;
 use std::os::unix::net::{UnixListener, UnixStream};
