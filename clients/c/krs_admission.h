@@ -90,4 +90,8 @@ bool krs_admission_c_may_be_given(const struct admission_parent *parent, const s
  * keyring or the user-session keyring. */
 uint32_t krs_admission_c_asks_as(const struct admission_ids *ids, bool is_of_user);
 
+/* Whether a process that has joined a session itself, as a user with this uid, is in it still: while that is its real
+ * uid. */
+bool krs_admission_c_stays(const struct admission_process *process, uint32_t uid);
+
 #endif

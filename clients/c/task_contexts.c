@@ -16,15 +16,14 @@ void end_seats(struct task *task) {
     while (task->count > 0) drop_seat(task, task->count - 1);
 }
 
-/* Those whose connection has ended are dropped. Who has joined a session itself is in it while its user is the real
- * one. */
+/* Those whose connection has ended are dropped. Who has joined a session itself may be in it still. */
 struct seat *find_seat(struct task *task, const struct user *user, const struct asker *asker) {
     for (unsigned i = task->count; i > 0; i--)
         if (!context_connection(&task->seats[i - 1].context)) drop_seat(task, i - 1);
     const struct admission_process *now = &asker->process;
-    bool is_real = user->identity.uid == now->uids.real;
+    bool stays = krs_admission_c_stays(now, user->identity.uid);
     return FIND_SEAT(task, seat, seat->user == user &&
-                                     (seat->has_joined ? is_real
+                                     (seat->has_joined ? stays
                                                        : seat->is_elsewhere == asker->is_elsewhere &&
                                                              memcmp(&seat->made_for, now, sizeof *now) == 0));
 }

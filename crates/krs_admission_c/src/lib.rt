@@ -1,7 +1,7 @@
 //! krs_admission for C: `clients/c/krs_admission.h` declares it. No call requires anything of its arguments.
 #![tactic(auto)]
 
-ghost use Rattle.std.specs.Prelude.{◌≡◌, true};
+ghost use Rattle.std.specs.Prelude.{◌≡◌, ◌==◌, true};
 ghost use Rattle.krs_admission.specs.Rule.{place_of, number_of, knows_again, may_enter, may_be_given, asks_as};
 ghost use Rattle.krs_admission.specs.Law.{ComesLawfully, MayHave, IsShared};
 
@@ -56,4 +56,13 @@ pub extern "C" fn krs_admission_c_asks_as(ids: &Ids, is_of_user: bool) -> u32
     ensures { result ≡ asks_as ids.now is_of_user }
 {
     krs_admission::asks_as(ids, is_of_user)
+}
+
+/// Whether a process that has joined a session itself, as a user with this uid, is in it still: while that is its real
+/// uid.
+#[unsafe(no_mangle)]
+pub extern "C" fn krs_admission_c_stays(process: &Process, uid: u32) -> bool
+    ensures { result ≡ (process.now.uids.real == uid) }
+{
+    krs_admission::stays(process, uid)
 }
