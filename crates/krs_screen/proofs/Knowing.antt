@@ -1,11 +1,13 @@
 -- Which numbers have an operation.
 use Rattle.std.proofs.Common.{arith, refl, sym, ap, zero, nat_le, ◌≡◌, ◌+◌, ℕ, suc, List, [], ◌∷◌, ◌∙◌, Bool, true}
-use Rattle.std.proofs.Common.{false, cond, ◌==◌, ◌||◌, ◌&&◌, nat_lt, Result}
-use Rattle.std.proofs.lemmas.Grind.{common_steps}
+use Rattle.std.proofs.Common.{false, cond, ◌==◌, ◌||◌, ◌&&◌, nat_lt, Result, map, Option, Some, None}
 use Rattle.std.specs.List.{list_any}
 use Rattle.krs_types.specs.declared.ask.Op.{Op}
 use Rattle.krs_wire.specs.declared.fault.WireFault.{WireFault}
-use Rattle.krs_wire.specs.Frame.{op_of}
+use Rattle.krs_wire.specs.Bodies.{fields_of}
+use Rattle.krs_wire.specs.Faulting.{or_bad_body}
+use Rattle.krs_wire.specs.Field.{whole}
+use Rattle.krs_wire.specs.Frame.{op_of, Reading, read_by, readings}
 use Rattle.krs_screen.specs.Front.{is_known, is_operation}
 
 -- the number of HELLO
@@ -13,52 +15,23 @@ pub hello_is_known : is_known 256 ≡ true
 unfolding is_known op_of
 hello_is_known = refl
 
-record Tells (r : Result Op WireFault) (known : Bool) : Type 0 where
-  tells : is_operation r ≡ known
+-- what fields say is an ask or a bad body
+reads : (o : Option Op) → is_operation (or_bad_body o) ≡ true
+reads None = refl
+reads (Some op) = refl
 
-pick : (b : Bool) (x y : Result Op WireFault) (known : Bool) → Tells x true → Tells y known
-    → Tells (cond b x y) (b || known)
+pick : (b : Bool) (x y : Result Op WireFault) (known : Bool) → is_operation x ≡ true → is_operation y ≡ known
+    → is_operation (cond b x y) ≡ (b || known)
 pick true x y known p q = p
 pick false x y known p q = q
 
-abbrev numbers : List ℕ
-numbers =
-    0 ∷ 1 ∷ 2 ∷ 3 ∷ 4 ∷ 5 ∷ 6 ∷ 7 ∷ 8 ∷ 9 ∷ 10 ∷ 11 ∷ 15 ∷ 21 ∷ 29 ∷ 30 ∷ 32 ∷ 256 ∷ 257 ∷ 258
-    ∷ 259 ∷ 260 ∷ 261 ∷ 262 ∷ 263 ∷ 264 ∷ 265 ∷ 266 ∷ 267 ∷ []
+abbrev numbers : List Reading → List ℕ
+numbers = map (λ row. row.number)
 
-all_told : (op : ℕ) → Tells (op_of op []) (list_any (λ n. op == n) numbers)
-unfolding op_of
-all_told op =
-    (pick (op == 0) _ _ _ (record { tells = refl })
-    (pick (op == 1) _ _ _ (record { tells = refl })
-    (pick (op == 2) _ _ _ (record { tells = refl })
-    (pick (op == 3) _ _ _ (record { tells = refl })
-    (pick (op == 4) _ _ _ (record { tells = refl })
-    (pick (op == 5) _ _ _ (record { tells = refl })
-    (pick (op == 6) _ _ _ (record { tells = refl })
-    (pick (op == 7) _ _ _ (record { tells = refl })
-    (pick (op == 8) _ _ _ (record { tells = refl })
-    (pick (op == 9) _ _ _ (record { tells = refl })
-    (pick (op == 10) _ _ _ (record { tells = refl })
-    (pick (op == 11) _ _ _ (record { tells = refl })
-    (pick (op == 15) _ _ _ (record { tells = refl })
-    (pick (op == 21) _ _ _ (record { tells = refl })
-    (pick (op == 29) _ _ _ (record { tells = refl })
-    (pick (op == 30) _ _ _ (record { tells = refl })
-    (pick (op == 32) _ _ _ (record { tells = refl })
-    (pick (op == 256) _ _ _ (record { tells = refl })
-    (pick (op == 257) _ _ _ (record { tells = refl })
-    (pick (op == 258) _ _ _ (record { tells = refl })
-    (pick (op == 259) _ _ _ (record { tells = refl })
-    (pick (op == 260) _ _ _ (record { tells = refl })
-    (pick (op == 261) _ _ _ (record { tells = refl })
-    (pick (op == 262) _ _ _ (record { tells = refl })
-    (pick (op == 263) _ _ _ (record { tells = refl })
-    (pick (op == 264) _ _ _ (record { tells = refl })
-    (pick (op == 265) _ _ _ (record { tells = refl })
-    (pick (op == 266) _ _ _ (record { tells = refl })
-    (pick (op == 267) _ _ _ (record { tells = refl })
-    (record { tells = refl }))))))))))))))))))))))))))))))
+told : (rows : List Reading) (op : ℕ) → is_operation (read_by rows op []) ≡ list_any (λ n. op == n) (numbers rows)
+told [] op = refl
+told (row ∷ others) op =
+    pick (op == row.number) _ _ _ (reads (whole (fields_of row.forms) row.make [])) (told others op)
 
 -- one of so many numbers in a row, or else
 abbrev each_from : (op first count : ℕ) → Bool → Bool
@@ -93,7 +66,9 @@ low op = grind arith
 high : (op : ℕ) → ((nat_le 256 op && nat_lt op 268) || false) ≡ (nat_lt 255 op && nat_lt op 268)
 high op = grind arith
 
-in_ranges : (op : ℕ) → list_any (λ n. op == n) numbers ≡ (nat_lt op 12 || between op (nat_lt 255 op && nat_lt op 268))
+in_ranges : (op : ℕ) → list_any (λ n. op == n) (numbers readings)
+    ≡ (nat_lt op 12 || between op (nat_lt 255 op && nat_lt op 268))
+unfolding readings
 in_ranges op =
     in_row op 0 12 (between op (each_from op 256 12 false))
     ∙ ap (λ (b : Bool). b || between op (each_from op 256 12 false)) (low op)
@@ -102,5 +77,5 @@ in_ranges op =
 pub known_is : (op : ℕ) → is_known op
     ≡ (nat_lt op 12 || (op == 15 || (op == 21 || (op == 29 || (op == 30 || (op == 32
     || (nat_lt 255 op && nat_lt op 268)))))))
-unfolding is_known
-known_is op = (all_told op).tells ∙ in_ranges op
+unfolding is_known op_of
+known_is op = told readings op ∙ in_ranges op

@@ -1,22 +1,17 @@
 -- A body is read as it is encoded, and what is read is encoded so.
-use Rattle.std.proofs.Common.{◌≡◌, ℕ, ◌^◌, ◌<◌, true, cond, eqb, List, [], ◌∷◌, Result, Ok, Err, sym, ap, subst, ◌∙◌}
+use Rattle.std.proofs.Common.{◌≡◌, ℕ, ◌^◌, ◌<◌, true, cond, eqb, List, [], ◌∷◌, map, Ok, sym, ap, subst, ◌∙◌}
 use Rattle.std.proofs.Common.{arith, refl, inl, inr}
 use Rattle.std.specs.Int.{w16, w32}
 use Rattle.std.proofs.lemmas.Bool.{eqb-true}
-use Rattle.krs_wire.specs.declared.fault.WireFault.{WireFault}
-use Rattle.krs_wire.specs.declared.fault.WireFault.TheVariants.{BadOp}
+use Rattle.krs_types.specs.Rows.{Value, Number, Id, Flag, Text, Blob, Whom, Entries, row_of}
 use Rattle.krs_types.specs.declared.ask.Op.{Op}
-use Rattle.krs_types.specs.declared.ask.Op.TheVariants.{Hello, Thread, Fork, Exec, GetId, Join, Search, Request, Add}
-use Rattle.krs_types.specs.declared.ask.Op.TheVariants.{Update, Revoke, Invalidate, Chown, SetPerm, SetTimeout, Link}
-use Rattle.krs_types.specs.declared.ask.Op.TheVariants.{Unlink, Clear, Read, Describe, Watch, OpenQueue, SetFilter}
-use Rattle.krs_types.specs.declared.ask.Op.TheVariants.{ReadQueue, CloseQueue, Exit, Leave}
-use Rattle.krs_types.specs.declared.ask.Op.TheVariants.{Move, RestrictKeyring}
+use Rattle.krs_types.specs.declared.ask.Op.TheVariants.{Thread, GetId}
 use Rattle.krs_wire.specs.Field.{number, both, counted, repeated, whole}
 use Rattle.krs_wire.specs.Faulting.{or_bad_body}
 use Rattle.krs_wire.specs.Bodies.{Form, a_number, an_id, a_flag, a_text, a_blob, a_caller, a_filter, Parts, field_of}
 use Rattle.krs_wire.specs.Bodies.{fields_of, groups_field, caller_field, caller_of, caller_parts, entry_field}
-use Rattle.krs_wire.specs.Bodies.{entry_of, entry_parts, number_of_op, body_of_op, FitsOp}
-use Rattle.krs_wire.specs.Frame.{op_of}
+use Rattle.krs_wire.specs.Bodies.{entry_of, entry_parts, number_of_op, body_of_op, FitsOp, Of}
+use Rattle.krs_wire.specs.Frame.{op_of, Reading, by, read_by, readings}
 use Rattle.krs_wire.proofs.CaseLemmas.{chosen, ok_body}
 use Rattle.krs_wire.proofs.FieldLemmas.{IsBytes, IsExact, wide16, wide32, number_exact, signed_exact, sized_exact}
 use Rattle.krs_wire.proofs.FieldLemmas.{flag_exact, both_exact, nothing_exact, built_exact, whole_again, whole_takes}
@@ -67,142 +62,98 @@ fields_exact [] = nothing_exact
 fields_exact (form ∷ forms) =
     both_exact (field_of form) (fields_of forms) (form_exact form) (fields_exact forms)
 
-row_again : (forms : List Form) (make : Parts forms → Op) (x : Parts forms) → (fields_of forms).Fits x
-    → or_bad_body (whole (fields_of forms) make ((fields_of forms).encode x)) ≡ Ok (make x)
-row_again forms make x h = ap or_bad_body (whole_again (fields_of forms) (fields_exact forms) make x h)
+-- what a body says by a row, which its fields were encoded by
+row_again : (row : Reading) (x : Parts row.forms) → (fields_of row.forms).Fits x
+    → or_bad_body (whole (fields_of row.forms) row.make ((fields_of row.forms).encode x)) ≡ Ok (row.make x)
+row_again row x h = ap or_bad_body (whole_again (fields_of row.forms) (fields_exact row.forms) row.make x h)
+
+-- the row of a number
+abbrev row_at : List Reading → ℕ → Reading
+row_at [] which = by which [] (λ x. Thread)
+row_at (row ∷ others) which = cond (eqb which row.number) row (row_at others which)
+
+-- the form of a field, and the fields of an ask by their forms
+abbrev form_of : Value → Form
+form_of (Number n) = a_number
+form_of (Id id) = an_id
+form_of (Flag b) = a_flag
+form_of (Text text) = a_text
+form_of (Blob bytes) = a_blob
+form_of (Whom caller) = a_caller
+form_of (Entries entries) = a_filter
+
+abbrev value_of : (v : Value) → Of (form_of v)
+value_of (Number n) = n
+value_of (Id id) = id
+value_of (Flag b) = b
+value_of (Text text) = text
+value_of (Blob bytes) = bytes
+value_of (Whom caller) = caller
+value_of (Entries entries) = entries
+
+abbrev parts_of : (vs : List Value) → Parts (map form_of vs)
+parts_of [] = tt
+parts_of (v ∷ vs) = (value_of v, parts_of vs)
 
 pub op_again : (op : Op) → FitsOp op → op_of (number_of_op op) (body_of_op op) ≡ Ok op
 unfolding op_of
-op_again (GetId id create) h = row_again (an_id ∷ a_flag ∷ []) (λ a. GetId a.0 a.1.0) (id, (create, tt)) h
-op_again (Join name) h = row_again (a_text ∷ []) (λ a. Join a.0) (name, tt) h
-op_again (Update id payload) h = row_again (an_id ∷ a_blob ∷ []) (λ a. Update a.0 a.1.0) (id, (payload, tt)) h
-op_again (Revoke id) h = row_again (an_id ∷ []) (λ a. Revoke a.0) (id, tt) h
-op_again (Chown id uid gid) h =
-    row_again (an_id ∷ a_number ∷ a_number ∷ []) (λ a. Chown a.0 a.1.0 a.1.1.0) (id, (uid, (gid, tt))) h
-op_again (SetPerm id mask) h = row_again (an_id ∷ a_number ∷ []) (λ a. SetPerm a.0 a.1.0) (id, (mask, tt)) h
-op_again (Describe id) h = row_again (an_id ∷ []) (λ a. Describe a.0) (id, tt) h
-op_again (Clear id) h = row_again (an_id ∷ []) (λ a. Clear a.0) (id, tt) h
-op_again (Link key ring) h = row_again (an_id ∷ an_id ∷ []) (λ a. Link a.0 a.1.0) (key, (ring, tt)) h
-op_again (Unlink key ring) h = row_again (an_id ∷ an_id ∷ []) (λ a. Unlink a.0 a.1.0) (key, (ring, tt)) h
-op_again (Search head type_name desc dest) h =
-    row_again (an_id ∷ a_text ∷ a_text ∷ an_id ∷ [])
-    (λ a. Search a.0 a.1.0 a.1.1.0 a.1.1.1.0) (head, (type_name, (desc, (dest, tt)))) h
-op_again (Read id) h = row_again (an_id ∷ []) (λ a. Read a.0) (id, tt) h
-op_again (SetTimeout id seconds) h = row_again (an_id ∷ a_number ∷ []) (λ a. SetTimeout a.0 a.1.0) (id, (seconds, tt)) h
-op_again (Invalidate id) h = row_again (an_id ∷ []) (λ a. Invalidate a.0) (id, tt) h
-op_again (RestrictKeyring ring type_name) h =
-    row_again (an_id ∷ a_text ∷ []) (λ a. RestrictKeyring a.0 a.1.0) (ring, (type_name, tt)) h
-op_again (Move key from to flags) h =
-    row_again (an_id ∷ an_id ∷ an_id ∷ a_number ∷ [])
-    (λ a. Move a.0 a.1.0 a.1.1.0 a.1.1.1.0) (key, (from, (to, (flags, tt)))) h
-op_again (Watch id queue watch) h =
-    row_again (an_id ∷ a_number ∷ an_id ∷ []) (λ a. Watch a.0 a.1.0 a.1.1.0) (id, (queue, (watch, tt))) h
-op_again (Hello caller) h = row_again (a_caller ∷ []) (λ a. Hello a.0) (caller, tt) h
-op_again Thread h = row_again [] (λ _. Thread) tt h
-op_again Fork h = row_again [] (λ _. Fork) tt h
-op_again Exec h = row_again [] (λ _. Exec) tt h
-op_again Exit h = row_again [] (λ _. Exit) tt h
-op_again Leave h = row_again [] (λ _. Leave) tt h
-op_again (Add type_name desc payload ring) h =
-    row_again (a_text ∷ a_text ∷ a_blob ∷ an_id ∷ [])
-    (λ a. Add a.0 a.1.0 a.1.1.0 a.1.1.1.0) (type_name, (desc, (payload, (ring, tt)))) h
-op_again (Request type_name desc dest) h =
-    row_again (a_text ∷ a_text ∷ an_id ∷ []) (λ a. Request a.0 a.1.0 a.1.1.0) (type_name, (desc, (dest, tt))) h
-op_again (OpenQueue capacity) h = row_again (a_number ∷ []) (λ a. OpenQueue a.0) (capacity, tt) h
-op_again (SetFilter queue entries) h =
-    row_again (a_number ∷ a_filter ∷ []) (λ a. SetFilter a.0 a.1.0) (queue, (entries, tt)) h
-op_again (ReadQueue queue room) h =
-    row_again (a_number ∷ a_number ∷ []) (λ a. ReadQueue a.0 a.1.0) (queue, (room, tt)) h
-op_again (CloseQueue queue) h = row_again (a_number ∷ []) (λ a. CloseQueue a.0) (queue, tt) h
+op_again Thread h = row_again (row_at readings 257) tt h
+op_again op h = row_again (row_at readings (number_of_op op)) (parts_of (row_of op).body) h
 
 pub op_small : (op : Op) → number_of_op op < 256 ^ 2
 op_small (GetId id create) = omega arith
 op_small op = omega arith
-
-abbrev no_op : Result Op WireFault
-no_op = Err BadOp
 
 pub record OpTakes (which : ℕ) (body : List ℕ) (op : Op) : Type 0 where
   pub number : which ≡ number_of_op op
   pub body-is : body ≡ body_of_op op
   pub fits : FitsOp op
 
--- a row of the table
-row_takes : (forms : List Form) (make : Parts forms → Op) (no-of : ℕ)
-    → ((x : Parts forms) → number_of_op (make x) ≡ no-of)
-    → ((x : Parts forms) → body_of_op (make x) ≡ (fields_of forms).encode x)
-    → ((x : Parts forms) → (fields_of forms).Fits x → FitsOp (make x))
-    → (which : ℕ) (body : List ℕ) (op : Op) → IsBytes body → eqb which no-of ≡ true
-    → or_bad_body (whole (fields_of forms) make body) ≡ Ok op → OpTakes which body op
-row_takes forms make no-of numbered same fitting which body op bytes test e =
+-- what the asks of these rows have: their numbers, their bodies, and what these can encode
+abbrev Facts : List Reading → Type 1
+Facts [] = Unit {1}
+Facts (row ∷ others) = (Parts row.forms → ℕ × List ℕ × Type 0) × Facts others
+
+abbrev of_asks : (rows : List Reading) → Facts rows
+of_asks [] = tt
+of_asks (row ∷ others) =
+    (λ x. (number_of_op (row.make x), body_of_op (row.make x), FitsOp (row.make x)), of_asks others)
+
+-- and what the rows say of them
+abbrev of_rows : (rows : List Reading) → Facts rows
+of_rows [] = tt
+of_rows (row ∷ others) =
+    (λ x. (row.number, (fields_of row.forms).encode x, (fields_of row.forms).Fits x), of_rows others)
+
+same_facts : of_asks readings ≡ of_rows readings
+unfolding readings
+same_facts = refl
+
+row_takes : (row : Reading) (others : List Reading) → of_asks (row ∷ others) ≡ of_rows (row ∷ others)
+    → (which : ℕ) (body : List ℕ) (op : Op) → IsBytes body → eqb which row.number ≡ true
+    → or_bad_body (whole (fields_of row.forms) row.make body) ≡ Ok op → OpTakes which body op
+row_takes row others same which body op bytes test e =
     let t =
-    whole_takes (fields_of forms) (fields_exact forms) make body op bytes
-    (ok_body (whole (fields_of forms) make body) op e) in
-    let made : OpTakes which body (make t.0) =
+    whole_takes (fields_of row.forms) (fields_exact row.forms) row.make body op bytes
+    (ok_body (whole (fields_of row.forms) row.make body) op e) in
+    let here = ap (λ (f : Facts (row ∷ others)). f.0 t.0) same in
+    let made : OpTakes which body (row.make t.0) =
     record {
-      number = eqb-true _ _ test ∙ sym (numbered t.0);
-      body-is = t.1 ∙ sym (same t.0);
-      fits = fitting t.0 t.2;
+      number = eqb-true _ _ test ∙ sym (ap (λ (f : ℕ × List ℕ × Type 0). f.0) here);
+      body-is = t.1 ∙ sym (ap (λ (f : ℕ × List ℕ × Type 0). f.1) here);
+      fits = subst (λ (f : ℕ × List ℕ × Type 0). f.2) (sym here) t.2;
     } in
     subst (λ (o : Op). OpTakes which body o) t.3 made
 
--- a row of the table, or what the rows behind it say
-row_or : (forms : List Form) (make : Parts forms → Op) (no-of : ℕ)
-    → ((x : Parts forms) → number_of_op (make x) ≡ no-of)
-    → ((x : Parts forms) → body_of_op (make x) ≡ (fields_of forms).encode x)
-    → ((x : Parts forms) → (fields_of forms).Fits x → FitsOp (make x))
-    → (which : ℕ) (body : List ℕ) (op : Op) (others : Result Op WireFault) → IsBytes body
-    → (others ≡ Ok op → OpTakes which body op)
-    → cond (eqb which no-of) (or_bad_body (whole (fields_of forms) make body)) others ≡ Ok op → OpTakes which body op
-row_or forms make no-of numbered same fitting which body op others bytes behind e =
-    elim (chosen (eqb which no-of) _ _ _ e) [
-      | inl h ↦ row_takes forms make no-of numbered same fitting which body op bytes h.0 h.1
-      | inr h ↦ behind h.1
+rows_take : (rows : List Reading) → of_asks rows ≡ of_rows rows → (which : ℕ) (body : List ℕ) (op : Op) → IsBytes body
+    → read_by rows which body ≡ Ok op → OpTakes which body op
+rows_take [] same which body op bytes e = absurd cc
+rows_take (row ∷ others) same which body op bytes e =
+    elim (chosen (eqb which row.number) _ _ _ e) [
+      | inl h ↦ row_takes row others same which body op bytes h.0 h.1
+      | inr h ↦ rows_take others (ap (λ (f : Facts (row ∷ others)). f.1) same) which body op bytes h.1
     ]
-
-no_row : (which : ℕ) (body : List ℕ) (op : Op) → no_op ≡ Ok op → OpTakes which body op
-no_row which body op e = absurd cc
 
 pub op_takes : (which : ℕ) (body : List ℕ) (op : Op) → IsBytes body → op_of which body ≡ Ok op → OpTakes which body op
 unfolding op_of
-op_takes which body op bytes =
-    row_or (an_id ∷ a_flag ∷ []) (λ a. GetId a.0 a.1.0) 0 (λ x. refl) (λ x. refl) (λ x k. k) which body op _ bytes (
-    row_or (a_text ∷ []) (λ a. Join a.0) 1 (λ x. refl) (λ x. refl) (λ x k. k) which body op _ bytes (
-    row_or (an_id ∷ a_blob ∷ []) (λ a. Update a.0 a.1.0) 2 (λ x. refl) (λ x. refl) (λ x k. k) which body op _ bytes (
-    row_or (an_id ∷ []) (λ a. Revoke a.0) 3 (λ x. refl) (λ x. refl) (λ x k. k) which body op _ bytes (
-    row_or (an_id ∷ a_number ∷ a_number ∷ []) (λ a. Chown a.0 a.1.0 a.1.1.0) 4
-    (λ x. refl) (λ x. refl) (λ x k. k) which body op _ bytes (
-    row_or (an_id ∷ a_number ∷ []) (λ a. SetPerm a.0 a.1.0) 5 (λ x. refl) (λ x. refl) (λ x k. k) which body op _ bytes (
-    row_or (an_id ∷ []) (λ a. Describe a.0) 6 (λ x. refl) (λ x. refl) (λ x k. k) which body op _ bytes (
-    row_or (an_id ∷ []) (λ a. Clear a.0) 7 (λ x. refl) (λ x. refl) (λ x k. k) which body op _ bytes (
-    row_or (an_id ∷ an_id ∷ []) (λ a. Link a.0 a.1.0) 8 (λ x. refl) (λ x. refl) (λ x k. k) which body op _ bytes (
-    row_or (an_id ∷ an_id ∷ []) (λ a. Unlink a.0 a.1.0) 9 (λ x. refl) (λ x. refl) (λ x k. k) which body op _ bytes (
-    row_or (an_id ∷ a_text ∷ a_text ∷ an_id ∷ []) (λ a. Search a.0 a.1.0 a.1.1.0 a.1.1.1.0) 10
-    (λ x. refl) (λ x. refl) (λ x k. k) which body op _ bytes (
-    row_or (an_id ∷ []) (λ a. Read a.0) 11 (λ x. refl) (λ x. refl) (λ x k. k) which body op _ bytes (
-    row_or (an_id ∷ a_number ∷ []) (λ a. SetTimeout a.0 a.1.0) 15
-    (λ x. refl) (λ x. refl) (λ x k. k) which body op _ bytes (
-    row_or (an_id ∷ []) (λ a. Invalidate a.0) 21 (λ x. refl) (λ x. refl) (λ x k. k) which body op _ bytes (
-    row_or (an_id ∷ a_text ∷ []) (λ a. RestrictKeyring a.0 a.1.0) 29
-    (λ x. refl) (λ x. refl) (λ x k. k) which body op _ bytes (
-    row_or (an_id ∷ an_id ∷ an_id ∷ a_number ∷ []) (λ a. Move a.0 a.1.0 a.1.1.0 a.1.1.1.0) 30
-    (λ x. refl) (λ x. refl) (λ x k. k) which body op _ bytes (
-    row_or (an_id ∷ a_number ∷ an_id ∷ []) (λ a. Watch a.0 a.1.0 a.1.1.0) 32
-    (λ x. refl) (λ x. refl) (λ x k. k) which body op _ bytes (
-    row_or (a_caller ∷ []) (λ a. Hello a.0) 256 (λ x. refl) (λ x. refl) (λ x k. k) which body op _ bytes (
-    row_or [] (λ _. Thread) 257 (λ x. refl) (λ x. refl) (λ x k. k) which body op _ bytes (
-    row_or [] (λ _. Fork) 258 (λ x. refl) (λ x. refl) (λ x k. k) which body op _ bytes (
-    row_or [] (λ _. Exec) 259 (λ x. refl) (λ x. refl) (λ x k. k) which body op _ bytes (
-    row_or [] (λ _. Exit) 260 (λ x. refl) (λ x. refl) (λ x k. k) which body op _ bytes (
-    row_or [] (λ _. Leave) 261 (λ x. refl) (λ x. refl) (λ x k. k) which body op _ bytes (
-    row_or (a_text ∷ a_text ∷ a_blob ∷ an_id ∷ []) (λ a. Add a.0 a.1.0 a.1.1.0 a.1.1.1.0) 262
-    (λ x. refl) (λ x. refl) (λ x k. k) which body op _ bytes (
-    row_or (a_text ∷ a_text ∷ an_id ∷ []) (λ a. Request a.0 a.1.0 a.1.1.0) 263
-    (λ x. refl) (λ x. refl) (λ x k. k) which body op _ bytes (
-    row_or (a_number ∷ []) (λ a. OpenQueue a.0) 264 (λ x. refl) (λ x. refl) (λ x k. k) which body op _ bytes (
-    row_or (a_number ∷ a_filter ∷ []) (λ a. SetFilter a.0 a.1.0) 265
-    (λ x. refl) (λ x. refl) (λ x k. k) which body op _ bytes (
-    row_or (a_number ∷ a_number ∷ []) (λ a. ReadQueue a.0 a.1.0) 266
-    (λ x. refl) (λ x. refl) (λ x k. k) which body op _ bytes (
-    row_or (a_number ∷ []) (λ a. CloseQueue a.0) 267 (λ x. refl) (λ x. refl) (λ x k. k) which body op _ bytes (
-    no_row which body op)))))))))))))))))))))))))))))
+op_takes which body op bytes e = rows_take readings same_facts which body op bytes e

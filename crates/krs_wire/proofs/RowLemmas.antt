@@ -6,7 +6,6 @@ use Rattle.krs_types.specs.declared.ask.Op.{Op}
 use Rattle.krs_wire.specs.declared.fault.WireFault.{WireFault}
 use Rattle.krs_wire.specs.Field.{Field, whole}
 use Rattle.krs_wire.specs.Faulting.{GivesRead, Makes, after, or_bad_body}
-use Rattle.krs_wire.specs.Bodies.{Form, Parts, fields_of}
 use Rattle.krs_wire.specs.Frame.{op_of}
 
 module _ {A : Type 0} (make : A → Op) where
@@ -32,10 +31,10 @@ module _ {A : Type 0} (make : A → Op) where
       λ other. made_of (field.read bytes) ∙ ap (after (λ y. Ok (make y))) (h other)
 
 -- what is made so is what the body says for the number of a row
-pub row_gives : (forms : List Form) (make : Parts forms → Op) (which no-of : ℕ) (bytes : List ℕ)
-    (answer : Result Op WireFault) → which ≡ no-of → op_of no-of bytes ≡ or_bad_body (whole (fields_of forms) make bytes)
-    → Makes (λ x op. op ≡ make x) answer (or_bad_body (whole (fields_of forms) (λ x. x) bytes))
+pub row_gives : {A : Type 0} (field : Field A) (make : A → Op) (which no-of : ℕ) (bytes : List ℕ)
+    (answer : Result Op WireFault) → which ≡ no-of → op_of no-of bytes ≡ or_bad_body (whole field make bytes)
+    → Makes (λ x op. op ≡ make x) answer (or_bad_body (whole field (λ x. x) bytes))
     → GivesRead (λ op. op) answer (op_of which bytes)
-row_gives forms make which no-of bytes answer is row-is h =
+row_gives field make which no-of bytes answer is row-is h =
     subst (λ (r : Result Op WireFault). GivesRead (λ op. op) answer r)
-    (sym (ap (λ (n : ℕ). op_of n bytes) is ∙ row-is)) (made_gives make (fields_of forms) bytes answer h)
+    (sym (ap (λ (n : ℕ). op_of n bytes) is ∙ row-is)) (made_gives make field bytes answer h)

@@ -17,43 +17,60 @@ use Rattle.krs_wire.specs.Tag.{tag_field}
 use Rattle.krs_wire.specs.Faulting.{after, or_bad_body}
 use Rattle.krs_wire.specs.Bodies.{Form, a_number, an_id, a_flag, a_text, a_blob, a_caller, a_filter, Parts, fields_of}
 
--- what a body of fields of these forms says
-abbrev row : (forms : List Form) → (Parts forms → Op) → List ℕ → Result Op WireFault
-row forms make body = or_bad_body (whole (fields_of forms) make body)
+-- A row by which a body is read: the number of an operation, the forms of its fields, and the ask that they make.
+pub record Reading : Type 0 where
+  pub number : ℕ
+  pub forms : List Form
+  pub make : Parts forms → Op
+
+abbrev pub by : (number : ℕ) → (forms : List Form) → (Parts forms → Op) → Reading
+by number forms make = record { number = number; forms = forms; make = make }
+
+-- of each ask: docs/FORMAT.md, "The asks"
+unfoldable pub readings : List Reading
+readings =
+    by 0 (an_id ∷ a_flag ∷ []) (λ a. GetId a.0 a.1.0)
+    ∷ by 1 (a_text ∷ []) (λ a. Join a.0)
+    ∷ by 2 (an_id ∷ a_blob ∷ []) (λ a. Update a.0 a.1.0)
+    ∷ by 3 (an_id ∷ []) (λ a. Revoke a.0)
+    ∷ by 4 (an_id ∷ a_number ∷ a_number ∷ []) (λ a. Chown a.0 a.1.0 a.1.1.0)
+    ∷ by 5 (an_id ∷ a_number ∷ []) (λ a. SetPerm a.0 a.1.0)
+    ∷ by 6 (an_id ∷ []) (λ a. Describe a.0)
+    ∷ by 7 (an_id ∷ []) (λ a. Clear a.0)
+    ∷ by 8 (an_id ∷ an_id ∷ []) (λ a. Link a.0 a.1.0)
+    ∷ by 9 (an_id ∷ an_id ∷ []) (λ a. Unlink a.0 a.1.0)
+    ∷ by 10 (an_id ∷ a_text ∷ a_text ∷ an_id ∷ []) (λ a. Search a.0 a.1.0 a.1.1.0 a.1.1.1.0)
+    ∷ by 11 (an_id ∷ []) (λ a. Read a.0)
+    ∷ by 15 (an_id ∷ a_number ∷ []) (λ a. SetTimeout a.0 a.1.0)
+    ∷ by 21 (an_id ∷ []) (λ a. Invalidate a.0)
+    ∷ by 29 (an_id ∷ a_text ∷ []) (λ a. RestrictKeyring a.0 a.1.0)
+    ∷ by 30 (an_id ∷ an_id ∷ an_id ∷ a_number ∷ []) (λ a. Move a.0 a.1.0 a.1.1.0 a.1.1.1.0)
+    ∷ by 32 (an_id ∷ a_number ∷ an_id ∷ []) (λ a. Watch a.0 a.1.0 a.1.1.0)
+    ∷ by 256 (a_caller ∷ []) (λ a. Hello a.0)
+    ∷ by 257 [] (λ _. Thread)
+    ∷ by 258 [] (λ _. Fork)
+    ∷ by 259 [] (λ _. Exec)
+    ∷ by 260 [] (λ _. Exit)
+    ∷ by 261 [] (λ _. Leave)
+    ∷ by 262 (a_text ∷ a_text ∷ a_blob ∷ an_id ∷ []) (λ a. Add a.0 a.1.0 a.1.1.0 a.1.1.1.0)
+    ∷ by 263 (a_text ∷ a_text ∷ an_id ∷ []) (λ a. Request a.0 a.1.0 a.1.1.0)
+    ∷ by 264 (a_number ∷ []) (λ a. OpenQueue a.0)
+    ∷ by 265 (a_number ∷ a_filter ∷ []) (λ a. SetFilter a.0 a.1.0)
+    ∷ by 266 (a_number ∷ a_number ∷ []) (λ a. ReadQueue a.0 a.1.0)
+    ∷ by 267 (a_number ∷ []) (λ a. CloseQueue a.0)
+    ∷ []
+
+-- what a body says by the row of an operation's number
+abbrev pub read_by : List Reading → ℕ → List ℕ → Result Op WireFault
+read_by [] which body = Err BadOp
+read_by (row ∷ others) which body =
+    if which == row.number then or_bad_body (whole (fields_of row.forms) row.make body)
+    else read_by others which body
 
 -- what a body says for an operation's number
 unfoldable pub op_of : ℕ → List ℕ → Result Op WireFault
-op_of which body =
-    if which == 0 then row (an_id ∷ a_flag ∷ []) (λ a. GetId a.0 a.1.0) body
-    else if which == 1 then row (a_text ∷ []) (λ a. Join a.0) body
-    else if which == 2 then row (an_id ∷ a_blob ∷ []) (λ a. Update a.0 a.1.0) body
-    else if which == 3 then row (an_id ∷ []) (λ a. Revoke a.0) body
-    else if which == 4 then row (an_id ∷ a_number ∷ a_number ∷ []) (λ a. Chown a.0 a.1.0 a.1.1.0) body
-    else if which == 5 then row (an_id ∷ a_number ∷ []) (λ a. SetPerm a.0 a.1.0) body
-    else if which == 6 then row (an_id ∷ []) (λ a. Describe a.0) body
-    else if which == 7 then row (an_id ∷ []) (λ a. Clear a.0) body
-    else if which == 8 then row (an_id ∷ an_id ∷ []) (λ a. Link a.0 a.1.0) body
-    else if which == 9 then row (an_id ∷ an_id ∷ []) (λ a. Unlink a.0 a.1.0) body
-    else if which == 10 then row (an_id ∷ a_text ∷ a_text ∷ an_id ∷ []) (λ a. Search a.0 a.1.0 a.1.1.0 a.1.1.1.0) body
-    else if which == 11 then row (an_id ∷ []) (λ a. Read a.0) body
-    else if which == 15 then row (an_id ∷ a_number ∷ []) (λ a. SetTimeout a.0 a.1.0) body
-    else if which == 21 then row (an_id ∷ []) (λ a. Invalidate a.0) body
-    else if which == 29 then row (an_id ∷ a_text ∷ []) (λ a. RestrictKeyring a.0 a.1.0) body
-    else if which == 30 then row (an_id ∷ an_id ∷ an_id ∷ a_number ∷ []) (λ a. Move a.0 a.1.0 a.1.1.0 a.1.1.1.0) body
-    else if which == 32 then row (an_id ∷ a_number ∷ an_id ∷ []) (λ a. Watch a.0 a.1.0 a.1.1.0) body
-    else if which == 256 then row (a_caller ∷ []) (λ a. Hello a.0) body
-    else if which == 257 then row [] (λ _. Thread) body
-    else if which == 258 then row [] (λ _. Fork) body
-    else if which == 259 then row [] (λ _. Exec) body
-    else if which == 260 then row [] (λ _. Exit) body
-    else if which == 261 then row [] (λ _. Leave) body
-    else if which == 262 then row (a_text ∷ a_text ∷ a_blob ∷ an_id ∷ []) (λ a. Add a.0 a.1.0 a.1.1.0 a.1.1.1.0) body
-    else if which == 263 then row (a_text ∷ a_text ∷ an_id ∷ []) (λ a. Request a.0 a.1.0 a.1.1.0) body
-    else if which == 264 then row (a_number ∷ []) (λ a. OpenQueue a.0) body
-    else if which == 265 then row (a_number ∷ a_filter ∷ []) (λ a. SetFilter a.0 a.1.0) body
-    else if which == 266 then row (a_number ∷ a_number ∷ []) (λ a. ReadQueue a.0 a.1.0) body
-    else if which == 267 then row (a_number ∷ []) (λ a. CloseQueue a.0) body
-    else Err BadOp
+unfolding readings
+op_of which body = read_by readings which body
 
 -- version, operation, context
 abbrev pub head_fields : Field (ℕ × (ℕ × ℕ))

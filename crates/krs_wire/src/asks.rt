@@ -42,7 +42,7 @@ macro_rules! readings {
 }
 
 /// What a body says for an operation's number.
-#[tactic(auto, unfolding(crate::specs::Frame::op_of))]
+#[tactic(auto, unfolding(crate::specs::Frame::op_of), using(crate::proofs::RowLemmas::row_gives))]
 fn op_at(alloc: Global, which: u16, body: &[u8]) -> Result<Op, WireFault>
     ensures { GivesRead (λ op. op) result (op_of which body.now) }
 {
