@@ -1,18 +1,13 @@
 -- Where the rule lets a process come into a session, the law does.
-use Rattle.std.proofs.Common.{refl, ◌≡◌, ◌≢◌, ◌⊎◌, ℕ, Bool, true, false, ◌||◌, ◌&&◌, ◌==◌, not, inl, inr}
-use Rattle.std.proofs.Common.{nat_lt, arith, cond, subst, sym, ◌∙◌}
-use Rattle.std.proofs.lemmas.Bool.{eqb-true, eq-eqb}
-use Rattle.krs_admission.specs.declared.facts.Ids.{Ids}
-use Rattle.krs_admission.specs.declared.facts.Process.{Process}
-use Rattle.krs_admission.specs.declared.facts.Session.{Session}
+use Rattle.std.proofs.Common.{◌&&◌, ◌==◌, ◌||◌, ◌∙◌, ◌≡◌, ◌≢◌, ◌⊎◌, arith, Bool, cond, eq-eqb, eqb-true, false, inl}
+use Rattle.std.proofs.Common.{inr, nat_lt, not, refl, subst, sym, true, ℕ}
+use Rattle.krs_admission.specs.Law.{ComesLawfully, Is, IsLawful, IsOpen, IsShared, MayHave}
+use Rattle.krs_admission.specs.Rule.{are_all, has_tag_of, is_of, is_one, is_open, is_shared, is_tag, is_told}
+use Rattle.krs_admission.specs.Rule.{knows_again, may_be_given, may_enter, may_have, no_uid, number_of, place_above}
+use Rattle.krs_admission.specs.Rule.{place_of, place_tagged}
+use Rattle.krs_admission.specs.declared.admitting.Place.{Place, TheVariants.{Above, Held, Lost, Tagged, UserSession}}
 use Rattle.krs_admission.specs.declared.facts.Arrival.{Arrival}
-use Rattle.krs_admission.specs.declared.giving.Parent.{Parent}
-use Rattle.krs_admission.specs.declared.admitting.Place.{Place}
-use Rattle.krs_admission.specs.declared.admitting.Place.TheVariants.{Lost, UserSession, Held, Tagged, Above}
-use Rattle.krs_admission.specs.Rule.{no_uid, is_told, are_all, is_one, is_open, is_shared, is_of, may_have, may_enter}
-use Rattle.krs_admission.specs.Rule.{is_tag, has_tag_of, place_above, place_tagged, place_of, number_of}
-use Rattle.krs_admission.specs.Rule.{knows_again, may_be_given}
-use Rattle.krs_admission.specs.Law.{Is, MayHave, IsOpen, IsShared, IsLawful, ComesLawfully}
+use Rattle.krs_admission.specs.declared.{facts.{Ids.Ids, Process.Process, Session.Session}, giving.Parent.Parent}
 
 or_true : (a b : Bool) → (a || b) ≡ true → (a ≡ true) ⊎ (b ≡ true)
 or_true true b e = inl refl

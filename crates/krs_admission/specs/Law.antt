@@ -1,12 +1,9 @@
 -- A process comes into no session but one that was begun as its own real uid; and only while all four of its uids are
 -- that one and its program isn't set-uid to another.
-use Rattle.std.specs.Prelude.{◌≡◌, ◌≢◌, ◌⊎◌, ℕ, true, false}
-use Rattle.krs_admission.specs.declared.facts.Process.{Process}
-use Rattle.krs_admission.specs.declared.facts.Session.{Session}
-use Rattle.krs_admission.specs.declared.facts.Arrival.{Arrival}
-use Rattle.krs_admission.specs.declared.admitting.Place.{Place}
-use Rattle.krs_admission.specs.declared.admitting.Place.TheVariants.{Lost, UserSession, Held, Tagged, Above}
+use Rattle.std.specs.Prelude.{◌≡◌, ◌≢◌, ◌⊎◌, false, true, ℕ}
 use Rattle.krs_admission.specs.Rule.{no_uid, number_of}
+use Rattle.krs_admission.specs.declared.admitting.Place.{Place, TheVariants.{Above, Held, Lost, Tagged, UserSession}}
+use Rattle.krs_admission.specs.declared.facts.{Arrival.Arrival, Process.Process, Session.Session}
 
 -- all four of its uids are this one, which is one user's; and its program isn't set-uid to another
 pub record Is (p : Process) (uid : ℕ) : Type 0 where

@@ -1,12 +1,8 @@
 -- Which session a process comes into, as it is computed.
-use Rattle.std.specs.Prelude.{ℕ, Bool, not, ◌==◌, ◌&&◌, ◌||◌, nat_lt, nat_le, if◌then◌else◌}
-use Rattle.krs_admission.specs.declared.facts.Ids.{Ids}
-use Rattle.krs_admission.specs.declared.facts.Process.{Process}
-use Rattle.krs_admission.specs.declared.facts.Session.{Session}
+use Rattle.std.specs.Prelude.{◌&&◌, ◌==◌, ◌||◌, Bool, if◌then◌else◌, nat_le, nat_lt, not, ℕ}
+use Rattle.krs_admission.specs.declared.admitting.Place.{Place, TheVariants.{Above, Held, Lost, Tagged, UserSession}}
 use Rattle.krs_admission.specs.declared.facts.Arrival.{Arrival}
-use Rattle.krs_admission.specs.declared.giving.Parent.{Parent}
-use Rattle.krs_admission.specs.declared.admitting.Place.{Place}
-use Rattle.krs_admission.specs.declared.admitting.Place.TheVariants.{Lost, UserSession, Held, Tagged, Above}
+use Rattle.krs_admission.specs.declared.{facts.{Ids.Ids, Process.Process, Session.Session}, giving.Parent.Parent}
 
 -- stands for no uid; and so many uids there are
 abbrev pub no_uid : ℕ

@@ -1,7 +1,6 @@
-ghost use Rattle.std.specs.Prelude.{◌≡◌, ◌&&◌, true};
-ghost use Rattle.krs_admission.specs.Rule.{may_have, may_enter, is_tag, has_tag_of, knows_again};
-ghost use Rattle.krs_admission.specs.Rule.{place_above, place_tagged, place_of, number_of};
-ghost use Rattle.krs_admission.specs.Law.{IsLawful, MayHave, IsShared};
+ghost use Rattle.std.specs.Prelude.{◌&&◌, ◌≡◌, true};
+ghost use Rattle.krs_admission.specs.{Law.{IsLawful, IsShared, MayHave}, Rule.{has_tag_of, is_tag, knows_again}};
+ghost use Rattle.krs_admission.specs.Rule.{may_enter, may_have, number_of, place_above, place_of, place_tagged};
 
 use crate::facts::{Arrival, Process, Session};
 use crate::whose::{is_of, is_one, is_shared};

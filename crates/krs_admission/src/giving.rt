@@ -1,6 +1,5 @@
 ghost use Rattle.std.specs.Prelude.{◌≡◌, true};
-ghost use Rattle.krs_admission.specs.Rule.{may_be_given};
-ghost use Rattle.krs_admission.specs.Law.{MayHave};
+ghost use Rattle.krs_admission.specs.{Law.MayHave, Rule.may_be_given};
 
 use crate::admitting::may_have;
 use crate::facts::{Ids, Process, Session};

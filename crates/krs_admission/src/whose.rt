@@ -1,5 +1,5 @@
-ghost use Rattle.std.specs.Prelude.{◌≡◌, ◌==◌, ◌&&◌, ◌||◌};
-ghost use Rattle.krs_admission.specs.Rule.{is_told, are_all, is_one, is_open, is_shared, is_of, asks_as};
+ghost use Rattle.std.specs.Prelude.{◌&&◌, ◌==◌, ◌||◌, ◌≡◌};
+ghost use Rattle.krs_admission.specs.Rule.{are_all, asks_as, is_of, is_one, is_open, is_shared, is_told};
 
 use crate::facts::{Ids, Process, Session};
 

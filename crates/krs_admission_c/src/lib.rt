@@ -1,9 +1,9 @@
 //! krs_admission for C: `clients/c/krs_admission.h` declares it. No call requires anything of its arguments.
 #![tactic(auto)]
 
-ghost use Rattle.std.specs.Prelude.{◌≡◌, ◌==◌, true};
-ghost use Rattle.krs_admission.specs.Rule.{place_of, number_of, knows_again, may_enter, may_be_given, asks_as};
-ghost use Rattle.krs_admission.specs.Law.{ComesLawfully, MayHave, IsShared};
+ghost use Rattle.std.specs.Prelude.{◌==◌, ◌≡◌, true};
+ghost use Rattle.krs_admission.specs.Law.{ComesLawfully, IsShared, MayHave};
+ghost use Rattle.krs_admission.specs.Rule.{asks_as, knows_again, may_be_given, may_enter, number_of, place_of};
 
 use krs_admission::{Arrival, Ids, Parent, Process, Session};
 

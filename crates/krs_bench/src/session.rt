@@ -1,4 +1,4 @@
-ghost use Rattle.std.specs.Prelude.{ℕ, List};
+ghost use Rattle.std.specs.Prelude.{List, ℕ};
 ghost use Rattle.krs_desk.specs.Sitting.{IsIdleAt};
 
 use crate::round::Turn;

@@ -1,14 +1,12 @@
 -- The commands of a client, a row each: keyretain(1), "Commands".
-use Rattle.std.specs.Prelude.{◌≡◌, ℕ, ℤ, pos, Bool, true, false, if◌then◌else◌, List, [], ◌∷◌, ◌++◌, find, map}
-use Rattle.std.specs.Prelude.{Option, None, Some, bytes_eq, codes}
-use Rattle.krs_types.specs.Caller.{unchanged}
-use Rattle.krs_types.specs.declared.ask.Op.{Op}
-use Rattle.krs_types.specs.declared.ask.Op.TheVariants as op
-use Rattle.krs_commands.specs.declared.command.Command.{Command}
-use Rattle.krs_commands.specs.declared.command.Command.TheVariants as command
+use Rattle.std.specs.Prelude.{[], ◌++◌, ◌∷◌, ◌≡◌, Bool, bytes_eq, codes, false, find, if◌then◌else◌, List, map, None}
+use Rattle.std.specs.Prelude.{Option, pos, Some, true, ℕ, ℤ}
+use Rattle.krs_types.specs.{Caller.unchanged, declared.ask.Op.Op}
+use Rattle.krs_words.specs.Number.{data_of, hexadecimal_of, key_of, u32_of, u32s_of, u64_of, watch_id_of}
 use Rattle.krs_words.specs.Parsed.{◌>>=◌}
-use Rattle.krs_words.specs.Number.{u32_of, u64_of, u32s_of, hexadecimal_of, key_of, data_of, watch_id_of}
-use Rattle.krs_commands.specs.Entry.{entries_of}
+use Rattle.krs_commands.specs.{Entry.entries_of, declared.command.Command.Command}
+use Rattle.krs_commands.specs.declared.command.Command.TheVariants as command
+use Rattle.krs_types.specs.declared.ask.Op.TheVariants as op
 
 -- `hello UID GID [GROUP ..]`
 abbrev pub hello_of : List (List ℕ) → Option Command

@@ -1,9 +1,7 @@
 -- The entries of a filter as words spell them: keyretain(1), "Commands".
-use Rattle.std.specs.Prelude.{ℕ, ◌==◌, List, [], ◌∷◌, Option, None, Some}
-use Rattle.std.specs.List.{slice_split}
+use Rattle.std.specs.{Prelude.{[], ◌==◌, ◌∷◌, List, None, Option, Some, ℕ}, List.slice_split}
 use Rattle.krs_types.specs.declared.note.FilterEntry.{FilterEntry}
-use Rattle.krs_words.specs.Parsed.{◌>>=◌, each_of}
-use Rattle.krs_words.specs.Number.{hexadecimal_of}
+use Rattle.krs_words.specs.{Number.hexadecimal_of, Parsed.{◌>>=◌, each_of}}
 
 -- type, info filter, info mask and subtype word 0, in hexadecimal; the other seven words are 0
 abbrev pub entry_in : List (List ℕ) → Option FilterEntry

@@ -1,7 +1,7 @@
-ghost use Rattle.std.specs.Prelude.{◌≡◌, map, bytes_eq};
-ghost use Rattle.krs_commands.specs.Command.{alone_of, command_behind, command_of, read_in};
-ghost use Rattle.krs_commands.specs.Command.{commands_from_keys, commands_from_changes, commands_from_links, queue_commands};
+ghost use Rattle.std.specs.Prelude.{◌≡◌, bytes_eq, map};
 ghost use Rattle.krs_words.specs.Parsed.{Reads};
+ghost use Rattle.krs_commands.specs.Command.{alone_of, command_behind, command_of, commands_from_changes};
+ghost use Rattle.krs_commands.specs.Command.{commands_from_keys, commands_from_links, queue_commands, read_in};
 
 use crate::{commands, contexts, keyrings, keys, queues};
 use krs_types::Op;

@@ -1,8 +1,8 @@
 //! Commands of contexts, and of the ids in them.
 
 ghost use Rattle.std.specs.Prelude.{map};
-ghost use Rattle.krs_commands.specs.Command.{hello_of, context_of, moment_of, create_of, id_of, join_of};
 ghost use Rattle.krs_words.specs.Parsed.{Reads};
+ghost use Rattle.krs_commands.specs.Command.{context_of, create_of, hello_of, id_of, join_of, moment_of};
 
 use crate::command::Command;
 use krs_types::{Blob, Caller, Op};

@@ -1,6 +1,6 @@
 ghost use Rattle.std.specs.Prelude.{◌≡◌, map};
-ghost use Rattle.krs_commands.specs.Entry.{entries_of, entry_in, entry_of};
 ghost use Rattle.krs_words.specs.Parsed.{Reads};
+ghost use Rattle.krs_commands.specs.Entry.{entries_of, entry_in, entry_of};
 
 use krs_types::{FilterEntries, FilterEntry};
 use krs_words::{NoCommand, hexadecimal_word, pieces};

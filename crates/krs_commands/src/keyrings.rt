@@ -1,9 +1,9 @@
 //! Commands of keyrings, and of searches in them.
 
 ghost use Rattle.std.specs.Prelude.{map};
-ghost use Rattle.krs_commands.specs.Command.{newring_of, clear_of, link_of, unlink_of, dest_of, search_of, request_of};
-ghost use Rattle.krs_commands.specs.Command.{flags_of, move_of, restrict_of};
 ghost use Rattle.krs_words.specs.Parsed.{Reads};
+ghost use Rattle.krs_commands.specs.Command.{clear_of, dest_of, flags_of, link_of, move_of, newring_of, request_of};
+ghost use Rattle.krs_commands.specs.Command.{restrict_of, search_of, unlink_of};
 
 use crate::command::Command;
 use krs_types::{Blob, MOVE_EXCL, Op, TypeName};

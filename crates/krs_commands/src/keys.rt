@@ -1,9 +1,9 @@
 //! Commands of one key.
 
 ghost use Rattle.std.specs.Prelude.{map};
-ghost use Rattle.krs_commands.specs.Command.{add_of, update_of, print_of, rlist_of, rdescribe_of, revoke_of};
-ghost use Rattle.krs_commands.specs.Command.{invalidate_of, chown_of, chgrp_of, setperm_of, timeout_of};
 ghost use Rattle.krs_words.specs.Parsed.{Reads};
+ghost use Rattle.krs_commands.specs.Command.{add_of, chgrp_of, chown_of, invalidate_of, print_of, rdescribe_of};
+ghost use Rattle.krs_commands.specs.Command.{revoke_of, rlist_of, setperm_of, timeout_of, update_of};
 
 use crate::command::Command;
 use krs_types::{Blob, Op, TypeName, UNCHANGED};

@@ -1,8 +1,8 @@
 //! Commands of queues.
 
 ghost use Rattle.std.specs.Prelude.{map};
-ghost use Rattle.krs_commands.specs.Command.{open_of, closeq_of, watch_of, filter_of, readq_of};
 ghost use Rattle.krs_words.specs.Parsed.{Reads};
+ghost use Rattle.krs_commands.specs.Command.{closeq_of, filter_of, open_of, readq_of, watch_of};
 
 use crate::command::Command;
 use crate::entry::entries_words;

@@ -1,8 +1,6 @@
 //! The first words of commands.
 
-ghost use Rattle.std.specs.Prelude.{◌≡◌, bytes_eq};
-ghost use Rattle.std.specs.List.{list_any};
-ghost use Rattle.std.specs.Option.{is_some};
+ghost use Rattle.std.specs.{Prelude.{◌≡◌, bytes_eq, is_some}, List.list_any};
 ghost use Rattle.krs_commands.specs.Command.{row_of};
 
 use crate::commands;

@@ -1,28 +1,17 @@
 -- What the ends of contexts owe the numbers of holders.
-use Rattle.std.proofs.Common.{◌≡◌, ℕ, ◌+◌, ◌++◌, List, [], Bool, true, false}
-use Rattle.std.proofs.Common.{cond, refl, ap, sym, ◌∙◌, subst, arith}
-use Rattle.std.proofs.Common.{Option, None, Some, Result, Ok}
-use Rattle.std.specs.Option.{option_to_list, unwrap_or}
-use Rattle.krs_types.specs.declared.context.Context.{Context}
-use Rattle.krs_types.specs.declared.context.UidRings.{UidRings}
-use Rattle.krs_types.specs.declared.errno.Errno.{Errno}
-use Rattle.krs_types.specs.declared.ask.Answer.{Answer}
-use Rattle.krs_types.specs.declared.ask.Answer.TheVariants.{Nothing}
-use Rattle.krs_types.specs.Refusing.{◌>>=◌}
-use Rattle.krs_model.specs.Table.{Table, at, without}
-use Rattle.krs_model.specs.State.{State, Key}
-use Rattle.krs_model.specs.Possession.{process_ring}
-use Rattle.krs_model.specs.Lookup.{context_of}
-use Rattle.krs_model.specs.Sweep.{roots, context_roots, process_roots, uid_roots}
-use Rattle.krs_model.specs.Asks.Leaving.{has_process, has_uid, exit, exited}
+use Rattle.std.proofs.Common.{[], ◌++◌, ◌+◌, ◌∙◌, ◌≡◌, ap, arith, Bool, cond, false, List, None, Ok, Option}
+use Rattle.std.proofs.Common.{option_to_list, refl, Result, Some, subst, sym, true, unwrap_or, ℕ}
+use Rattle.krs_types.specs.{Refusing.◌>>=◌, declared.ask.Answer.{Answer, TheVariants.Nothing}}
+use Rattle.krs_types.specs.declared.{context.{Context.Context, UidRings.UidRings}, errno.Errno.Errno}
+use Rattle.krs_model.specs.Asks.Leaving.{exit, exited, has_process, has_uid}
+use Rattle.krs_model.specs.{Lookup.context_of, Possession.process_ring, State.{Key, State}}
+use Rattle.krs_model.specs.{Sweep.{context_roots, process_roots, roots, uid_roots}, Table.{at, Table, without}}
 use Rattle.krs_model.proofs.Sound.Attached.{context_keys}
-use Rattle.krs_hold.specs.Tally.{times, IsTallied, all_less}
-use Rattle.krs_hold.proofs.Times.{times-append}
-use Rattle.krs_hold.proofs.Gathered.{gathered, given_by, times-without}
+use Rattle.krs_hold.specs.Tally.{all_less, IsTallied, times}
+use Rattle.krs_hold.proofs.{Gathered.{gathered, given_by, times-without}, Times.times-append}
 use Rattle.krs_tables.specs.Holding.{rings_of}
-use Rattle.krs_tables.proofs.OwedHolders.{less_then, then_less}
+use Rattle.krs_tables.proofs.{OwedHolders.{less_then, then_less}, Owners.own_there}
 use Rattle.krs_context_asks.proofs.EnteredHolders.{held_less, same_accepted}
-use Rattle.krs_tables.proofs.Owners.{own_there}
 
 -- an entry goes where a test fails
 cut_times :

@@ -1,42 +1,26 @@
 -- What further contexts, and EXEC, owe the numbers of holders.
-use Rattle.std.proofs.Common.{◌≡◌, ℕ, ◌+◌, ◌==◌, ◌&&◌, ◌||◌, ◌++◌, List, [], ◌∷◌, Bool, true, false, not, filter}
-use Rattle.std.proofs.Common.{cond, Option, None, Some, Result, Ok, Err, refl, ap, sym, ◌∙◌, subst}
-use Rattle.std.proofs.Common.{arith}
-use Rattle.std.specs.Option.{option_to_list, unwrap_or, IfSome}
-use Rattle.std.specs.Ordering.{nat_cmp}
+use Rattle.std.proofs.Common.{[], ◌&&◌, ◌++◌, ◌+◌, ◌==◌, ◌||◌, ◌∙◌, ◌∷◌, ◌≡◌, ap, arith, Bool, cond, Err, false, filter}
+use Rattle.std.proofs.Common.{IfSome, IsErrAnd, List, nat_cmp, None, not, Ok, Option, option_to_list, refl, Result}
+use Rattle.std.proofs.Common.{Some, subst, sym, true, unwrap_or, ℕ}
 use Rattle.std.specs.BTreeMap.{is_at}
-use Rattle.krs_types.specs.declared.errno.Errno.{Errno}
-use Rattle.std.specs.Result.{IsErrAnd}
-use Rattle.krs_types.specs.declared.fault.Fault.{Fault}
-use Rattle.krs_types.specs.declared.fault.Fault.TheVariants.{Memory, Refused}
-use Rattle.krs_model.specs.Outcome.{Outcome, Leads}
-use Rattle.krs_types.specs.declared.ask.Answer.{Answer}
-use Rattle.krs_types.specs.declared.ask.Answer.TheVariants.{Number, Nothing}
-use Rattle.krs_types.specs.declared.caller.Caller.{Caller}
-use Rattle.krs_types.specs.declared.context.Context.{Context}
-use Rattle.krs_types.specs.declared.context.UidRings.{UidRings}
-use Rattle.krs_types.specs.Refusing.{◌>>=◌}
-use Rattle.krs_model.specs.Table.{Table, at, put, alter}
-use Rattle.krs_model.specs.State.{State, Key}
-use Rattle.krs_model.specs.Levels.{is_in}
-use Rattle.krs_model.specs.Possession.{process_ring}
-use Rattle.krs_model.specs.Lookup.{context_of, user_session_ring}
-use Rattle.krs_model.specs.Sweep.{roots, context_roots, process_roots, uid_roots}
+use Rattle.krs_types.specs.{Refusing.◌>>=◌, declared.ask.Answer.{Answer, TheVariants.{Nothing, Number}}}
+use Rattle.krs_types.specs.declared.{caller.Caller.Caller, context.{Context.Context, UidRings.UidRings}}
+use Rattle.krs_types.specs.declared.{errno.Errno.Errno, fault.Fault.{Fault, TheVariants.{Memory, Refused}}}
+use Rattle.krs_model.specs.Asks.Entering.{exec, execed, fork, if_context_number, thread, without_thread}
 use Rattle.krs_model.specs.Asks.Hello.{has_context_left, with_context}
-use Rattle.krs_model.specs.Asks.Entering.{thread, fork, exec, if_context_number, without_thread, execed}
-use Rattle.krs_model.proofs.Reach.Levels.{in_right, same_is}
+use Rattle.krs_model.specs.{Levels.is_in, Lookup.{context_of, user_session_ring}, Outcome.{Leads, Outcome}}
+use Rattle.krs_model.specs.{Possession.process_ring, State.{Key, State}}
+use Rattle.krs_model.specs.{Sweep.{context_roots, process_roots, roots, uid_roots}, Table.{alter, at, put, Table}}
+use Rattle.krs_model.proofs.{Reach.Levels.{in_right, same_is}, Sound.Attached.{attached_at, context_keys, in_context}}
 use Rattle.krs_model.proofs.Tables.Changes.{alter_none, same_at}
-use Rattle.krs_model.proofs.Sound.Attached.{context_keys, attached_at, in_context}
-use Rattle.krs_hold.specs.Tally.{times, IsTallied, all_less}
-use Rattle.krs_hold.proofs.Times.{times-append}
-use Rattle.krs_hold.proofs.Gathered.{times-put, times-filter, times-alter}
-use Rattle.krs_hold.proofs.Tallies.{tallied_attached, tallied_let_go_all}
-use Rattle.krs_ctx.specs.Anchors.{Anchors}
-use Rattle.krs_ctx.specs.Told.{Enters, enterable, greeted, opened}
-use Rattle.krs_ctx.proofs.ToldLemmas.{threaded, forked}
+use Rattle.krs_ctx.specs.{Anchors.Anchors, Told.{enterable, Enters, greeted, opened}}
+use Rattle.krs_ctx.proofs.ToldLemmas.{forked, threaded}
+use Rattle.krs_hold.specs.Tally.{all_less, IsTallied, times}
+use Rattle.krs_hold.proofs.Gathered.{times-alter, times-filter, times-put}
+use Rattle.krs_hold.proofs.{Tallies.{tallied_attached, tallied_let_go_all}, Times.times-append}
 use Rattle.krs_tables.specs.Holding.{more_of}
+use Rattle.krs_tables.proofs.OwedHolders.{context_tallied, counted_of, less_then, more_tallied, session_attached}
 use Rattle.krs_tables.proofs.Owners.{own_there}
-use Rattle.krs_tables.proofs.OwedHolders.{counted_of, more_tallied, context_tallied, less_then, session_attached}
 
 -- a fault leaves the anchors as they were
 pub refused_stays :

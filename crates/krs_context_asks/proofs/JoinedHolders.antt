@@ -1,37 +1,24 @@
 -- What JOIN owes the definitions, and the numbers of holders.
-use Rattle.std.proofs.Common.{◌≡◌, ℕ, ◌+◌, ◌≤◌, ◌==◌, ◌&&◌, ◌++◌, List, [], ◌∷◌, Bool, true, false, cond, length}
-use Rattle.std.proofs.Common.{if◌then◌else◌, Option, None, Some, Ok, refl, ap, sym, ◌∙◌, subst, arith}
-use Rattle.std.specs.Prelude.{find, codes, nat_lt}
-use Rattle.std.specs.Option.{option_map, option_to_list, IsSome, IfSome}
-use Rattle.std.specs.Ordering.{nat_cmp}
+use Rattle.std.proofs.Common.{[], ◌&&◌, ◌++◌, ◌+◌, ◌==◌, ◌∙◌, ◌∷◌, ◌≡◌, ◌≤◌, ap, arith, Bool, codes, cond, false, find}
+use Rattle.std.proofs.Common.{IfSome, if◌then◌else◌, IsSome, length, List, nat_cmp, nat_lt, None, Ok, Option}
+use Rattle.std.proofs.Common.{option_map, option_to_list, refl, Some, subst, sym, true, ℕ}
 use Rattle.std.specs.BTreeMap.{is_at}
-use Rattle.std.proofs.lemmas.Option.{none-some, same_Some}
-use Rattle.std.proofs.lemmas.Bool.Decides.{nat_tests}
-use Rattle.krs_types.specs.declared.ask.Answer.TheVariants.{Number}
-use Rattle.krs_types.specs.declared.caller.Caller.{Caller}
-use Rattle.krs_types.specs.declared.context.Context.{Context}
-use Rattle.krs_model.specs.Table.{Table, at, put, alter}
-use Rattle.krs_model.specs.State as model
-use Rattle.krs_model.specs.State.{State}
-use Rattle.krs_model.specs.Sweep.{roots, context_roots, process_roots, uid_roots}
-use Rattle.krs_model.specs.Lookup.{context_of}
-use Rattle.krs_model.specs.Making.{with_new, within_serials}
-use Rattle.krs_model.specs.Asks.Joining.{join, joinable, session_named, session_joined, session_ring, session_to}
-use Rattle.krs_model.specs.Asks.Joining.{joined_to}
-use Rattle.krs_model.proofs.Tables.Changes.{is_at_same}
-use Rattle.krs_model.proofs.Sound.Attached.{context_keys}
-use Rattle.krs_keys.specs.declared.key.Key.{Key}
-use Rattle.krs_keys.specs.declared.key.Content.{Content}
-use Rattle.krs_keys.specs.Keys.{seen, shown, named_links_of_content, name_at, AreNamed, AreFit, AreOfKind, IsOfKind}
-use Rattle.krs_keys.proofs.LinkNames.{fit_put}
-use Rattle.krs_keys.proofs.KindsLemmas.{kinds_put}
-use Rattle.krs_hold.specs.Tally.{times, IsTallied, with_number, one_more, all_less}
+use Rattle.std.proofs.lemmas.{Bool.Decides.nat_tests, Option.{none-some, same_Some}}
+use Rattle.krs_types.specs.declared.{ask.Answer.TheVariants.Number, caller.Caller.Caller, context.Context.Context}
+use Rattle.krs_model.specs.Asks.Joining.{join, joinable, joined_to, session_joined, session_named, session_ring}
+use Rattle.krs_model.specs.{Asks.Joining.session_to, Lookup.context_of, Making.{with_new, within_serials}, State.State}
+use Rattle.krs_model.specs.{Sweep.{context_roots, process_roots, roots, uid_roots}, Table.{alter, at, put, Table}}
+use Rattle.krs_model.proofs.{Sound.Attached.context_keys, Tables.Changes.is_at_same}
+use Rattle.krs_keys.specs.Keys.{AreFit, AreNamed, AreOfKind, IsOfKind, name_at, named_links_of_content, seen, shown}
+use Rattle.krs_keys.specs.declared.key.{Content.Content, Key.Key}
+use Rattle.krs_keys.proofs.{KindsLemmas.kinds_put, LinkNames.fit_put}
+use Rattle.krs_hold.specs.Tally.{all_less, IsTallied, one_more, times, with_number}
+use Rattle.krs_hold.proofs.{Gathered.times-alter, KeyTallies.tallied_insert}
+use Rattle.krs_hold.proofs.Tallies.{some_with, tallied_attached, tallied_hold, tallied_let_go_all, tallied_with}
 use Rattle.krs_hold.proofs.Times.{times-append}
-use Rattle.krs_hold.proofs.Gathered.{times-alter}
-use Rattle.krs_hold.proofs.Tallies.{tallied_with, tallied_hold, tallied_attached, tallied_let_go_all, some_with}
-use Rattle.krs_hold.proofs.KeyTallies.{tallied_insert}
-use Rattle.krs_context_asks.specs.Joined.{joined_ring, session_key, joined_anew, session_in, IsEmptyRing}
 use Rattle.krs_tables.proofs.Owners.{own_there}
+use Rattle.krs_context_asks.specs.Joined.{IsEmptyRing, joined_anew, joined_ring, session_in, session_key}
+use Rattle.krs_model.specs.State as model
 
 there_later :
     {X : Type 0} (e : ℕ × X) (es : Table X) (o : Option ℕ) → IfSome o (λ k. IsSome (at es k))

@@ -1,29 +1,16 @@
 -- What LEAVE comes to in a store, one EXIT after the other.
-use Rattle.std.proofs.Common.{◌≡◌, ℕ, ◌==◌, ◌∙◌, ◌++◌, [], ◌∷◌, List, Bool, true, false, not, filter, refl, ap, sym, subst}
-use Rattle.std.proofs.Common.{◌<◌, length, if◌then◌else◌, Option, Some, Result, Ok, Err}
-use Rattle.krs_types.specs.declared.ask.Answer.{Answer}
-use Rattle.krs_types.specs.declared.ask.Answer.TheVariants.{Nothing}
-use Rattle.krs_types.specs.declared.context.Context.{Context}
-use Rattle.krs_types.specs.declared.context.UidRings.{UidRings}
-use Rattle.krs_types.specs.declared.errno.Errno.{Errno}
-use Rattle.krs_types.specs.declared.errno.Errno.TheVariants.{ESRCH}
-use Rattle.krs_types.specs.declared.fault.Fault.{Fault}
-use Rattle.krs_types.specs.declared.fault.Fault.TheVariants.{Memory, Refused}
-use Rattle.krs_types.specs.Refusing.{◌>>=◌, or_refuse}
-use Rattle.krs_model.specs.Table.{Table, at}
-use Rattle.krs_model.specs.State.{State, Key}
-use Rattle.krs_model.specs.Queues.{Queues, queues_of, with_queues}
-use Rattle.krs_model.specs.Asks.Watching.{without_client}
-use Rattle.krs_model.specs.Lookup.{context_of, if_own}
-use Rattle.krs_model.specs.Outcome.{Leads}
-use Rattle.krs_model.specs.Sweep.{context_roots, process_roots, uid_roots}
-use Rattle.krs_model.specs.Asks.Leaving.{contexts_without, exit, exited, left}
-use Rattle.krs_hold.specs.Tally.{IsTallied, all_less}
-use Rattle.krs_ctx.specs.Anchors.{Anchors, anchored, anchors_of}
-use Rattle.krs_ctx.specs.Members.{IsThereFailing}
-use Rattle.krs_ctx.specs.Told.{IsLeaving, ended_where, without_idle}
-use Rattle.krs_ctx.proofs.LeadsLemmas.{left_whole}
-use Rattle.krs_ctx.proofs.LeavingLemmas.{ended_fewer, leaving_none, leaving_one, left_idle}
+use Rattle.std.proofs.Common.{[], ◌++◌, ◌<◌, ◌==◌, ◌∙◌, ◌∷◌, ◌≡◌, ap, Bool, Err, false, filter, if◌then◌else◌, length}
+use Rattle.std.proofs.Common.{List, not, Ok, Option, refl, Result, Some, subst, sym, true, ℕ}
+use Rattle.krs_types.specs.{Refusing.{◌>>=◌, or_refuse}, declared.ask.Answer.{Answer, TheVariants.Nothing}}
+use Rattle.krs_types.specs.declared.{context.{Context.Context, UidRings.UidRings}, errno.Errno.Errno}
+use Rattle.krs_types.specs.declared.{errno.Errno.TheVariants.ESRCH, fault.Fault.{Fault, TheVariants.{Memory, Refused}}}
+use Rattle.krs_model.specs.Asks.{Leaving.{contexts_without, exit, exited, left}, Watching.without_client}
+use Rattle.krs_model.specs.{Lookup.{context_of, if_own}, Outcome.Leads, Queues.{Queues, queues_of, with_queues}}
+use Rattle.krs_model.specs.{State.{Key, State}, Sweep.{context_roots, process_roots, uid_roots}, Table.{at, Table}}
+use Rattle.krs_ctx.specs.Anchors.{anchored, Anchors, anchors_of}
+use Rattle.krs_ctx.specs.{Members.IsThereFailing, Told.{ended_where, IsLeaving, without_idle}}
+use Rattle.krs_ctx.proofs.{LeadsLemmas.left_whole, LeavingLemmas.{ended_fewer, leaving_none, leaving_one, left_idle}}
+use Rattle.krs_hold.specs.Tally.{all_less, IsTallied}
 use Rattle.krs_tables.proofs.OwedHolders.{left_tallied}
 use Rattle.krs_context_asks.proofs.EnteredHolders.{same_accepted}
 

@@ -1,17 +1,11 @@
 -- The session keyrings of JOIN.
-use Rattle.std.specs.Prelude.{◌≡◌, ◌==◌, ℕ, List, [], Option, None, Ok, true, false, length, codes, if◌then◌else◌}
-use Rattle.std.specs.Option.{option_map}
-use Rattle.krs_types.specs.declared.kind.Kind.TheVariants.{Keyring}
-use Rattle.krs_types.specs.declared.caller.Caller.{Caller}
-use Rattle.krs_types.specs.declared.ask.Answer.TheVariants.{Number}
+use Rattle.std.specs.Prelude.{[], ◌==◌, ◌≡◌, codes, false, if◌then◌else◌, length, List, None, Ok, Option, option_map}
+use Rattle.std.specs.Prelude.{true, ℕ}
 use Rattle.krs_types.specs.Perm.{named_session_mask, session_mask}
-use Rattle.krs_model.specs.Table.{at}
+use Rattle.krs_types.specs.declared.{ask.Answer.TheVariants.Number, caller.Caller.Caller, kind.Kind.TheVariants.Keyring}
+use Rattle.krs_model.specs.{Asks.Joining.joined_to, Making.{with_new, within_serials}, Outcome.Outcome, Table.at}
+use Rattle.krs_keys.specs.declared.key.{Content.TheVariants.Links, Key.Key}
 use Rattle.krs_model.specs.State as model
-use Rattle.krs_model.specs.Making.{with_new, within_serials}
-use Rattle.krs_model.specs.Outcome.{Outcome}
-use Rattle.krs_model.specs.Asks.Joining.{joined_to}
-use Rattle.krs_keys.specs.declared.key.Key.{Key}
-use Rattle.krs_keys.specs.declared.key.Content.TheVariants.{Links}
 
 -- an empty keyring that JOIN makes
 abbrev pub joined_ring : List ℕ → ℕ → Caller → Key

@@ -1,8 +1,6 @@
-ghost use Rattle.std.specs.Prelude.{◌≡◌, ◌≢◌, ◌==◌, ◌&&◌, not, filter, Err};
+ghost use Rattle.std.specs.Prelude.{◌&&◌, ◌==◌, ◌≡◌, ◌≢◌, Err, filter, not};
 ghost use Rattle.krs_types.specs.declared.fault.Fault.TheVariants.{Memory};
-ghost use Rattle.krs_model.specs.Outcome.{Leads};
-ghost use Rattle.krs_model.specs.Sweep.{context_roots};
-ghost use Rattle.krs_model.specs.Asks.Entering.{thread, fork, exec};
+ghost use Rattle.krs_model.specs.{Asks.Entering.{exec, fork, thread}, Outcome.Leads, Sweep.context_roots};
 ghost use Rattle.krs_hold.specs.Tally.{all_less};
 
 use krs_hold::Holders;

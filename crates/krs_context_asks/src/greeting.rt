@@ -1,9 +1,7 @@
-ghost use Rattle.std.specs.Prelude.{◌≡◌, ◌≤◌, Some, ◌∷◌, [], codes, length, None, Ok, IfOk, IsOk};
+ghost use Rattle.std.specs.Prelude.{[], ◌∷◌, ◌≡◌, ◌≤◌, codes, IfOk, IsOk, length, None, Ok, Some};
 ghost use Rattle.krs_types.specs.Caller.{caller_check};
-ghost use Rattle.krs_model.specs.Table.{at};
-ghost use Rattle.krs_model.specs.Outcome.{Leads};
-ghost use Rattle.krs_model.specs.Asks.Hello.{hello};
-ghost use Rattle.krs_tables.specs.Making.{uid_name, named_uid_key, uid_key};
+ghost use Rattle.krs_model.specs.{Asks.Hello.hello, Outcome.Leads, Table.at};
+ghost use Rattle.krs_tables.specs.Making.{named_uid_key, uid_key, uid_name};
 
 use krs_keys::{Content, Key};
 use krs_links::{HashedName, Links};

@@ -1,13 +1,10 @@
-ghost use Rattle.std.specs.Prelude.{◌≡◌, ◌≢◌, ◌≤◌, ◌<◌, ◌^◌, ◌-◌, length, Some, Ok, Err, IfOk, OnOk, IfSome, IsSome};
-ghost use Rattle.krs_types.specs.declared.fault.Fault.TheVariants.{Memory};
-ghost use Rattle.std.specs.Option.{option_map};
-ghost use Rattle.krs_model.specs.Table.{at};
-ghost use Rattle.krs_model.specs.Outcome.{Leads};
-ghost use Rattle.krs_types.specs.declared.ask.Answer.TheVariants.{Number};
-ghost use Rattle.krs_model.specs.Asks.Joining.{join, joinable, session_named, joined_to};
+ghost use Rattle.std.specs.Prelude.{◌-◌, ◌<◌, ◌^◌, ◌≡◌, ◌≢◌, ◌≤◌, Err, IfOk, IfSome, IsSome, length, Ok, OnOk};
+ghost use Rattle.std.specs.Prelude.{option_map, Some};
+ghost use Rattle.krs_types.specs.declared.{ask.Answer.TheVariants.Number, fault.Fault.TheVariants.Memory};
+ghost use Rattle.krs_model.specs.{Asks.Joining.{join, joinable, joined_to, session_named}, Outcome.Leads, Table.at};
 ghost use Rattle.krs_keys.specs.Keys.{seen};
 ghost use Rattle.krs_tables.specs.Holding.{holders_in};
-ghost use Rattle.krs_context_asks.specs.Joined.{joined_ring, session_key, joined_anew, session_in, IsEmptyRing};
+ghost use Rattle.krs_context_asks.specs.Joined.{IsEmptyRing, joined_anew, joined_ring, session_in, session_key};
 
 use krs_keys::{Content, Key};
 use krs_tables::{Tables, check_room, make_room};

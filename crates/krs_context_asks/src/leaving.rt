@@ -1,14 +1,10 @@
-ghost use Rattle.std.specs.Prelude.{◌≡◌, ◌≢◌, Err, ◌==◌, filter, not, [], cond};
+ghost use Rattle.std.specs.Prelude.{[], ◌==◌, ◌≡◌, ◌≢◌, cond, Err, filter, IfNone, IfSome, not, option_to_list};
 ghost use Rattle.krs_types.specs.declared.fault.Fault.TheVariants.{Memory};
-ghost use Rattle.std.specs.Option.{IfSome, IfNone, option_to_list};
-ghost use Rattle.krs_model.specs.Outcome.{Leads};
-ghost use Rattle.krs_tables.specs.Holding.{rings_of};
-ghost use Rattle.krs_model.specs.Sweep.{process_roots, uid_roots};
+ghost use Rattle.krs_model.specs.Asks.Leaving.{contexts_without, exit, has_process, has_uid, left};
+ghost use Rattle.krs_model.specs.{Outcome.Leads, Sweep.{process_roots, uid_roots}};
+ghost use Rattle.krs_ctx.specs.{Anchors.{anchored, anchors_of}, Members.IsThereFailing, Told.{IsLeaving, without_idle}};
 ghost use Rattle.krs_hold.specs.Tally.{all_less};
-ghost use Rattle.krs_model.specs.Asks.Leaving.{contexts_without, has_process, has_uid, left, exit};
-ghost use Rattle.krs_ctx.specs.Anchors.{anchored, anchors_of};
-ghost use Rattle.krs_ctx.specs.Members.{IsThereFailing};
-ghost use Rattle.krs_ctx.specs.Told.{IsLeaving, without_idle};
+ghost use Rattle.krs_tables.specs.Holding.{rings_of};
 
 use krs_ctx::Contexts;
 use krs_hold::Holders;

@@ -1,20 +1,12 @@
 -- Where words lead.
-use Rattle.std.proofs.Common.{◌≡◌, ◌↔◌, ◌≤◌, ◌<◌, ℕ, List, [], ◌∷◌, length, map, Bool, nat_eq, Bor, IsTrue}
-use Rattle.std.proofs.Common.{Result, inl, inr, rules, tests}
-use Rattle.std.proofs.Common.{arith, ap, refl, ◌∙◌, subst, sym}
-use Rattle.std.specs.Cmp.Lexicographic.{pointwise, same_text}
-use Rattle.std.specs.Prelude.{◌≢◌, IfOk, OnErr, Ok, Err, Some, codes}
-use Rattle.std.proofs.lemmas.Option.{none-some}
-use Rattle.krs_ctl.specs.declared.choice.Choice.{Choice}
-use Rattle.clap.specs.Words.{Kinds, HasKind, fault_of, kind_of, first_value}
-use Rattle.clap.specs.declared.parser.matches.Found.{Found}
-use Rattle.krs_types.specs.declared.caller.Caller.{Caller}
-use Rattle.clap.specs.declared.error.Error.{Error}
+use Rattle.std.proofs.Common.{[], ◌<◌, ◌↔◌, ◌∙◌, ◌∷◌, ◌≡◌, ◌≤◌, ap, arith, Bool, Bor, Err, IfOk, inl, inr, IsTrue}
+use Rattle.std.proofs.Common.{length, List, map, nat_eq, Ok, OnErr, refl, Result, rules, subst, sym, tests, ℕ}
+use Rattle.clap.specs.{Words.{fault_of, HasKind, kind_of, Kinds}, declared.error.Error.Error}
 use Rattle.clap.specs.declared.error.kind.ErrorKind.TheVariants.{DisplayHelp, DisplayVersion, OutOfMemory}
-use Rattle.krs_ctl.specs.declared.choice.Choice.TheVariants.{Script, Remote, Call, Usage, NoCommand, Memory, Shown, Refused}
+use Rattle.std.specs.Cmp.Lexicographic.{pointwise}
 use Rattle.krs_ctl.specs.Choice.{Tells}
-use Rattle.krs_ctl.specs.CommandLine.{LeadsTo, Spells, Chooses, Runs, Calls, CallsOver, Names}
-use Rattle.krs_ctl.specs.CommandLine.{IsScript, command_in, client}
+use Rattle.krs_ctl.specs.{CommandLine.{client, LeadsTo, Spells}, declared.choice.Choice.{Choice, TheVariants.Call}}
+use Rattle.krs_ctl.specs.declared.choice.Choice.TheVariants.{Memory, NoCommand, Refused, Remote, Script, Shown, Usage}
 
 -- what words lead to that were all had, or for which there was no memory
 pub leads_of_all : {V E : Type 0} (had : Result V E) (texts : V → List (List ℕ)) (all : List (List ℕ)) (choice : Choice)

@@ -1,10 +1,7 @@
 -- The bytes of a keyring's links, and how keys are listed.
-use Rattle.std.proofs.Common.{ℕ, ◌≡◌, ◌<◌, ◌^◌, ◌%◌, ◌==◌, ◌∙◌, List, [], ◌∷◌, length, Result, Ok, refl, ap, sym}
-use Rattle.std.proofs.Common.{true, ◌*◌, arith, length-append}
-use Rattle.std.specs.Int.{w32, to_le_bytes}
-use Rattle.std.specs.List.{AllByRecursion}
-use Rattle.std.proofs.lemmas.Nat.{from_le_bytes-to_le_bytes_4}
-use Rattle.std.proofs.Math.Nat.{mul-mod_right}
+use Rattle.std.proofs.Common.{[], ◌%◌, ◌<◌, ◌==◌, ◌^◌, ◌∙◌, ◌∷◌, ◌≡◌, ap, length, List, Ok, refl, Result, sym, true, ℕ}
+use Rattle.std.specs.{Int.to_le_bytes, List.AllByRecursion}
+use Rattle.std.proofs.{Math.Nat.mul-mod_right, lemmas.Nat.from_le_bytes-to_le_bytes_4}
 use Rattle.krs_types.specs.declared.errno.Errno.{Errno}
 use Rattle.krs_model.specs.Asks.Reading.{serial_bytes}
 use Rattle.krs_store.proofs.Listing.{length-serial_bytes}

@@ -1,13 +1,11 @@
 -- What the program does, by its words: keyretain(1), "DESCRIPTION".
-use Rattle.std.specs.Prelude.{ℕ, ◌≡◌, ◌≢◌, ◌⊎◌, ⊤, List, codes}
+use Rattle.std.specs.Prelude.{⊤, ◌≡◌, ◌≢◌, ◌⊎◌, codes, List, ℕ}
+use Rattle.clap.specs.declared.error.kind.ErrorKind.{ErrorKind, TheVariants.{DisplayHelp, DisplayVersion, OutOfMemory}}
+use Rattle.krs_ctl.specs.declared.choice.Choice.{Choice, TheVariants.Call}
+use Rattle.krs_ctl.specs.declared.choice.Choice.TheVariants.{Memory, NoCommand, Refused, Remote, Script, Shown, Usage}
+use Rattle.krs_ctl.specs.declared.choice.Misuse.{Misuse, TheVariants.{CallerOfScript, NoSocket, NotText, NoWords}}
 use Rattle.std.specs.declared.io.ErrorKind as io
 use Rattle.std.specs.declared.io.ErrorKind.TheVariants as io_kind
-use Rattle.clap.specs.declared.error.kind.ErrorKind.{ErrorKind}
-use Rattle.clap.specs.declared.error.kind.ErrorKind.TheVariants.{DisplayHelp, DisplayVersion, OutOfMemory}
-use Rattle.krs_ctl.specs.declared.choice.Choice.{Choice}
-use Rattle.krs_ctl.specs.declared.choice.Misuse.{Misuse}
-use Rattle.krs_ctl.specs.declared.choice.Misuse.TheVariants.{NoWords, NoSocket, CallerOfScript, NotText}
-use Rattle.krs_ctl.specs.declared.choice.Choice.TheVariants.{Script, Remote, Call, Usage, NoCommand, Memory, Shown, Refused}
 
 -- what is told for a kind of error of the reader of options: help and version are shown, all others refused; memory may
 -- run out for any

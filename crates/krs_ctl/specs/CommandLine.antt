@@ -1,22 +1,19 @@
 -- Which choice the words of the client make: keyretain(1), "SYNOPSIS" and "DESCRIPTION". `matches_of` says what `clap`
 -- finds in words for a command line.
-use Rattle.std.specs.Prelude.{◌≡◌, ◌≢◌, ◌⊎◌, ◌<◌, ◌^◌, ⊤, ℕ, List, [], ◌∷◌, Option, Some, None, unwrap_or}
-use Rattle.std.specs.Prelude.{codes, string_bytes, pos, true, option_map}
-use Rattle.std.specs.Str.Parse.{IsNumeral, digits_value, without_leading_plus}
-use Rattle.clap.specs.Words.{App, Rule, found_of, rows_of, matches_of, new_app, new_rule, with_rule}
-use Rattle.clap.specs.Words.{first_value, one_text, raw_values, matched_of, IsAmong, fault_of}
-use Rattle.clap.specs.declared.error.kind.ErrorKind.{ErrorKind}
-use Rattle.clap.specs.declared.error.kind.ErrorKind.TheVariants.{DisplayHelp, DisplayVersion}
-use Rattle.clap.specs.Lexer.{usize_max}
-use Rattle.clap.specs.declared.parser.matches.Found.{Found}
-use Rattle.clap.specs.declared.parser.matches.ArgMatches.{ArgMatches}
+use Rattle.std.specs.Prelude.{[], ⊤, ◌<◌, ◌^◌, ◌∷◌, ◌≡◌, ◌≢◌, ◌⊎◌, codes, List, None, Option, option_map, pos, Some}
+use Rattle.std.specs.Prelude.{string_bytes, true, unwrap_or, ℕ}
+use Rattle.clap.specs.{Lexer.usize_max, Words.{App, fault_of, first_value, found_of, IsAmong, matched_of, matches_of}}
+use Rattle.clap.specs.Words.{new_app, new_rule, one_text, raw_values, rows_of, Rule, with_rule}
 use Rattle.clap.specs.declared.builder.action.ArgAction.TheVariants.{Append}
-use Rattle.clap.specs.declared.builder.value_parser.ValueParser.TheVariants as parser
+use Rattle.clap.specs.declared.error.kind.ErrorKind.{ErrorKind, TheVariants.{DisplayHelp, DisplayVersion}}
+use Rattle.clap.specs.declared.parser.matches.{ArgMatches.ArgMatches, Found.Found}
+use Rattle.std.specs.Str.Parse.{digits_value, IsNumeral, without_leading_plus}
 use Rattle.krs_types.specs.declared.caller.Caller.{Caller}
 use Rattle.krs_remote.specs.Call.{call_of}
-use Rattle.krs_ctl.specs.declared.choice.Choice.{Choice}
-use Rattle.krs_ctl.specs.declared.choice.Misuse.TheVariants.{NoWords, NoSocket, CallerOfScript}
-use Rattle.krs_ctl.specs.declared.choice.Choice.TheVariants.{Script, Remote, Call, Usage, NoCommand, Memory, Shown, Refused}
+use Rattle.krs_ctl.specs.declared.choice.Choice.{Choice, TheVariants.Call}
+use Rattle.krs_ctl.specs.declared.choice.Choice.TheVariants.{Memory, NoCommand, Refused, Remote, Script, Shown, Usage}
+use Rattle.krs_ctl.specs.declared.choice.Misuse.TheVariants.{CallerOfScript, NoSocket, NoWords}
+use Rattle.clap.specs.declared.builder.value_parser.ValueParser.TheVariants as parser
 
 -- `--socket PATH`; `--uid N` and `--gid N`, of 32 bits; and all words from the command on, whatever they begin with
 abbrev pub option_rule : List ℕ → Rule

@@ -1,10 +1,7 @@
 -- What `rlist` shows of the keys of a store: keyretain(1), "Commands"; profile, hidden describe.
-use Rattle.std.specs.Prelude.{ℕ, ◌≡◌, ◌≢◌, ◌<◌, ◌^◌, List, Ok}
-use Rattle.std.specs.List.{AllByRecursion}
-use Rattle.krs_types.specs.declared.ask.Answer.TheVariants.{Bytes}
-use Rattle.krs_types.specs.declared.kind.Kind.TheVariants.{Keyring}
-use Rattle.krs_model.specs.State.{Key, Links}
-use Rattle.krs_model.specs.Asks.Reading.{readable, description}
+use Rattle.std.specs.{Prelude.{◌<◌, ◌^◌, ◌≡◌, ◌≢◌, List, Ok, ℕ}, List.AllByRecursion}
+use Rattle.krs_types.specs.declared.{ask.Answer.TheVariants.Bytes, kind.Kind.TheVariants.Keyring}
+use Rattle.krs_model.specs.{Asks.Reading.{description, readable}, State.{Key, Links}}
 use Rattle.krs_words.specs.Printing.{shown, shown_bytes, shown_serials}
 use Rattle.krs_script.specs.Listing.{listing}
 

@@ -1,17 +1,13 @@
 -- What the program does: keyretain(1), "DESCRIPTION" and "EXIT STATUS".
-use Rattle.std.specs.Prelude.{ℕ, ◌≡◌, ◌⊎◌, List, Option, codes, string_bytes}
+use Rattle.std.specs.Prelude.{◌≡◌, ◌⊎◌, codes, List, Option, string_bytes, ℕ}
 use Rattle.krs_model.specs.State.{starting_at}
 use Rattle.krs_words.specs.Saying.{Heard, Says as Tells}
 use Rattle.krs_script.specs.Ending.{Says}
-use Rattle.krs_remote.specs.Remote.{EndsRemote}
-use Rattle.krs_remote.specs.Call.{EndsCall}
+use Rattle.krs_remote.specs.{Call.EndsCall, Remote.EndsRemote}
+use Rattle.krs_ctl.specs.{Choice.misuse_text, Running.EndsScript, Telling.{TellsCall, TellsOver, TellsScript}}
 use Rattle.krs_ctl.specs.declared.choice.Call.{Call as CallIs}
-use Rattle.krs_ctl.specs.declared.choice.Choice.{Choice}
-use Rattle.krs_ctl.specs.declared.choice.Choice.TheVariants.{Script, Remote, Call, Usage, NoCommand, Memory, Shown, Refused}
-use Rattle.krs_ctl.specs.declared.script.ScriptEnd.{ScriptEnd}
-use Rattle.krs_ctl.specs.Running.{EndsScript}
-use Rattle.krs_ctl.specs.Choice.{misuse_text}
-use Rattle.krs_ctl.specs.Telling.{TellsCall, TellsScript, TellsOver}
+use Rattle.krs_ctl.specs.declared.choice.Choice.{Choice, TheVariants.{Call, Memory, NoCommand, Refused, Remote, Script}}
+use Rattle.krs_ctl.specs.declared.{choice.Choice.TheVariants.{Shown, Usage}, script.ScriptEnd.ScriptEnd}
 
 -- there is no connection, or no memory to make one
 abbrev pub SaysUnconnected : Option (List ℕ) → Option (List ℕ) → ℕ → Type 0

@@ -1,24 +1,13 @@
 -- What a script does to its store and what it prints: keyretain(1), "Lines", "Commands" and "EXIT STATUS".
-use Rattle.std.specs.Prelude.{ℕ, ℤ, ◌≡◌, ◌||◌, List, false, Option, Result, Ok, Err}
-use Rattle.std.specs.Result.{is_err}
-use Rattle.krs_types.specs.declared.errno.Errno.{Errno}
-use Rattle.krs_types.specs.declared.ask.Op.{Op}
+use Rattle.std.specs.Prelude.{◌||◌, ◌≡◌, Err, false, is_err, List, Ok, Option, Result, ℕ, ℤ}
+use Rattle.krs_types.specs.declared.ask.Answer.{Answer, TheVariants.{Bytes, Nothing, Number}}
+use Rattle.krs_types.specs.declared.{ask.Op.Op, errno.Errno.Errno}
+use Rattle.krs_model.specs.{History.event_of, State.State, Step.Step}
+use Rattle.krs_words.specs.declared.{output.Output.{Output, TheVariants.Reply}, stop.Stop.Stop}
+use Rattle.krs_commands.specs.declared.command.Command.{Command, TheVariants.{Ask, Context, Moment, Readq, Rlist}}
+use Rattle.krs_script.specs.{Ending.context_after, Listing.{listing, records_of}, Running.Ends}
+use Rattle.krs_ctl.specs.declared.script.{Script.Script, ScriptEnd.ScriptEnd}
 use Rattle.krs_types.specs.declared.ask.Op.TheVariants as op
-use Rattle.krs_types.specs.declared.ask.Answer.{Answer}
-use Rattle.krs_types.specs.declared.ask.Answer.TheVariants.{Nothing, Number, Bytes}
-use Rattle.krs_model.specs.State.{State}
-use Rattle.krs_model.specs.Step.{Step}
-use Rattle.krs_model.specs.History.{event_of}
-use Rattle.krs_commands.specs.declared.command.Command.{Command}
-use Rattle.krs_commands.specs.declared.command.Command.TheVariants.{Context, Moment, Ask, Rlist, Readq}
-use Rattle.krs_words.specs.declared.output.Output.{Output}
-use Rattle.krs_words.specs.declared.output.Output.TheVariants.{Reply}
-use Rattle.krs_words.specs.declared.stop.Stop.{Stop}
-use Rattle.krs_script.specs.Ending.{context_after}
-use Rattle.krs_script.specs.Listing.{listing, records_of}
-use Rattle.krs_script.specs.Running.{Ends}
-use Rattle.krs_ctl.specs.declared.script.Script.{Script}
-use Rattle.krs_ctl.specs.declared.script.ScriptEnd.{ScriptEnd}
 
 -- the store served the ask, in the current context, at the current moment, as client 0
 abbrev pub StoreServes : Script → Op → Result Answer Errno → State → Type 0

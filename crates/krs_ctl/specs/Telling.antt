@@ -1,12 +1,9 @@
 -- What is told on standard error of a script or a call that stopped: keyretain(1), "EXIT STATUS".
-use Rattle.std.specs.Prelude.{ℕ, ◌≡◌, ◌≢◌, ◌⊎◌, ◌++◌, List, codes, string_bytes, Result, Ok, Err, IfErr}
-use Rattle.krs_words.specs.declared.stop.Stop.{Stop}
-use Rattle.krs_words.specs.declared.stop.Stop.TheVariants.{Usage}
-use Rattle.krs_words.specs.Saying.{Heard, Says}
+use Rattle.std.specs.Prelude.{◌++◌, ◌≡◌, ◌≢◌, ◌⊎◌, codes, Err, IfErr, List, Ok, Result, string_bytes, ℕ}
+use Rattle.krs_words.specs.{Saying.{Heard, Says}, declared.stop.Stop.{Stop, TheVariants.Usage}}
 use Rattle.krs_script.specs.Telling.{quoted, stop_text}
 use Rattle.krs_ctl.specs.declared.choice.Call.{Call}
-use Rattle.krs_ctl.specs.declared.connecting.Failure.{Failure}
-use Rattle.krs_ctl.specs.declared.connecting.Failure.TheVariants.{Unconnected, NoPlace, Failed}
+use Rattle.krs_ctl.specs.declared.connecting.Failure.{Failure, TheVariants.{Failed, NoPlace, Unconnected}}
 
 -- the line that tells something of a path
 abbrev pub path_text : (path what : List ℕ) → List ℕ

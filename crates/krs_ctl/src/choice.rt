@@ -1,11 +1,9 @@
-ghost use Rattle.std.specs.Prelude.{◌≡◌, ◌↔◌, [], ◌∷◌, IfOk, IfErr, IsTrue, OnErr, map, codes, false, string_bytes};
-ghost use Rattle.std.specs.IoError.{error_kind};
-ghost use Rattle.std.specs.Vec.Iter.{into_iter_items};
-ghost use Rattle.clap.specs.Words.{FailsBy, kind_of, fault_of, found_of, app_of, rule_of};
+ghost use Rattle.std.specs.Prelude.{[], ◌↔◌, ◌∷◌, ◌≡◌, codes, false, IfErr, IfOk, IsTrue, map, OnErr, string_bytes};
+ghost use Rattle.clap.specs.Words.{app_of, FailsBy, fault_of, found_of, kind_of, rule_of};
+ghost use Rattle.std.specs.{IoError.error_kind, Vec.Iter.into_iter_items};
+ghost use Rattle.krs_ctl.specs.{Choice.{IsUnread, Tells}, CommandLine.{CallsOver, Chooses, client, command_in}};
+ghost use Rattle.krs_ctl.specs.CommandLine.{LeadsTo, named, Names, number_rule, option_rule, Runs, Spells, words_rule};
 ghost use Rattle.krs_ctl.specs.declared.choice.Choice.TheVariants.{Memory};
-ghost use Rattle.krs_ctl.specs.Choice.{IsUnread, Tells};
-ghost use Rattle.krs_ctl.specs.CommandLine.{CallsOver, Chooses, LeadsTo, Names, Runs, Spells, client};
-ghost use Rattle.krs_ctl.specs.CommandLine.{command_in, named, number_rule, option_rule, words_rule};
 
 use clap::error::ErrorKind;
 use clap::{Arg, ArgAction, ArgMatches, Command, Error, value_parser};

@@ -1,12 +1,11 @@
 //! What is done over a connection, which is made first.
 
-ghost use Rattle.std.specs.Prelude.{◌≡◌, ◌≢◌, IfOk, codes, string_bytes};
-ghost use Rattle.std.specs.IoError.{error_kind};
-ghost use Rattle.std.specs.declared.io.ErrorKind.TheVariants.{OutOfMemory};
+ghost use Rattle.std.specs.Prelude.{◌≡◌, ◌≢◌, codes, IfOk, string_bytes};
+ghost use Rattle.std.specs.{IoError.error_kind, declared.io.ErrorKind.TheVariants.OutOfMemory};
 ghost use Rattle.krs_words.specs.Saying.{heard, Says};
 ghost use Rattle.krs_script.specs.Ending.{Says as Prints};
 ghost use Rattle.krs_ctl.specs.Program.{CallsAt, RunsAt, SaysUnconnected};
-ghost use Rattle.krs_ctl.specs.Telling.{TellsCall, TellsEnd, TellsFailure, TellsOf, TellsOver, path_text};
+ghost use Rattle.krs_ctl.specs.Telling.{path_text, TellsCall, TellsEnd, TellsFailure, TellsOf, TellsOver};
 
 use crate::advice::of_refused;
 use crate::choice::Call;

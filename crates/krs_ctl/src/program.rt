@@ -1,12 +1,9 @@
-ghost use Rattle.std.specs.Prelude.{◌≡◌, IfOk, IfErr, map, codes, string_bytes};
-ghost use Rattle.std.specs.IoError.{error_kind};
-ghost use Rattle.std.specs.Vec.Iter.{into_iter_items};
+ghost use Rattle.std.specs.Prelude.{◌≡◌, codes, IfErr, IfOk, map, string_bytes};
+ghost use Rattle.std.specs.{IoError.error_kind, Vec.Iter.into_iter_items};
 ghost use Rattle.krs_words.specs.Saying.{heard, Says as Tells};
 ghost use Rattle.krs_script.specs.Ending.{Says};
-ghost use Rattle.krs_ctl.specs.declared.choice.Choice.{Choice as ChoiceIs};
 ghost use Rattle.krs_ctl.specs.Choice.{IsUnread, misuse_text};
-ghost use Rattle.krs_ctl.specs.CommandLine.{LeadsTo};
-ghost use Rattle.krs_ctl.specs.Program.{Answers};
+ghost use Rattle.krs_ctl.specs.{CommandLine.LeadsTo, Program.Answers, declared.choice.Choice.Choice as ChoiceIs};
 
 use crate::choice::{Choice, Misuse, choose};
 use crate::connecting::{call_at, script_at};

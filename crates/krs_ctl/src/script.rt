@@ -74,8 +74,7 @@ struct Script {
 }
 
 impl Carries for Script {
-    ghost use Rattle.krs_ctl.specs.declared.script.Script.{Script as ScriptIs};
-    ghost use Rattle.krs_ctl.specs.Running.{Acts, NeverBreaks};
+    ghost use Rattle.krs_ctl.specs.{Running.{Acts, NeverBreaks}, declared.script.Script.Script as ScriptIs};
 
     ghost State = { ScriptIs };
 

@@ -1,13 +1,10 @@
 -- What holds of each entry of a table, after a change of the table.
-use Rattle.std.proofs.Common.{◌≡◌, ℕ, ◌<◌, [], ◌∷◌, List, Some, None, Bool, true, false, cond, filter, map, refl, ap}
-use Rattle.std.proofs.Common.{◌∙◌, sym, subst}
-use Rattle.std.proofs.lemmas.Option.{none-some, same_Some}
-use Rattle.std.proofs.Math.Nat.{lt_of_not-le}
-use Rattle.std.specs.Cmp.{ranked}
-use Rattle.std.specs.Ordering.{match_ordering, nat_cmp}
-use Rattle.std.specs.declared.cmp.Ordering.TheVariants.{Less, Equal, Greater}
+use Rattle.std.proofs.Common.{[], ◌<◌, ◌∙◌, ◌∷◌, ◌≡◌, ap, Bool, cond, false, filter, List, map, nat_cmp, None, refl}
+use Rattle.std.proofs.Common.{Some, subst, sym, true, ℕ}
 use Rattle.std.specs.BTreeMap.{is_at}
-use Rattle.krs_model.specs.Table.{Table, at, put, without, alter, map_values, IsBelow}
+use Rattle.std.specs.{Cmp.ranked, Ordering.match_ordering, declared.cmp.Ordering.TheVariants.{Equal, Greater, Less}}
+use Rattle.std.proofs.{Math.Nat.lt_of_not-le, lemmas.Option.{none-some, same_Some}}
+use Rattle.krs_model.specs.Table.{alter, at, IsBelow, map_values, put, Table, without}
 use Rattle.krs_model.proofs.Tables.Changes.{is_at_same, same_at}
 use Rattle.krs_ctx.specs.Anchors.{Each}
 

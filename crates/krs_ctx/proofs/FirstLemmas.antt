@@ -1,11 +1,8 @@
 -- What is at a number is among the values.
-use Rattle.std.proofs.Common.{◌≡◌, ℕ, ◌||◌, [], ◌∷◌, Some, Bool, true, false, cond, ap, ◌∙◌}
-use Rattle.std.specs.List.{list_any}
-use Rattle.std.specs.Map.{values_of}
-use Rattle.std.specs.BTreeMap.{is_at}
-use Rattle.std.specs.Ordering.{nat_cmp}
+use Rattle.std.proofs.Common.{[], ◌||◌, ◌∙◌, ◌∷◌, ◌≡◌, ap, Bool, cond, false, nat_cmp, Some, true, ℕ}
+use Rattle.std.specs.{BTreeMap.is_at, List.list_any, Map.values_of}
 use Rattle.std.proofs.lemmas.Option.{none-some, same_Some}
-use Rattle.krs_model.specs.Table.{Table, at}
+use Rattle.krs_model.specs.Table.{at, Table}
 use Rattle.krs_model.proofs.Reach.Levels.{or_true}
 
 -- what is at a number and passes a test is among the values that pass it

@@ -1,25 +1,18 @@
 -- What is true of all anchors stays so.
-use Rattle.std.proofs.Common.{◌≡◌, ℕ, ◌+◌, ◌<◌, ◌≤◌, ◌==◌, [], ◌∷◌, Option, Some, None, Bool, true, false, cond}
-use Rattle.std.proofs.Common.{filter, if◌then◌else◌, arith, refl, ap, ◌∙◌, sym, subst, ⊎_elim}
-use Rattle.std.specs.Option.{IsSome, option_map}
-use Rattle.std.proofs.lemmas.Option.{none-some}
-use Rattle.std.proofs.lemmas.Bool.{true≢false}
-use Rattle.std.proofs.Math.Nat.{lt_of_not-le}
-use Rattle.std.proofs.lemmas.Bool.Decides.{nat_tests}
-use Rattle.std.specs.Cmp.{unsigned_tied}
-use Rattle.std.specs.Ordering.{nat_cmp}
-use Rattle.std.specs.BTreeMap.{is_at}
+use Rattle.std.proofs.Common.{[], ⊎_elim, ◌+◌, ◌<◌, ◌==◌, ◌∙◌, ◌∷◌, ◌≡◌, ◌≤◌, ap, arith, Bool, cond, false, filter}
+use Rattle.std.proofs.Common.{if◌then◌else◌, IsSome, nat_cmp, None, Option, option_map, refl, Some, subst, sym, true}
+use Rattle.std.proofs.Common.{true≢false, ℕ}
+use Rattle.std.specs.{BTreeMap.is_at, Cmp.unsigned_tied}
+use Rattle.std.proofs.{Math.Nat.lt_of_not-le, lemmas.{Bool.Decides.nat_tests, Option.none-some}}
 use Rattle.krs_types.specs.declared.context.Context.{Context}
-use Rattle.krs_model.specs.Table.{Table, at, put, without, alter, map_values, IsBelow}
-use Rattle.krs_model.specs.Asks.Leaving.{has_process}
-use Rattle.krs_model.proofs.Reach.Levels.{or_true, same_is}
-use Rattle.krs_model.proofs.Tables.Changes.{at_map, at_put_same, at_put_other, at_alter_same, at_alter_other, at_alter_none}
-use Rattle.krs_model.proofs.Tables.Changes.{at_or_apart, at_without_none, at_without_other, at_kept, below_put, below_filter}
+use Rattle.krs_model.specs.{Asks.Leaving.has_process, Table.{alter, at, IsBelow, map_values, put, Table, without}}
+use Rattle.krs_model.proofs.{Reach.Levels.{or_true, same_is}, Sound.Changes.there_map, Tables.Changes.at_alter_none}
+use Rattle.krs_model.proofs.Tables.Changes.{at_alter_other, at_alter_same, at_kept, at_map, at_or_apart, at_put_other}
+use Rattle.krs_model.proofs.Tables.Changes.{at_put_same, at_without_none, at_without_other, below_filter, below_put}
 use Rattle.krs_ctx.specs.Anchors.{Anchors, Each, IsEntered, IsFit}
-use Rattle.krs_model.proofs.Sound.Changes.{there_map}
-use Rattle.krs_ctx.proofs.EachLemmas.{each_on, each_both, each_filter, each_put, each_without, each_alter, each_at}
-use Rattle.krs_ctx.proofs.EachLemmas.{each_below}
-use Rattle.krs_ctx.proofs.OwnerLemmas.{owners_put, owners_own, owners_filter, owners_without, owners_alter, owners_map}
+use Rattle.krs_ctx.proofs.EachLemmas.{each_alter, each_at, each_below, each_both, each_filter, each_on, each_put}
+use Rattle.krs_ctx.proofs.EachLemmas.{each_without}
+use Rattle.krs_ctx.proofs.OwnerLemmas.{owners_alter, owners_filter, owners_map, owners_own, owners_put, owners_without}
 
 -- a table whose numbers are below one is below the next
 below_more : {X : Type 0} (es : Table X) (n : ℕ) → IsBelow es n → IsBelow es (n + 1)

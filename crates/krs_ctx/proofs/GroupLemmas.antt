@@ -1,35 +1,21 @@
 -- What the contexts of a group come to, from what is listed.
-use Rattle.std.proofs.Common.{◌≡◌, ◌≢◌, ℕ, ◌+◌, List, [], ◌∷◌, Option, Some, None, Bool, true, false, cond}
-use Rattle.std.proofs.Common.{filter, map, length, ◌==◌, ◌&&◌, ◌||◌, not, nat_eq, refl, ap, ◌∙◌, sym, subst, arith}
-use Rattle.std.proofs.Common.{true≢false}
-use Rattle.std.proofs.lemmas.Bool.{eqb-true}
-use Rattle.std.proofs.lemmas.Option.{none-some, same_Some, IfSome_then}
-use Rattle.std.proofs.lemmas.Map.{lookup-none}
-use Rattle.std.proofs.lemmas.Map.Entries.{none_past_head, lookup-filter-values, option_filter}
-use Rattle.std.proofs.lemmas.Map.Keys.{sorted_tail, IsDistinct-from_sorted}
-use Rattle.std.proofs.lemmas.Map.Made.{length-from_same_keys}
-use Rattle.std.proofs.lemmas.List.Kept.{IsStrictlySortedBy-filter}
-use Rattle.std.proofs.lemmas.List.Sums.{sum_by-cons}
-use Rattle.std.proofs.lemmas.Cmp.{then_total, on_total}
-use Rattle.std.specs.Cmp.{nat_cmp_total, eq_by_cmp_equiv, unsigned_tied, nat_cmp_is, IsTotalOrder}
-use Rattle.std.specs.List.{list_any, count_by, AllByRecursion}
-use Rattle.std.specs.List.Sorted.{IsStrictlySortedBy}
-use Rattle.std.specs.Map.{keys_of, values_of}
-use Rattle.std.specs.Option.{option_map, is_some, IfSome, IfNone}
-use Rattle.std.specs.Ordering.{nat_cmp, ordering_then}
-use Rattle.std.specs.declared.cmp.Ordering.TheVariants.{Less, Equal}
-use Rattle.std.specs.BTreeMap.{is_at}
+use Rattle.std.proofs.Common.{[], ◌&&◌, ◌+◌, ◌==◌, ◌||◌, ◌∙◌, ◌∷◌, ◌≡◌, ◌≢◌, ap, arith, Bool, cond, count_by, eqb-true}
+use Rattle.std.proofs.Common.{false, filter, IfNone, IfSome, is_some, length, List, map, nat_cmp, nat_eq, None, not}
+use Rattle.std.proofs.Common.{Option, option_map, refl, Some, subst, sym, true, true≢false, ℕ}
+use Rattle.std.specs.{BTreeMap.is_at, Cmp.{eq_by_cmp_equiv, IsTotalOrder, nat_cmp_is, nat_cmp_total, unsigned_tied}}
+use Rattle.std.specs.List.{AllByRecursion, list_any, Sorted.IsStrictlySortedBy}
+use Rattle.std.specs.{Map.{keys_of, values_of}, Ordering.ordering_then, declared.cmp.Ordering.TheVariants.{Equal, Less}}
+use Rattle.std.proofs.lemmas.{Cmp.{on_total, then_total}, List.{Kept.IsStrictlySortedBy-filter, Sums.sum_by-cons}}
+use Rattle.std.proofs.lemmas.Map.{lookup-none, Entries.{lookup-filter-values, none_past_head, option_filter}}
+use Rattle.std.proofs.lemmas.Map.Keys.{IsDistinct-from_sorted, sorted_tail}
+use Rattle.std.proofs.lemmas.{Map.Made.length-from_same_keys, Option.{IfSome_then, none-some, same_Some}}
 use Rattle.krs_types.specs.declared.context.Context.{Context}
-use Rattle.krs_model.specs.Queues.{place_cmp}
-use Rattle.krs_model.specs.Table.{Table, at, without, Rises}
+use Rattle.krs_model.specs.{Queues.place_cmp, Table.{at, Rises, Table, without}}
 use Rattle.krs_model.proofs.Reach.Levels.{or_true, same_is}
-use Rattle.krs_model.proofs.Tables.Changes.{is_at_same, same_at}
-use Rattle.krs_model.proofs.Tables.Rising.{filter_rises}
-use Rattle.krs_ctx.specs.Anchors.{Each}
+use Rattle.krs_model.proofs.Tables.{Changes.{is_at_same, same_at}, Rising.filter_rises}
+use Rattle.krs_ctx.specs.{Anchors.Each, Members.{AreMembers, is_group, IsThereFailing, lists, pairs_of}}
 use Rattle.krs_ctx.specs.declared.members.Members.{Members}
-use Rattle.krs_ctx.specs.Members.{lists, pairs_of, is_group, AreMembers, IsThereFailing}
-use Rattle.krs_ctx.proofs.FirstLemmas.{any_at}
-use Rattle.krs_ctx.proofs.MembersLemmas.{tied, any_pairs}
+use Rattle.krs_ctx.proofs.{FirstLemmas.any_at, MembersLemmas.{any_pairs, tied}}
 
 -- ---- tables in which numbers rise
 -- the first number stands nowhere after

@@ -1,26 +1,16 @@
 -- HELLO of a store, from what its contexts answer: for whoever makes the keyrings of a uid.
-use Rattle.std.proofs.Common.{◌∙◌, ◌≡◌, ℕ, ◌+◌, ◌<◌, ◌≤◌, ◌||◌, ◌&&◌, if◌then◌else◌, nat_lt, nat_le, is_none, true}
-use Rattle.std.proofs.Common.{false, Bool, Option, Some, None, Result, Ok, Err, IsOk, refl, ap, sym, arith}
-use Rattle.std.specs.Result.{IsErrAnd}
+use Rattle.std.proofs.Common.{◌&&◌, ◌+◌, ◌<◌, ◌||◌, ◌∙◌, ◌≡◌, ◌≤◌, ap, arith, Bool, Err, false, if◌then◌else◌, is_none}
+use Rattle.std.proofs.Common.{IsErrAnd, IsOk, nat_le, nat_lt, None, Ok, Option, refl, Result, Some, sym, true, ℕ}
 use Rattle.std.proofs.lemmas.Bool.Decides.{nat_tests}
-use Rattle.krs_types.specs.declared.errno.Errno.{Errno}
-use Rattle.krs_types.specs.declared.errno.Errno.TheVariants.{EINVAL, ENOSPC}
-use Rattle.krs_types.specs.declared.fault.Fault.{Fault}
-use Rattle.krs_types.specs.declared.fault.Fault.TheVariants.{Memory, Refused}
-use Rattle.krs_types.specs.declared.ask.Answer.{Answer}
-use Rattle.krs_types.specs.declared.ask.Answer.TheVariants.{Number}
-use Rattle.krs_types.specs.declared.caller.Caller.{Caller}
-use Rattle.krs_types.specs.declared.context.UidRings.{UidRings}
 use Rattle.krs_types.specs.Caller.{caller_check}
-use Rattle.krs_types.specs.Refusing.{◌>>=◌}
-use Rattle.krs_model.specs.Table.{at}
-use Rattle.krs_model.specs.State.{State, starting_at}
-use Rattle.krs_model.specs.Outcome.{Leads}
-use Rattle.krs_model.specs.Asks.Hello.{hello, context_count, has_context_left, first_session, with_context, with_uid}
+use Rattle.krs_types.specs.{Refusing.◌>>=◌, declared.{ask.Answer.{Answer, TheVariants.Number}, caller.Caller.Caller}}
+use Rattle.krs_types.specs.declared.{context.UidRings.UidRings, errno.Errno.{Errno, TheVariants.{EINVAL, ENOSPC}}}
+use Rattle.krs_types.specs.declared.fault.Fault.{Fault, TheVariants.{Memory, Refused}}
 use Rattle.krs_model.specs.Asks.Entering.{if_context_number}
-use Rattle.krs_ctx.specs.Anchors.{Anchors, anchored}
-use Rattle.krs_ctx.specs.Told.{Enters, Opens, opened, enterable, greeted}
-use Rattle.krs_ctx.proofs.LeadsLemmas.{leads_refused, leads_memory}
+use Rattle.krs_model.specs.Asks.Hello.{context_count, first_session, has_context_left, hello, with_context, with_uid}
+use Rattle.krs_model.specs.{Outcome.Leads, State.{starting_at, State}, Table.at}
+use Rattle.krs_ctx.specs.{Anchors.{anchored, Anchors}, Told.{enterable, Enters, greeted, opened, Opens}}
+use Rattle.krs_ctx.proofs.LeadsLemmas.{leads_memory, leads_refused}
 
 chained : (a b : Result (Unit {0}) Errno) (x : State × Answer)
     → (a >>= (λ room. b >>= (λ left. Ok x))) ≡ ((a >>= (λ room. b)) >>= (λ room. Ok x))

@@ -1,16 +1,9 @@
 -- From what contexts answer to what an ask of a store comes to: for the store's own asks.
-use Rattle.std.proofs.Common.{◌≡◌, ℕ}
-use Rattle.std.proofs.Common.{Result, Ok, Err, IsOk, refl, sym, subst}
-use Rattle.std.specs.Result.{IsErrAnd}
-use Rattle.krs_types.specs.declared.errno.Errno.{Errno}
-use Rattle.krs_types.specs.declared.fault.Fault.{Fault}
-use Rattle.krs_types.specs.declared.fault.Fault.TheVariants.{Memory, Refused}
+use Rattle.std.proofs.Common.{◌≡◌, Err, IsErrAnd, IsOk, Ok, refl, Result, subst, sym, ℕ}
 use Rattle.krs_types.specs.declared.ask.Answer.{Answer}
-use Rattle.krs_model.specs.State.{State}
-use Rattle.krs_model.specs.Outcome.{Outcome, Leads}
-use Rattle.krs_model.specs.Queues.{queues_without}
-use Rattle.krs_model.specs.Asks.Leaving.{left}
-use Rattle.krs_ctx.specs.Anchors.{Anchors, anchored, anchors_of}
+use Rattle.krs_types.specs.declared.{errno.Errno.Errno, fault.Fault.{Fault, TheVariants.{Memory, Refused}}}
+use Rattle.krs_model.specs.{Asks.Leaving.left, Outcome.{Leads, Outcome}, Queues.queues_without, State.State}
+use Rattle.krs_ctx.specs.Anchors.{anchored, Anchors, anchors_of}
 
 pub leads_refused : (s : State) (old new : Anchors) (r : Result Answer Fault) (e : Errno) (meant : State → Outcome)
     → IsErrAnd r (λ f. f ≡ Refused e) → ((q : State) → meant (anchored q old) ≡ Err e) → new ≡ old

@@ -1,25 +1,14 @@
 -- LEAVE, one context after the other.
-use Rattle.std.proofs.Common.{◌≡◌, ℕ, ◌==◌, ◌||◌, [], ◌∷◌, Option, Some, None, Bool, true, false, cond, not, filter}
-use Rattle.std.proofs.Common.{if◌then◌else◌, ◌<◌, suc, length, arith, Ok, refl, ap, ◌∙◌, sym, subst}
+use Rattle.std.proofs.Common.{[], ◌<◌, ◌==◌, ◌||◌, ◌∙◌, ◌∷◌, ◌≡◌, ap, arith, Bool, cond, false, filter, if◌then◌else◌}
+use Rattle.std.proofs.Common.{length, nat_cmp, None, not, Ok, Option, refl, Some, subst, suc, sym, true, true≢false, ℕ}
+use Rattle.std.specs.{BTreeMap.is_at, List.list_any, Map.values_of}
 use Rattle.std.proofs.lemmas.Option.{none-some}
-use Rattle.std.specs.Ordering.{nat_cmp}
-use Rattle.std.specs.BTreeMap.{is_at}
-use Rattle.std.proofs.lemmas.Bool.{true≢false}
-use Rattle.std.specs.List.{list_any}
-use Rattle.std.specs.Map.{values_of}
-use Rattle.krs_types.specs.declared.context.Context.{Context}
-use Rattle.krs_types.specs.declared.context.UidRings.{UidRings}
-use Rattle.krs_types.specs.declared.ask.Answer.TheVariants.{Nothing}
-use Rattle.krs_model.specs.Table.{Table, at, without}
-use Rattle.krs_model.specs.State.{State}
-use Rattle.krs_model.specs.Lookup.{context_of}
-use Rattle.krs_model.specs.Asks.Leaving.{contexts_without, has_process, has_uid, exit, left}
-use Rattle.krs_ctx.specs.Anchors.{Anchors, IsWhole, anchored, anchors_of}
-use Rattle.krs_ctx.specs.Members.{IsThereFailing}
-use Rattle.krs_ctx.specs.Told.{IsLeaving, ended_where, without_idle}
-use Rattle.krs_ctx.proofs.GroupLemmas.{all_kept, ends_one, filter_without}
-use Rattle.krs_ctx.proofs.ToldLemmas.{without_none}
-use Rattle.krs_ctx.proofs.WholeLemmas.{has}
+use Rattle.krs_types.specs.declared.{ask.Answer.TheVariants.Nothing, context.{Context.Context, UidRings.UidRings}}
+use Rattle.krs_model.specs.Asks.Leaving.{contexts_without, exit, has_process, has_uid, left}
+use Rattle.krs_model.specs.{Lookup.context_of, State.State, Table.{at, Table, without}}
+use Rattle.krs_ctx.specs.Anchors.{anchored, Anchors, anchors_of, IsWhole}
+use Rattle.krs_ctx.specs.{Members.IsThereFailing, Told.{ended_where, IsLeaving, without_idle}}
+use Rattle.krs_ctx.proofs.{GroupLemmas.{all_kept, ends_one, filter_without}, ToldLemmas.without_none, WholeLemmas.has}
 
 abbrev anchors : Table Context → Table (Option ℕ) → Table UidRings → ℕ → Anchors
 anchors es ps us n = record { contexts = es; processes = ps; uids = us; next_context = n }

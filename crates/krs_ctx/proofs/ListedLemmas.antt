@@ -1,12 +1,9 @@
 -- What is listed after a context more, a context less and a change of contexts.
-use Rattle.std.proofs.Common.{◌≡◌, ℕ, Some, None, Result, Ok, Err, false, ap, sym, subst, true≢false}
-use Rattle.std.specs.Result.{OnOk, is_err}
+use Rattle.std.proofs.Common.{◌≡◌, ap, Err, false, is_err, None, Ok, OnOk, Result, Some, subst, sym, true≢false, ℕ}
 use Rattle.krs_types.specs.declared.context.Context.{Context}
-use Rattle.krs_model.specs.Table.{Table, at, put, without, alter, map_values}
-use Rattle.krs_ctx.specs.declared.listed.Groups.{Groups}
-use Rattle.krs_ctx.specs.declared.listed.Listed.{Listed}
-use Rattle.krs_ctx.specs.Members.{groups_of, Adds, Removes, AreListed}
-use Rattle.krs_ctx.proofs.MembersLemmas.{added, removed, altered, mapped}
+use Rattle.krs_model.specs.Table.{alter, at, map_values, put, Table, without}
+use Rattle.krs_ctx.specs.{Members.{Adds, AreListed, groups_of, Removes}, declared.listed.{Groups.Groups, Listed.Listed}}
+use Rattle.krs_ctx.proofs.MembersLemmas.{added, altered, mapped, removed}
 
 -- what holds of what was accepted, where it was
 pub accepted : {X E P : Type 0} (r : Result X E) → is_err r ≡ false → OnOk r P → P

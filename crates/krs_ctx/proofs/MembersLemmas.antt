@@ -1,27 +1,17 @@
 -- What is listed under a group, and what after a change of the table.
-use Rattle.std.proofs.Common.{◌≡◌, ℕ, ◌+◌, ◌<◌, ◌≤◌, List, [], ◌∷◌, Option, Some, None, Bool, true, false, cond, filter}
-use Rattle.std.proofs.Common.{Bor, suc, length}
-use Rattle.std.specs.Iterator.{Yields}
-use Rattle.std.specs.Map.Iter.{TakesFirst, deref}
-use Rattle.std.proofs.Common.{◌==◌, ◌&&◌, ◌||◌, not, nat_eq, refl, ap, ◌∙◌, sym, subst, arith, true≢false}
-use Rattle.std.proofs.lemmas.Bool.{eqb-true}
+use Rattle.std.proofs.Common.{[], ◌&&◌, ◌+◌, ◌<◌, ◌==◌, ◌||◌, ◌∙◌, ◌∷◌, ◌≡◌, ◌≤◌, ap, arith, Bool, Bor, cond, eqb-true}
+use Rattle.std.proofs.Common.{false, filter, is_eq, is_le, length, List, nat_cmp, nat_eq, None, not, Option, option_map}
+use Rattle.std.proofs.Common.{refl, Some, subst, suc, sym, true, true≢false, ℕ}
+use Rattle.std.specs.{BTreeMap.{is_at, Range.range_contains}, Cmp.{nat_cmp_is, ranked, unsigned_tied}, Iterator.Yields}
+use Rattle.std.specs.{List.{AllByRecursion, list_any}, Map.Iter.{deref, TakesFirst}, Ordering.ordering_then}
+use Rattle.std.specs.declared.cmp.Ordering.{Ordering, TheVariants.{Equal, Greater, Less}}
+use Rattle.std.specs.declared.ops.Bound.TheVariants.{Excluded, Included}
 use Rattle.std.proofs.lemmas.Bool.Decides.{nat_tests}
-use Rattle.std.specs.Cmp.{unsigned_tied, nat_cmp_is, ranked}
-use Rattle.std.specs.List.{list_any, AllByRecursion}
-use Rattle.std.specs.Option.{option_map}
-use Rattle.std.specs.Ordering.{nat_cmp, ordering_then, is_eq, is_le}
-use Rattle.std.specs.declared.cmp.Ordering.{Ordering}
-use Rattle.std.specs.declared.cmp.Ordering.TheVariants.{Less, Equal, Greater}
-use Rattle.std.specs.declared.ops.Bound.TheVariants.{Included, Excluded}
-use Rattle.std.specs.BTreeMap.{is_at}
-use Rattle.std.specs.BTreeMap.Range.{range_contains}
 use Rattle.krs_types.specs.declared.context.Context.{Context}
-use Rattle.krs_model.specs.Queues.{place_cmp}
-use Rattle.krs_model.specs.Table.{Table, at, put, without, alter, map_values}
-use Rattle.krs_model.proofs.Tables.Changes.{at_put_same, at_put_other, at_without_other, at_map}
-use Rattle.krs_model.proofs.Tables.Distinct.{at_alter}
+use Rattle.krs_model.specs.{Queues.place_cmp, Table.{alter, at, map_values, put, Table, without}}
+use Rattle.krs_model.proofs.Tables.{Changes.{at_map, at_put_other, at_put_same, at_without_other}, Distinct.at_alter}
+use Rattle.krs_ctx.specs.Members.{Adds, AreMembers, is_group, lists, pairs_of, Removes}
 use Rattle.krs_ctx.specs.declared.members.Members.{Members}
-use Rattle.krs_ctx.specs.Members.{lists, pairs_of, Adds, Removes, is_group, AreMembers}
 
 -- ---- two pairs
 then_tied : (o p : Ordering) → is_eq (ordering_then o p) ≡ (is_eq o && is_eq p)

@@ -1,12 +1,11 @@
 -- The contexts of a process stay those of one uid.
-use Rattle.std.proofs.Common.{◌≡◌, ℕ, ◌<◌, ◌≤◌, ◌==◌, [], ◌∷◌, Option, Some, Bool, false, cond, filter, arith}
-use Rattle.std.proofs.Common.{ap, ◌∙◌, sym, subst}
-use Rattle.std.proofs.lemmas.Bool.Decides.{nat_tests}
+use Rattle.std.proofs.Common.{[], ◌<◌, ◌==◌, ◌∙◌, ◌∷◌, ◌≡◌, ◌≤◌, ap, arith, Bool, cond, false, filter, Option, Some}
+use Rattle.std.proofs.{Common.{subst, sym, ℕ}, lemmas.Bool.Decides.nat_tests}
 use Rattle.krs_types.specs.declared.context.Context.{Context}
-use Rattle.krs_model.specs.Table.{Table, at, put, without, alter, map_values, IsBelow}
+use Rattle.krs_model.specs.Table.{alter, at, IsBelow, map_values, put, Table, without}
 use Rattle.krs_model.proofs.Reach.Levels.{same_is}
 use Rattle.krs_ctx.specs.Anchors.{Each, HasOwners, IsEntered}
-use Rattle.krs_ctx.proofs.EachLemmas.{each_both, each_filter, each_put, each_without, each_alter, each_at, each_below}
+use Rattle.krs_ctx.proofs.EachLemmas.{each_alter, each_at, each_below, each_both, each_filter, each_put, each_without}
 
 -- a context's uid is that of its process
 abbrev pub IsOwned : (ℕ → ℕ) → ℕ × Context → Type 0

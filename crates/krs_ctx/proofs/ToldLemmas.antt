@@ -1,28 +1,18 @@
 -- What the asks of contexts come to, once their refusals are known.
-use Rattle.std.proofs.Common.{◌≡◌, ℕ, ◌+◌, ◌≤◌, [], ◌∷◌, cond, arith, ◌==◌, ◌||◌, not, filter, true, false}
-use Rattle.std.proofs.Common.{if◌then◌else◌, Option, Some, None, ap, Result, Ok, Err, IsOk, refl, ◌∙◌, sym, subst}
-use Rattle.krs_types.specs.declared.errno.Errno.{Errno}
-use Rattle.std.specs.Result.{IsErrAnd}
-use Rattle.krs_types.specs.declared.fault.Fault.{Fault}
-use Rattle.krs_types.specs.declared.fault.Fault.TheVariants.{Memory, Refused}
-use Rattle.krs_types.specs.declared.ask.Answer.{Answer}
-use Rattle.krs_types.specs.declared.ask.Answer.TheVariants.{Number, Nothing}
-use Rattle.krs_types.specs.declared.caller.Caller.{Caller}
-use Rattle.krs_types.specs.declared.context.Context.{Context}
-use Rattle.krs_types.specs.declared.context.UidRings.{UidRings}
-use Rattle.krs_types.specs.Refusing.{◌>>=◌, or_refuse}
-use Rattle.krs_types.specs.declared.errno.Errno.TheVariants.{ESRCH}
-use Rattle.krs_model.specs.Table.{Table, at, put, without, alter}
-use Rattle.krs_model.specs.State.{State, starting_at}
-use Rattle.std.specs.Ordering.{nat_cmp}
+use Rattle.std.proofs.Common.{[], ◌+◌, ◌==◌, ◌||◌, ◌∙◌, ◌∷◌, ◌≡◌, ◌≤◌, ap, arith, cond, Err, false, filter}
+use Rattle.std.proofs.Common.{if◌then◌else◌, IsErrAnd, IsOk, nat_cmp, None, not, Ok, Option, refl, Result, Some, subst}
+use Rattle.std.proofs.Common.{sym, true, ℕ}
 use Rattle.std.specs.BTreeMap.{is_at}
+use Rattle.krs_types.specs.Refusing.{◌>>=◌, or_refuse}
+use Rattle.krs_types.specs.declared.{ask.Answer.{Answer, TheVariants.{Nothing, Number}}, caller.Caller.Caller}
+use Rattle.krs_types.specs.declared.{context.{Context.Context, UidRings.UidRings}, errno.Errno.Errno}
+use Rattle.krs_types.specs.declared.{errno.Errno.TheVariants.ESRCH, fault.Fault.{Fault, TheVariants.{Memory, Refused}}}
+use Rattle.krs_model.specs.Asks.Entering.{exec, fork, if_context_number, thread, without_thread}
+use Rattle.krs_model.specs.{Asks.Hello.{has_context_left, with_context}, Lookup.{context_of, if_own}, Outcome.Outcome}
+use Rattle.krs_model.specs.{State.{starting_at, State}, Table.{alter, at, put, Table, without}}
 use Rattle.krs_model.proofs.Tables.Changes.{without_put}
-use Rattle.krs_model.specs.Lookup.{context_of, if_own}
-use Rattle.krs_model.specs.Asks.Hello.{has_context_left, with_context}
-use Rattle.krs_model.specs.Asks.Entering.{thread, fork, exec, if_context_number, without_thread}
-use Rattle.krs_model.specs.Outcome.{Outcome}
-use Rattle.krs_ctx.specs.Anchors.{Anchors, IsFit, anchored}
-use Rattle.krs_ctx.specs.Told.{Enters, Opens, enterable, greeted, put_made, taken_back}
+use Rattle.krs_ctx.specs.Anchors.{anchored, Anchors, IsFit}
+use Rattle.krs_ctx.specs.Told.{enterable, Enters, greeted, Opens, put_made, taken_back}
 
 -- the context of THREAD, and of FORK
 abbrev pub threaded : State → Context → State × Answer

@@ -1,22 +1,16 @@
 -- Where no process and no uid is without a context, none is after a change.
-use Rattle.std.proofs.Common.{◌≡◌, ℕ, ◌≤◌, ◌==◌, ◌||◌, List, [], ◌∷◌, Option, Some, None, Bool, true, false, cond}
-use Rattle.std.proofs.Common.{not, filter, if◌then◌else◌, refl, ap, ◌∙◌, sym, subst, arith}
-use Rattle.std.proofs.lemmas.Bool.{true≢false, eqb-true}
+use Rattle.std.proofs.Common.{[], ◌==◌, ◌||◌, ◌∙◌, ◌∷◌, ◌≡◌, ◌≤◌, ap, arith, Bool, cond, eqb-true, false, filter}
+use Rattle.std.proofs.Common.{if◌then◌else◌, is_eq, List, nat_cmp, None, not, Option, option_map, refl, Some, subst}
+use Rattle.std.proofs.Common.{sym, true, true≢false, ℕ}
+use Rattle.std.specs.{BTreeMap.is_at, List.list_any, Map.values_of, Ordering.match_ordering}
+use Rattle.std.specs.declared.cmp.Ordering.TheVariants.{Equal, Greater, Less}
 use Rattle.std.proofs.lemmas.Option.{none-some, same_Some}
-use Rattle.std.specs.Option.{option_map}
-use Rattle.std.specs.List.{list_any}
-use Rattle.std.specs.Map.{values_of}
-use Rattle.std.specs.Ordering.{match_ordering, nat_cmp, is_eq}
-use Rattle.std.specs.declared.cmp.Ordering.TheVariants.{Less, Equal, Greater}
-use Rattle.std.specs.BTreeMap.{is_at}
-use Rattle.krs_types.specs.declared.context.Context.{Context}
-use Rattle.krs_types.specs.declared.context.UidRings.{UidRings}
-use Rattle.krs_model.specs.Table.{Table, at, put, without, alter, map_values}
-use Rattle.krs_model.specs.Asks.Leaving.{has_process, has_uid}
+use Rattle.krs_types.specs.declared.context.{Context.Context, UidRings.UidRings}
+use Rattle.krs_model.specs.{Asks.Leaving.{has_process, has_uid}, Table.{alter, at, map_values, put, Table, without}}
 use Rattle.krs_model.proofs.Reach.Levels.{or_true, same_is}
-use Rattle.krs_model.proofs.Tables.Changes.{is_at_same, same_at, at_put_same, at_alter_same}
+use Rattle.krs_model.proofs.Tables.Changes.{at_alter_same, at_put_same, is_at_same, same_at}
 use Rattle.krs_ctx.specs.Anchors.{Anchors, Each, IsFit, IsWhole}
-use Rattle.krs_ctx.proofs.EachLemmas.{each_on, each_both, each_put, each_without, each_alter, each_at, later_none}
+use Rattle.krs_ctx.proofs.EachLemmas.{each_alter, each_at, each_both, each_on, each_put, each_without, later_none}
 use Rattle.krs_ctx.proofs.FirstLemmas.{any_at}
 
 -- ---- which values pass, after a change

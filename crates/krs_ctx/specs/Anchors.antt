@@ -1,10 +1,7 @@
 -- What anchors keys: contexts, processes and uids. keyrings(7), "Anchoring keys".
-use Rattle.std.specs.Prelude.{◌≡◌, ℕ, ◌≤◌, List, [], ◌∷◌, true, IsSome, Option}
-use Rattle.krs_types.specs.declared.context.Context.{Context}
-use Rattle.krs_types.specs.declared.context.UidRings.{UidRings}
-use Rattle.krs_model.specs.Table.{Table, at, IsBelow}
-use Rattle.krs_model.specs.State.{State}
-use Rattle.krs_model.specs.Asks.Leaving.{has_process, has_uid}
+use Rattle.std.specs.Prelude.{[], ◌∷◌, ◌≡◌, ◌≤◌, IsSome, List, Option, true, ℕ}
+use Rattle.krs_types.specs.declared.context.{Context.Context, UidRings.UidRings}
+use Rattle.krs_model.specs.{Asks.Leaving.{has_process, has_uid}, State.State, Table.{at, IsBelow, Table}}
 
 -- contexts, processes and uids by number, and the number that the next context gets
 pub record Anchors : Type 0 where

@@ -1,14 +1,9 @@
 -- Contexts by what they are of: a client, a process or a uid.
-use Rattle.std.specs.Prelude.{◌≡◌, ℕ, List, Bool, true, false, nat_eq, cond, ◌&&◌, ◌==◌, Option, None, Some, filter}
-use Rattle.std.specs.Option.{option_map}
-use Rattle.std.specs.List.{list_any}
-use Rattle.std.specs.BTreeMap.{is_at}
+use Rattle.std.specs.Prelude.{◌&&◌, ◌==◌, ◌≡◌, Bool, cond, false, filter, List, nat_eq, None, Option, option_map, Some}
+use Rattle.std.specs.{Prelude.{true, ℕ}, BTreeMap.is_at, List.list_any}
 use Rattle.krs_types.specs.declared.context.Context.{Context}
-use Rattle.krs_model.specs.Queues.{place_cmp}
-use Rattle.krs_model.specs.Table.{Table, at, put, without}
-use Rattle.krs_ctx.specs.declared.members.Members.{Members}
-use Rattle.krs_ctx.specs.declared.listed.Groups.{Groups}
-use Rattle.krs_ctx.specs.declared.listed.Listed.{Listed}
+use Rattle.krs_model.specs.{Queues.place_cmp, Table.{at, put, Table, without}}
+use Rattle.krs_ctx.specs.declared.{listed.{Groups.Groups, Listed.Listed}, members.Members.Members}
 
 -- the context of that number is listed under a group
 abbrev pub lists : Members → ℕ → ℕ → Bool

@@ -1,24 +1,14 @@
 -- How the asks of contexts are told, in every store with these anchors.
-use Rattle.std.specs.Prelude.{◌≡◌, ℕ, Option, None, Some, Result, Ok, Err, IsOk, IfOk, filter}
-use Rattle.std.specs.Prelude.{if◌then◌else◌}
+use Rattle.std.specs.Prelude.{◌≡◌, Err, filter, IfOk, if◌then◌else◌, IsOk, None, Ok, Option, Result, Some, ℕ}
 use Rattle.std.specs.Option.{option_or}
-use Rattle.krs_types.specs.declared.errno.Errno.{Errno}
-use Rattle.krs_types.specs.declared.fault.Fault.{Fault}
-use Rattle.krs_types.specs.declared.fault.Fault.TheVariants.{Memory, Refused}
-use Rattle.krs_types.specs.declared.ask.Answer.TheVariants.{Number, Nothing}
-use Rattle.krs_types.specs.declared.caller.Caller.{Caller}
-use Rattle.krs_types.specs.declared.context.Context.{Context}
-use Rattle.krs_types.specs.declared.context.UidRings.{UidRings}
-use Rattle.krs_types.specs.Refusing.{◌>>=◌}
-use Rattle.krs_model.specs.Table.{Table, at, put, without, alter, map_values}
-use Rattle.krs_model.specs.State.{State}
-use Rattle.krs_model.specs.Lookup.{user_session_ring}
-use Rattle.krs_model.specs.Outcome.{Outcome}
-use Rattle.krs_model.specs.Asks.Hello.{has_context_left, with_context}
-use Rattle.krs_model.specs.Asks.Entering.{if_context_number}
-use Rattle.krs_model.specs.Asks.Invalidating.{detached, context_without, rings_without}
-use Rattle.krs_model.specs.Asks.Leaving.{contexts_without, has_process, has_uid}
-use Rattle.krs_ctx.specs.Anchors.{Anchors, anchored}
+use Rattle.krs_types.specs.{Refusing.◌>>=◌, declared.ask.Answer.TheVariants.{Nothing, Number}}
+use Rattle.krs_types.specs.declared.{caller.Caller.Caller, context.{Context.Context, UidRings.UidRings}}
+use Rattle.krs_types.specs.declared.{errno.Errno.Errno, fault.Fault.{Fault, TheVariants.{Memory, Refused}}}
+use Rattle.krs_model.specs.Asks.{Entering.if_context_number, Hello.{has_context_left, with_context}}
+use Rattle.krs_model.specs.Asks.Invalidating.{context_without, detached, rings_without}
+use Rattle.krs_model.specs.{Asks.Leaving.{contexts_without, has_process, has_uid}, Lookup.user_session_ring}
+use Rattle.krs_model.specs.{Outcome.Outcome, State.State, Table.{alter, at, map_values, put, Table, without}}
+use Rattle.krs_ctx.specs.Anchors.{anchored, Anchors}
 
 -- The new anchors and the number that is answered are what is meant. ENOMEM stands only for what would have
 -- been accepted; a fault leaves all as it was.

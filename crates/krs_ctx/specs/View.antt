@@ -1,10 +1,9 @@
 -- What the contexts are seen as.
 use Rattle.std.specs.Prelude.{◌≡◌, true}
 use Rattle.krs_model.specs.Table.{Rises}
-use Rattle.krs_ctx.specs.declared.contexts.Contexts.TheInside.{Inside}
-use Rattle.krs_ctx.specs.declared.table.ContextTable.TheInside as table
 use Rattle.krs_ctx.specs.Anchors.{Anchors, IsFit, IsWhole}
-use Rattle.krs_ctx.specs.Members.{AreListed}
+use Rattle.krs_ctx.specs.{Members.AreListed, declared.contexts.Contexts.TheInside.Inside}
+use Rattle.krs_ctx.specs.declared.table.ContextTable.TheInside as table
 
 -- just the contexts are listed, and their numbers rise
 pub record AreListedInside (t : table.Inside) : Type 0 where

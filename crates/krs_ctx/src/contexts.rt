@@ -1,15 +1,8 @@
 //! Contexts with their processes and uids: what is asked of them, and what is attached to them.
-ghost use Rattle.std.specs.Prelude.{◌≡◌, []};
-ghost use Rattle.krs_model.specs.State.{State};
-ghost use Rattle.krs_model.specs.Table.{at};
-ghost use Rattle.krs_model.specs.Possession.{process_ring};
-ghost use Rattle.krs_model.specs.Lookup.{context_of};
-ghost use Rattle.krs_model.specs.Outcome.{Is};
-ghost use Rattle.krs_model.specs.Making.{thread_to};
-ghost use Rattle.krs_model.specs.Asks.Joining.{session_to};
-ghost use Rattle.krs_model.specs.Asks.Leaving.{has_process, has_uid};
-ghost use Rattle.krs_ctx.specs.Anchors.{IsFit, anchored};
-ghost use Rattle.krs_ctx.specs.Told.{anchors_without, changed, with_ring};
+ghost use Rattle.std.specs.Prelude.{[], ◌≡◌};
+ghost use Rattle.krs_model.specs.{Asks.{Joining.session_to, Leaving.{has_process, has_uid}}, Lookup.context_of};
+ghost use Rattle.krs_model.specs.{Making.thread_to, Outcome.Is, Possession.process_ring, State.State, Table.at};
+ghost use Rattle.krs_ctx.specs.{Anchors.{anchored, IsFit}, Told.{anchors_without, changed, with_ring}};
 
 use crate::maps::{detach_processes, detach_uids, set_ring};
 use crate::table::ContextTable;

@@ -1,13 +1,9 @@
 //! The contexts that a client enters: HELLO, THREAD and FORK.
-ghost use Rattle.std.specs.Prelude.{◌≡◌, ◌+◌, IfOk, OnOk, OnErr, Some, None};
-ghost use Rattle.krs_model.specs.State.{State};
-ghost use Rattle.krs_model.specs.Table.{at};
-ghost use Rattle.krs_model.specs.Lookup.{user_session_ring};
-ghost use Rattle.krs_model.specs.Outcome.{Is};
-ghost use Rattle.krs_model.specs.Asks.Entering.{thread, fork, without_thread};
-ghost use Rattle.krs_ctx.specs.Anchors.{IsFit, anchored};
-ghost use Rattle.krs_ctx.specs.Told.{Enters, Opens, OpensWith, enterable, greeted};
-ghost use Rattle.krs_ctx.specs.Told.{CanBeTakenBack, taken_back};
+ghost use Rattle.std.specs.Prelude.{◌+◌, ◌≡◌, IfOk, None, OnErr, OnOk, Some};
+ghost use Rattle.krs_model.specs.Asks.Entering.{fork, thread, without_thread};
+ghost use Rattle.krs_model.specs.{Lookup.user_session_ring, Outcome.Is, State.State, Table.at};
+ghost use Rattle.krs_ctx.specs.Anchors.{anchored, IsFit};
+ghost use Rattle.krs_ctx.specs.Told.{CanBeTakenBack, enterable, Enters, greeted, Opens, OpensWith, taken_back};
 
 use crate::contexts::Contexts;
 use crate::maps::{enter, enter_first, own_context, take_out};

@@ -1,13 +1,8 @@
 //! The contexts that end: EXEC, EXIT and LEAVE.
-ghost use Rattle.std.specs.Prelude.{◌≡◌, ◌==◌, not, true};
-ghost use Rattle.std.specs.Option.{IfSome, IfNone};
-ghost use Rattle.krs_model.specs.State.{State};
-ghost use Rattle.krs_model.specs.Table.{at};
-ghost use Rattle.krs_model.specs.Asks.Entering.{exec};
-ghost use Rattle.krs_model.specs.Asks.Leaving.{contexts_without, exit, left};
-ghost use Rattle.krs_ctx.specs.Anchors.{IsWhole, anchored, anchors_of};
-ghost use Rattle.krs_ctx.specs.Members.{IsThereFailing};
-ghost use Rattle.krs_ctx.specs.Told.{Does, ended_where, without_idle};
+ghost use Rattle.std.specs.Prelude.{◌==◌, ◌≡◌, IfNone, IfSome, not, true};
+ghost use Rattle.krs_model.specs.{Asks.{Entering.exec, Leaving.{contexts_without, exit, left}}, State.State, Table.at};
+ghost use Rattle.krs_ctx.specs.Anchors.{anchored, anchors_of, IsWhole};
+ghost use Rattle.krs_ctx.specs.{Members.IsThereFailing, Told.{Does, ended_where, without_idle}};
 
 use crate::contexts::Contexts;
 use crate::maps::{drop_processes, drop_uids, end_process, end_uid, set_ring};

@@ -1,6 +1,6 @@
 //! Contexts by their client, by their process and by their uid.
-ghost use Rattle.std.specs.Prelude.{◌≡◌, [], OnOk, OnErr};
-ghost use Rattle.krs_ctx.specs.Members.{AreListed, groups_of, ListsContext, UnlistsContext, KeepsListed};
+ghost use Rattle.std.specs.Prelude.{[], ◌≡◌, OnErr, OnOk};
+ghost use Rattle.krs_ctx.specs.Members.{AreListed, groups_of, KeepsListed, ListsContext, UnlistsContext};
 
 use crate::members::Members;
 use krs_types::Context;

@@ -1,7 +1,6 @@
-ghost use Rattle.std.specs.Prelude.{◌≡◌, filter, false, if◌then◌else◌, None, OnOk, OnErr};
-ghost use Rattle.krs_model.specs.Table.{at, put, without, alter, map_values};
-ghost use Rattle.krs_model.specs.Asks.Invalidating.{detached, context_without, rings_without};
-ghost use Rattle.krs_model.specs.Asks.Leaving.{has_process, has_uid};
+ghost use Rattle.std.specs.Prelude.{◌≡◌, false, filter, if◌then◌else◌, None, OnErr, OnOk};
+ghost use Rattle.krs_model.specs.Asks.Invalidating.{context_without, detached, rings_without};
+ghost use Rattle.krs_model.specs.{Asks.Leaving.{has_process, has_uid}, Table.{alter, at, map_values, put, without}};
 
 use crate::table::ContextTable;
 use krs_types::{Caller, Context, Serial, UidRings};

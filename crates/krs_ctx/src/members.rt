@@ -1,8 +1,8 @@
 //! Which contexts a client, a process and a uid have.
-ghost use Rattle.std.specs.Prelude.{◌≡◌, ◌≢◌, ◌<◌, ◌^◌, false, true, length, OnOk, OnErr, IfSome, IfNone, ℕ};
+ghost use Rattle.std.specs.Prelude.{◌<◌, ◌^◌, ◌≡◌, ◌≢◌, false, IfNone, IfSome, length, OnErr, OnOk, true, ℕ};
 ghost use Rattle.std.specs.List.Sorted.{IsStrictlySortedBy};
 ghost use Rattle.krs_model.specs.Queues.{place_cmp};
-ghost use Rattle.krs_ctx.specs.Members.{lists, pairs_of, Adds, Removes};
+ghost use Rattle.krs_ctx.specs.Members.{Adds, lists, pairs_of, Removes};
 
 use std::alloc::{AllocError, Global};
 use std::collections::BTreeSet;

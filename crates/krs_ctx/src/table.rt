@@ -1,10 +1,8 @@
 //! The contexts by number, with what each client, process and uid has of them.
-ghost use Rattle.std.specs.Prelude.{ℕ, ◌≡◌, ◌<◌, ◌==◌, ◌||◌, not, filter, length, [], None, IfSome, IfNone};
-ghost use Rattle.std.specs.Prelude.{OnOk, OnErr, count_by, option_copied};
-ghost use Rattle.std.specs.Map.{values_of};
-ghost use Rattle.krs_model.specs.Table.{at, put, without, alter, map_values};
-ghost use Rattle.krs_model.specs.Asks.Invalidating.{context_without};
-ghost use Rattle.krs_model.specs.Asks.Leaving.{contexts_without, has_process, has_uid};
+ghost use Rattle.std.specs.Prelude.{[], ◌<◌, ◌==◌, ◌||◌, ◌≡◌, count_by, filter, IfNone, IfSome, length, None, not};
+ghost use Rattle.std.specs.{Prelude.{OnErr, OnOk, option_copied, ℕ}, Map.values_of};
+ghost use Rattle.krs_model.specs.Asks.{Invalidating.context_without, Leaving.{contexts_without, has_process, has_uid}};
+ghost use Rattle.krs_model.specs.Table.{alter, at, map_values, put, without};
 ghost use Rattle.krs_ctx.specs.Members.{IsThereFailing};
 
 use crate::listed::{Groups, Listed};
@@ -22,8 +20,8 @@ pub(crate) struct ContextTable {
 }
 
 impl Model for ContextTable {
-    ghost use Rattle.krs_model.specs.Table.{Table};
     ghost use Rattle.krs_types.specs.declared.context.Context.{Context};
+    ghost use Rattle.krs_model.specs.Table.{Table};
 
     ghost Value = { Table Context };
 

@@ -1,48 +1,25 @@
 -- Each step is the machine's of its name.
-use Rattle.std.proofs.Common.{◌≡◌, ◌≢◌, ℕ, zero, suc, ◌+◌, ◌≤◌, List, [], ◌∷◌, ◌++◌, Option, Some, None, Result}
-use Rattle.std.proofs.Common.{refl, sym, ap, ◌∙◌, subst, set, inl, inr, ⊎_elim, length, get_or, arith, append_assoc}
-use Rattle.std.proofs.Common.{append-nil, length-append, get_or-set_other, get_or-set_same, ◌⊎◌, lt_of_not-le}
-use mathlib.Core.Option.{some, some-injective}
-use mathlib.Core.Option as maybe
-use mathlib.Core.Logic.{dite}
-use native.Mathlib.Decide.{ℕ_discrete, dec_le}
+use Rattle.std.proofs.Common.{[], ⊎_elim, ◌++◌, ◌+◌, ◌∙◌, ◌∷◌, ◌≡◌, ◌≢◌, ◌≤◌, ◌⊎◌, ap, append-nil, append_assoc, arith}
+use Rattle.std.proofs.Common.{get_or, get_or-set_other, get_or-set_same, inl, inr, length, length-append, List}
+use Rattle.std.proofs.Common.{lt_of_not-le, None, Option, refl, Result, set, Some, subst, suc, sym, zero, ℕ}
 use lib.ListN.{get_elem?}
-use Rattle.krs_types.specs.declared.ask.Ask.{Ask}
-use Rattle.krs_types.specs.declared.ask.Answer.{Answer}
-use Rattle.krs_types.specs.declared.errno.Errno.{Errno}
-use Rattle.krs_types.specs.declared.event.Event.{Event}
-use Rattle.krs_model.specs.State.{State}
-use Rattle.krs_model.specs.Lists.{Begins}
-use Rattle.krs_model.specs.Step.{Step}
-use Rattle.krs_model.specs.History.{IsLegal, event_of}
-use Rattle.krs_world.specs.declared.view.Cell.{Cell}
-use Rattle.krs_world.specs.declared.view.Cell.TheVariants as cells
-use Rattle.krs_world.specs.declared.view.Flight.{Flight}
-use Rattle.krs_world.specs.declared.view.Part.{Part}
-use Rattle.krs_world.specs.declared.view.Service.{Service}
-use Rattle.krs_world.specs.declared.view.Standing.{Standing}
-use Rattle.krs_world.specs.declared.view.Standing.TheVariants.{Spent, One, Two, Opening}
-use Rattle.krs_world.specs.declared.view.View.{View}
-use Rattle.krs_world.specs.Knowing.{events_of, service, flight}
-use Rattle.krs_world.specs.History.{Known, Fits, HasSeen, StandsFor}
-use Rattle.krs_world.specs.History as history
-use Rattle.krs_world.specs.World.{IsUnposted}
-use Rattle.krs_world.proofs.Keeping as law
-use Rattle.krs_desk.specs.declared.slot.SlotValue.{SlotValue}
-use Rattle.krs_desk.specs.Parts.{views_of}
-use Rattle.krs_desk.specs.Rule.{CellIs, InOneOrder}
+use mathlib.Core.{Logic.dite, Option.{some, some-injective}}
+use native.Mathlib.Decide.{dec_le, ℕ_discrete}
+use Rattle.krs_types.specs.declared.{ask.{Answer.Answer, Ask.Ask}, errno.Errno.Errno, event.Event.Event}
+use Rattle.krs_model.specs.{History.{event_of, IsLegal}, Lists.Begins, State.State, Step.Step}
+use Rattle.krs_world.specs.{History.{Fits, HasSeen, Known, StandsFor}, Knowing.{events_of, flight, service}}
+use Rattle.krs_world.specs.{World.IsUnposted, declared.view.{Cell.Cell, Flight.Flight, Part.Part, Service.Service}}
+use Rattle.krs_world.specs.declared.view.{Standing.{Standing, TheVariants.{One, Opening, Spent, Two}}, View.View}
+use Rattle.krs_desk.specs.{Machine.{IsSeatedIn, Sits}, Moves.after, Parts.views_of, Rule.{CellIs, InOneOrder}}
+use Rattle.krs_desk.specs.{Running.{Board, IsLeft, IsOutAt, IsStepped, StepsAsNamed}, declared.slot.SlotValue.SlotValue}
+use Rattle.krs_desk.proofs.{Between.unanswered, Looking.not_both, Posts.answered_of}
+use Rattle.krs_desk.proofs.Running.{begins_log, known_of, seen_sits, step_grows, turn_sits, Within, within}
+use Rattle.krs_desk.proofs.{Seen.last_step, Serves.posted_of, TurnSteps.{turn, view_at, views_set}}
 use Rattle.krs_desk.specs.Moves as move
-use Rattle.krs_desk.specs.Moves.{Move, after, IsMadeAt}
-use Rattle.krs_desk.specs.Running.{Board, IsStepped, IsLeft, IsOutAt, StepsAsNamed}
-use Rattle.krs_desk.proofs.TurnSteps.{turn, view_at, views_set}
-use Rattle.krs_desk.proofs.Posts.{answered_of}
-use Rattle.krs_desk.proofs.Serves.{posted_of}
-use Rattle.krs_desk.proofs.Seen.{last_step}
-use Rattle.krs_desk.proofs.Between.{unanswered}
-use Rattle.krs_desk.proofs.Looking.{not_both}
-use Rattle.krs_desk.specs.Machine.{Sits, IsSeatedIn}
-use Rattle.krs_desk.proofs.Running.{Within, within, known_of, turn_sits, seen_sits, begins_log}
-use Rattle.krs_desk.proofs.Running.{step_grows}
+use Rattle.krs_world.proofs.Keeping as law
+use Rattle.krs_world.specs.History as history
+use Rattle.krs_world.specs.declared.view.Cell.TheVariants as cells
+use mathlib.Core.Option as maybe
 
 -- The history after a step is no longer than what the token brings.
 

@@ -1,37 +1,24 @@
 -- What a machine that a table is has in common with the one history of the table.
-use Rattle.std.proofs.Common.{◌≡◌, ◌≢◌, ℕ, zero, suc, ◌+◌, ◌<◌, List, [], ◌∷◌, ◌++◌, Option, Some, None, refl, sym, ap}
-use Rattle.std.proofs.Common.{◌∙◌, subst, inl, inr, ⊎_elim, length, length-append, get_or, arith, lt_of_not-le}
-use mathlib.Core.Option.{some, some-injective, some-ne-none}
-use mathlib.Core.Option as maybe
-use mathlib.Core.Logic.{dite}
-use native.Mathlib.Decide.{ℕ_discrete, dec_le}
+use Rattle.std.proofs.Common.{[], ⊎_elim, ◌++◌, ◌+◌, ◌<◌, ◌∙◌, ◌∷◌, ◌≡◌, ◌≢◌, ap, arith, get_or, inl, inr, length}
+use Rattle.std.proofs.Common.{length-append, List, lt_of_not-le, None, Option, refl, Some, subst, suc, sym, zero, ℕ}
 use lib.ListN.{get_elem?}
+use mathlib.Core.{Logic.dite, Option.{some, some-injective, some-ne-none}}
+use native.Mathlib.Decide.{dec_le, ℕ_discrete}
 use Rattle.krs_types.specs.declared.event.Event.{Event}
 use Rattle.krs_model.specs.State.{State}
-use Rattle.krs_world.specs.declared.view.Cell.{Cell}
-use Rattle.krs_world.specs.declared.view.Cell.TheVariants as cells
-use Rattle.krs_world.specs.declared.view.Flight.{Flight}
-use Rattle.krs_world.specs.declared.view.Part.{Part}
-use Rattle.krs_world.specs.declared.view.Standing.{Standing}
-use Rattle.krs_world.specs.declared.view.Standing.TheVariants.{Spent, One, Two, Opening}
-use Rattle.krs_world.specs.declared.view.View.{View}
-use Rattle.krs_world.specs.Knowing.{flight}
-use Rattle.krs_world.specs.History.{Shared, Known, Stands, Fits, HasSeen}
-use Rattle.krs_world.specs.World.{Turn, Free, Out, World, IsHistory, IsHistoryBy}
+use Rattle.krs_world.specs.History.{Fits, HasSeen, Known, Shared, Stands}
+use Rattle.krs_world.specs.{Knowing.flight, World.{Free, IsHistory, IsHistoryBy, Out, Turn, World}}
+use Rattle.krs_world.specs.declared.view.{Cell.Cell, Flight.Flight, Part.Part, Standing.Standing}
+use Rattle.krs_world.specs.declared.view.{Standing.TheVariants.{One, Opening, Spent, Two}, View.View}
+use Rattle.krs_desk.specs.Machine.{IsCallOf, IsOneWorld, IsOutIn, IsSeatedIn, IsSomeWorld, IsTurn, IsWorld, Sits}
+use Rattle.krs_desk.specs.{Moves.HasTurn, Parts.views_of, Rule.{CellIs, InOneOrder, IsAtHome}, Running.Board}
+use Rattle.krs_desk.specs.declared.slot.SlotValue.{SlotValue, TheVariants.{Asked, Home, Replied}}
+use Rattle.krs_desk.proofs.{Adding.{empty_of, serving_of, sits_of}, Looking.not_both, Posts.answered_of}
+use Rattle.krs_desk.proofs.Running.{known_of, same_view, seen_sits, turn_sits, within}
+use Rattle.krs_desk.proofs.{Serves.posted_of, TurnSteps.turn}
 use Rattle.krs_world.proofs.Keeping as law
-use Rattle.krs_desk.specs.declared.slot.SlotValue.{SlotValue}
-use Rattle.krs_desk.specs.declared.slot.SlotValue.TheVariants.{Home, Asked, Replied}
-use Rattle.krs_desk.specs.Parts.{views_of}
-use Rattle.krs_desk.specs.Rule.{IsAtHome, CellIs, InOneOrder}
-use Rattle.krs_desk.specs.Moves.{HasTurn}
-use Rattle.krs_desk.specs.Running.{Board}
-use Rattle.krs_desk.specs.Machine.{Sits, IsSeatedIn, IsOutIn, IsTurn, IsCallOf, IsWorld, IsSomeWorld, IsOneWorld}
-use Rattle.krs_desk.proofs.TurnSteps.{turn}
-use Rattle.krs_desk.proofs.Posts.{answered_of}
-use Rattle.krs_desk.proofs.Serves.{posted_of}
-use Rattle.krs_desk.proofs.Looking.{not_both}
-use Rattle.krs_desk.proofs.Running.{same_view, known_of, within, seen_sits, turn_sits}
-use Rattle.krs_desk.proofs.Adding.{sits_of, empty_of, serving_of}
+use Rattle.krs_world.specs.declared.view.Cell.TheVariants as cells
+use mathlib.Core.Option as maybe
 
 abbrev pub Slot : Type 0
 Slot = maybe.Option (maybe.Option SlotValue)

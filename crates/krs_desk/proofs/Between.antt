@@ -1,30 +1,20 @@
 -- Two moments at which the rule of the table holds.
-use Rattle.std.proofs.Common.{◌≡◌, ◌≢◌, ℕ, List, [], ◌∷◌, ◌++◌, Option, Some, sym, ap, ◌∙◌, subst, append_assoc}
-use Rattle.std.proofs.Common.{slice_index, arith}
-use mathlib.Core.Option as maybe
-use lib.ListN.{get_elem?}
+use Rattle.std.proofs.Common.{[], ◌++◌, ◌∙◌, ◌∷◌, ◌≡◌, ◌≢◌, ap, append_assoc, arith, List, Option, slice_index, Some}
+use Rattle.std.proofs.Common.{subst, sym, ℕ}
 use Rattle.atomic_table.specs.Table.{Step}
+use lib.ListN.{get_elem?}
 use Rattle.krs_types.specs.declared.event.Event.{Event}
-use Rattle.krs_model.specs.State.{State}
-use Rattle.krs_model.specs.History.{IsLegal}
-use Rattle.krs_model.specs.Revocation.{StaysUnread}
-use Rattle.krs_world.specs.declared.view.Cell.{Cell}
-use Rattle.krs_world.specs.declared.view.Cell.TheVariants as cells
-use Rattle.krs_world.specs.declared.view.Part.{Part}
-use Rattle.krs_world.specs.Knowing.{one}
-use Rattle.krs_world.specs.World.{IsUnanswered}
-use Rattle.krs_world.proofs.Between.{real_time_between, posted_between, collected_between}
-use Rattle.krs_desk.specs.declared.slot.SlotValue.{SlotValue}
-use Rattle.krs_desk.specs.declared.word.TheConstants.{TURN, ANSWERED}
-use Rattle.krs_desk.specs.Parts.{cell_of, sight, views_of}
-use Rattle.krs_desk.specs.Rule.{CellIs}
-use Rattle.krs_desk.specs.Between.{KeepsRealTimeBetween, KeepsCollectedBetween, KeepsPostedBetween, RefusesRevoked}
+use Rattle.krs_model.specs.{History.IsLegal, Lists.Begins, Revocation.StaysUnread, State.State}
+use Rattle.krs_world.specs.{Knowing.one, World.IsUnanswered, declared.view.{Cell.Cell, Part.Part}}
+use Rattle.krs_world.proofs.Between.{collected_between, posted_between, real_time_between}
+use Rattle.krs_world.proofs.Keeping.{prefix_more, prefix_self}
+use Rattle.krs_desk.specs.Between.{KeepsCollectedBetween, KeepsPostedBetween, KeepsRealTimeBetween, RefusesRevoked}
+use Rattle.krs_desk.specs.{Moves.{after, IsMadeAt, Move}, Parts.{cell_of, sight, views_of}, Rule.CellIs}
+use Rattle.krs_desk.specs.declared.{slot.SlotValue.SlotValue, word.TheConstants.{ANSWERED, TURN}}
+use Rattle.krs_desk.proofs.{Seen.{legal_cut, not_read_revoked}, TurnSteps.view_at}
 use Rattle.krs_desk.specs.Moves as move
-use Rattle.krs_desk.specs.Moves.{Move, after, IsMadeAt}
-use Rattle.krs_model.specs.Lists.{Begins}
-use Rattle.krs_world.proofs.Keeping.{prefix_self, prefix_more}
-use Rattle.krs_desk.proofs.TurnSteps.{view_at}
-use Rattle.krs_desk.proofs.Seen.{legal_cut, not_read_revoked}
+use Rattle.krs_world.specs.declared.view.Cell.TheVariants as cells
+use mathlib.Core.Option as maybe
 
 -- the cell of a lane that has no call in flight isn't answered
 pub idle_word :

@@ -1,20 +1,14 @@
 -- A call that is posted, helped and collected, and what its caller is told.
-use Rattle.std.proofs.Common.{◌≡◌, ◌+◌, ◌<◌, ℕ, List, [], ◌∷◌, ◌++◌, Some, Result, refl, sym, ap, ◌∙◌, subst, arith}
-use Rattle.std.proofs.Common.{append_assoc, inl, inr, ⊎_elim}
+use Rattle.std.proofs.Common.{[], ⊎_elim, ◌++◌, ◌+◌, ◌<◌, ◌∙◌, ◌∷◌, ◌≡◌, ap, append_assoc, arith, inl, inr, List, refl}
+use Rattle.std.proofs.Common.{Result, Some, subst, sym, ℕ}
 use Rattle.atomic_table.specs.Seated.{TableId}
-use Rattle.krs_types.specs.declared.ask.Ask.{Ask}
-use Rattle.krs_types.specs.declared.ask.Answer.{Answer}
-use Rattle.krs_types.specs.declared.errno.Errno.{Errno}
-use Rattle.krs_types.specs.declared.event.Event.{Event}
-use Rattle.krs_model.specs.Lists.{Begins}
-use Rattle.krs_model.specs.State.{State}
-use Rattle.krs_model.specs.History.{IsLegal, event_of}
+use Rattle.krs_types.specs.declared.{ask.{Answer.Answer, Ask.Ask}, errno.Errno.Errno, event.Event.Event}
+use Rattle.krs_model.specs.{History.{event_of, IsLegal}, Lists.Begins, State.State}
 use Rattle.krs_world.specs.Knowing.{flight}
-use Rattle.krs_world.proofs.Keeping.{prefix_self, prefix_trans, prefix_more}
-use Rattle.krs_desk.specs.declared.helping.Helped.{Helped}
-use Rattle.krs_desk.specs.declared.helping.Helped.TheVariants.{Took, Busy}
-use Rattle.krs_desk.specs.Sitting.{Sitting, missed_by, posted_by, rested, Collects, Adds}
+use Rattle.krs_world.proofs.Keeping.{prefix_more, prefix_self, prefix_trans}
 use Rattle.krs_desk.specs.Helping.{HasHelped, HasLooked, Waits}
+use Rattle.krs_desk.specs.Sitting.{Adds, Collects, missed_by, posted_by, rested, Sitting}
+use Rattle.krs_desk.specs.declared.helping.Helped.{Helped, TheVariants.{Busy, Took}}
 use Rattle.krs_desk.proofs.Seen.{legal_cut}
 
 pub waits_posted :

@@ -1,25 +1,19 @@
 -- A step on the word and the slot of one lane keeps the rule of the table.
-use Rattle.std.proofs.Common.{◌≡◌, ◌≢◌, ◌≤◌, ℕ, ◌+◌, ◌<◌, Bool, List, length, get_or, set, sym, ap, ◌∙◌}
-use Rattle.std.proofs.Common.{subst, arith, length-set, get_or-set_same, get_or-set_other}
-use mathlib.Core.Option.{some}
-use mathlib.Core.Option as maybe
-use mathlib.Core.Logic.{dite}
-use native.Mathlib.Decide.{ℕ_discrete}
+use Rattle.std.proofs.Common.{◌+◌, ◌<◌, ◌∙◌, ◌≡◌, ◌≢◌, ◌≤◌, ap, arith, Bool, get_or, get_or-set_other, get_or-set_same}
+use Rattle.std.proofs.Common.{length, length-set, List, set, subst, sym, ℕ}
+use Rattle.atomic_table.proofs.Lists.{set_else, set_here}
 use lib.ListN.{get_elem?}
-use Rattle.atomic_table.proofs.Lists.{set_here, set_else}
+use mathlib.Core.{Logic.dite, Option.some}
+use native.Mathlib.Decide.{ℕ_discrete}
 use Rattle.krs_model.specs.State.{State}
-use Rattle.krs_world.specs.declared.view.Cell.{Cell}
-use Rattle.krs_world.specs.declared.view.Part.{Part}
-use Rattle.krs_world.specs.declared.view.View.{View}
-use Rattle.krs_world.specs.declared.view.Standing.{Standing}
-use Rattle.krs_world.specs.declared.view.Standing.TheVariants.{Spent, One, Two, Opening}
-use Rattle.krs_world.specs.Knowing.{one, celled}
-use Rattle.krs_world.specs.History.{Shared, Known, Stands, OneHistory}
+use Rattle.krs_world.specs.History.{Known, OneHistory, Shared, Stands}
+use Rattle.krs_world.specs.{Knowing.{celled, one}, declared.view.{Cell.Cell, Part.Part, Standing.Standing}}
+use Rattle.krs_world.specs.declared.view.{Standing.TheVariants.{One, Opening, Spent, Two}, View.View}
+use Rattle.krs_desk.specs.Parts.{IsLaid, IsLaidBy, sat, views_of}
+use Rattle.krs_desk.specs.{Rule.{CellIs, InOneOrder, IsAtHome, IsVacant}, declared.token.Sight.Sight}
+use Rattle.krs_desk.proofs.TurnSteps.{laid_set, sat_lies, Slot, still_housed, Table, turn, view_at, views_set}
 use Rattle.krs_world.proofs.Keeping as law
-use Rattle.krs_desk.specs.declared.token.Sight.{Sight}
-use Rattle.krs_desk.specs.Parts.{sat, views_of, IsLaid, IsLaidBy}
-use Rattle.krs_desk.specs.Rule.{IsAtHome, CellIs, IsVacant, InOneOrder}
-use Rattle.krs_desk.proofs.TurnSteps.{Table, Slot, turn, views_set, view_at, laid_set, still_housed, sat_lies}
+use mathlib.Core.Option as maybe
 
 -- a lane that is laid for another token is another lane
 apart_of :

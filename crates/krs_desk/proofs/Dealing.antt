@@ -1,37 +1,24 @@
 -- The rule of the table holds as it is made, as each seat gets its lane's slot, and when the last seat has been dealt.
-use Rattle.std.proofs.Common.{◌≡◌, ℕ, zero, suc, ◌+◌, ◌<◌, false, true, List, [], ◌∷◌, length, get_or, set}
-use Rattle.std.proofs.Common.{Some, refl, sym, ap, ◌∙◌, subst, All, arith, add-one}
-use Rattle.std.specs.Prelude.{map, replicate}
+use Rattle.std.proofs.Common.{[], ◌+◌, ◌<◌, ◌∙◌, ◌∷◌, ◌≡◌, add-one, All, ap, arith, false, get_or, length, List, map}
+use Rattle.std.proofs.Common.{refl, replicate, set, Some, subst, suc, sym, true, zero, ℕ}
+use Rattle.atomic_table.specs.{Seated.TableId, Table.{Allows, keeps, opening, step, stepped, takes}}
 use Rattle.std.proofs.lemmas.List.Elements.{All-nil, All-push, All-same}
-use mathlib.Core.Option.{none, some, some-injective, some-ne-none}
-use mathlib.Core.Logic.{dite}
-use native.Mathlib.Decide.{ℕ_discrete}
 use lib.ListN.{get_elem?}
-use Rattle.atomic_table.specs.Seated.{TableId}
-use Rattle.atomic_table.specs.Table.{opening, step, stepped, keeps, takes, Allows}
+use mathlib.Core.{Logic.dite, Option.{none, some, some-injective, some-ne-none}}
+use native.Mathlib.Decide.{ℕ_discrete}
 use Rattle.krs_model.specs.State.{State}
-use Rattle.krs_world.specs.declared.view.Cell.{Cell}
-use Rattle.krs_world.specs.declared.view.Cell.TheVariants as cells
-use Rattle.krs_world.specs.declared.view.Part.{Part}
-use Rattle.krs_world.specs.declared.view.View.{View}
-use Rattle.krs_world.specs.declared.view.Standing.TheVariants.{Spent, One, Opening}
-use Rattle.krs_world.specs.Knowing.{view, one, fresh, celled}
-use Rattle.krs_world.specs.History.{OneHistory}
+use Rattle.krs_world.specs.{History.OneHistory, Knowing.{celled, fresh, one, view}, declared.view.Cell.Cell}
+use Rattle.krs_world.specs.declared.view.{Part.Part, Standing.TheVariants.{One, Opening, Spent}, View.View}
+use Rattle.krs_desk.specs.Moves.{moved_told, stored_told}
+use Rattle.krs_desk.specs.Parts.{AreHoused, dealt, hand_of, sat, sight, spent, views_of}
+use Rattle.krs_desk.specs.{Rule.{AreZero, CellIs, first_sight, InOneOrder}, Seated.Me}
+use Rattle.krs_desk.specs.{Sitting.{fresh_seat, fresh_seats, IsIdleAt, Sitting}, Steps.{opens_told, picks_told}}
+use Rattle.krs_desk.specs.declared.{slot.SlotValue.{SlotValue, TheVariants.{Empty, Home}}, token.Sight.Sight}
+use Rattle.krs_desk.proofs.{Cells.{lies_apart, moved_cell}, Joining.opening_is, TurnSteps.{moved, Slot, turn, view_at}}
+use Rattle.krs_desk.specs.Moves as move
 use Rattle.krs_world.proofs.Keeping as law
 use Rattle.krs_world.proofs.Seating as seating
-use Rattle.krs_desk.specs.declared.slot.SlotValue.{SlotValue}
-use Rattle.krs_desk.specs.declared.slot.SlotValue.TheVariants.{Empty, Home}
-use Rattle.krs_desk.specs.declared.token.Sight.{Sight}
-use Rattle.krs_desk.specs.Parts.{sight, sat, dealt, spent, views_of, hand_of, AreHoused}
-use Rattle.krs_desk.specs.Rule.{CellIs, InOneOrder, first_sight, AreZero}
-use Rattle.krs_desk.specs.Steps.{picks_told, opens_told}
-use Rattle.krs_desk.specs.Sitting.{Sitting, IsIdleAt, fresh_seat, fresh_seats}
-use Rattle.krs_desk.specs.Moves as move
-use Rattle.krs_desk.specs.Moves.{moved_told, stored_told}
-use Rattle.krs_desk.specs.Seated.{Me}
-use Rattle.krs_desk.proofs.TurnSteps.{Slot, turn, moved, view_at}
-use Rattle.krs_desk.proofs.Cells.{lies_apart, moved_cell}
-use Rattle.krs_desk.proofs.Joining.{opening_is}
+use Rattle.krs_world.specs.declared.view.Cell.TheVariants as cells
 
 -- each of the lanes' slots is empty
 empties :

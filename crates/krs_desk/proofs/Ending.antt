@@ -1,10 +1,8 @@
 -- The store that a seat had as the desk was closed.
-use Rattle.std.proofs.Common.{◌≡◌, ℕ, subst}
+use Rattle.std.proofs.Common.{◌≡◌, subst, ℕ}
 use Rattle.atomic_table.specs.Seated.{TableId}
 use Rattle.krs_model.specs.State.{State}
-use Rattle.krs_desk.specs.Sitting.{Sitting, EndsIn}
-use Rattle.krs_desk.specs.Seated.{Me, sitting_of}
-use Rattle.krs_desk.specs.Helping.{Had}
+use Rattle.krs_desk.specs.{Helping.Had, Seated.{Me, sitting_of}, Sitting.{EndsIn, Sitting}}
 
 -- it ends a legal list that begins with what the seat had seen, and has its calls
 pub ends_in :

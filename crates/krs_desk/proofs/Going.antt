@@ -1,34 +1,21 @@
 -- What stays of a table's cells, turn and history where what its lanes know of their calls stays.
-use Rattle.std.proofs.Common.{◌≡◌, ℕ, ◌+◌, ◌≤◌, ◌<◌, List, [], ◌∷◌, ◌++◌, Option, Some, None, refl, sym, ap, ◌∙◌}
-use Rattle.std.proofs.Common.{subst, length, length-append, append-nil, append_assoc, get_or}
-use Rattle.std.proofs.Common.{arith, lt_of_not-le}
-use mathlib.Core.Logic.{dite}
-use native.Mathlib.Decide.{ℕ_discrete, dec_le}
+use Rattle.std.proofs.Common.{[], ◌++◌, ◌+◌, ◌<◌, ◌∙◌, ◌∷◌, ◌≡◌, ◌≤◌, ap, append-nil, append_assoc, arith, get_or}
+use Rattle.std.proofs.Common.{length, length-append, List, lt_of_not-le, None, Option, refl, Some, subst, sym, ℕ}
 use lib.ListN.{get_elem?}
-use Rattle.krs_types.specs.declared.ask.Ask.{Ask}
-use Rattle.krs_types.specs.declared.event.Event.{Event}
-use Rattle.krs_model.specs.State.{State}
-use Rattle.krs_model.specs.Lists.{Begins}
-use Rattle.krs_model.specs.History.{event_of, IsLegal}
+use mathlib.Core.Logic.{dite}
+use native.Mathlib.Decide.{dec_le, ℕ_discrete}
+use Rattle.krs_types.specs.declared.{ask.Ask.Ask, event.Event.Event}
+use Rattle.krs_model.specs.{History.{event_of, IsLegal}, Lists.Begins, State.State}
 use Rattle.krs_model.proofs.History.Determined.{one_history}
-use Rattle.krs_world.specs.declared.view.Cell.{Cell}
-use Rattle.krs_world.specs.declared.view.Cell.TheVariants as cells
-use Rattle.krs_world.specs.declared.view.Flight.{Flight}
-use Rattle.krs_world.specs.declared.view.Part.{Part}
-use Rattle.krs_world.specs.Knowing.{events_of, service, flight}
-use Rattle.krs_world.specs.History.{Fits}
-use Rattle.krs_world.specs.World.{World}
-use Rattle.krs_world.proofs.Keeping as law
-use Rattle.krs_desk.specs.Parts.{views_of}
-use Rattle.krs_desk.specs.Rule.{CellIs, InOneOrder}
-use Rattle.krs_desk.specs.Moves as move
-use Rattle.krs_desk.specs.Moves.{Move, after}
-use Rattle.krs_desk.specs.Running.{Board}
-use Rattle.krs_desk.specs.Machine.{IsSeatedIn}
-use Rattle.krs_desk.proofs.TurnSteps.{turn}
-use Rattle.krs_desk.proofs.Running.{within, seen_sits, sits_seen, begins_log, log_grows}
+use Rattle.krs_world.specs.{History.Fits, Knowing.{events_of, flight, service}, World.World, declared.view.Cell.Cell}
+use Rattle.krs_world.specs.declared.view.{Flight.Flight, Part.Part}
+use Rattle.krs_desk.specs.{Machine.IsSeatedIn, Parts.views_of, Rule.{CellIs, InOneOrder}, Running.Board}
 use Rattle.krs_desk.proofs.Adding.{counts, last_same, no_shorter}
-use Rattle.krs_desk.proofs.Agreeing.{Slot, Agrees, known_at, seat_there, holder_there}
+use Rattle.krs_desk.proofs.Agreeing.{Agrees, holder_there, known_at, seat_there, Slot}
+use Rattle.krs_desk.proofs.{Running.{begins_log, log_grows, seen_sits, sits_seen, within}, TurnSteps.turn}
+use Rattle.krs_desk.specs.Moves as move
+use Rattle.krs_world.proofs.Keeping as law
+use Rattle.krs_world.specs.declared.view.Cell.TheVariants as cells
 
 -- Cells.
 

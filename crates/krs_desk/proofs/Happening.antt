@@ -1,17 +1,15 @@
 -- Each step of the table is one that may happen.
-use Rattle.std.proofs.Common.{◌≡◌, ℕ, ◌<◌, eqb, Some, None, Option, refl, sym, ap, ◌∙◌, inl, inr, ⊎_elim}
-use Rattle.std.proofs.Common.{length, get_or, arith, eq-eqb, ne_eqb}
-use mathlib.Core.Option.{none, some}
-use lib.ListN.{get_elem?}
-use prog.Atomic.{either}
+use Rattle.std.proofs.Common.{⊎_elim, ◌<◌, ◌∙◌, ◌≡◌, ap, arith, eq-eqb, eqb, get_or, inl, inr, length, ne_eqb, None}
+use Rattle.std.proofs.Common.{Option, refl, Some, sym, ℕ}
 use Rattle.atomic_table.specs.Table.{step}
+use lib.ListN.{get_elem?}
+use mathlib.Core.Option.{none, some}
+use prog.Atomic.{either}
 use Rattle.krs_model.specs.State.{State}
+use Rattle.krs_desk.specs.Happening.{ExchangesHappen, IsAt, JoinsHappen, LoadsHappen, SplitsHappen, StepsHappen}
+use Rattle.krs_desk.specs.Happening.{StoresHappen}
+use Rattle.krs_desk.specs.{Parts.{AreOnes, both_sights, IsSpentFor, settled_sight}, Running.Board, Steps.Known}
 use Rattle.krs_world.proofs.Keeping as law
-use Rattle.krs_desk.specs.Parts.{AreOnes, IsSpentFor, both_sights, settled_sight}
-use Rattle.krs_desk.specs.Steps.{Known}
-use Rattle.krs_desk.specs.Running.{Board}
-use Rattle.krs_desk.specs.Happening.{IsAt, LoadsHappen, StoresHappen, ExchangesHappen, SplitsHappen, JoinsHappen}
-use Rattle.krs_desk.specs.Happening.{StepsHappen}
 
 is_there :
     (a : State) (s : Board) (slots id : ℕ) (m : Known) (word : ℕ) → IsAt a s slots id m word → word < length s.words

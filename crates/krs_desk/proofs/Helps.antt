@@ -1,33 +1,20 @@
 -- A holder's turn of help, step by step: what its token is, and what its caller is told.
-use Rattle.std.proofs.Common.{◌≡◌, ◌≢◌, ◌<◌, ℕ, ◌+◌, ◌&&◌, eqb, Bool, true, false, cond, List, [], ◌∷◌}
-use Rattle.std.proofs.Common.{◌++◌, Option, Some, None, Result, refl, sym, ap, ◌∙◌, subst, arith, eq-eqb, ne_eqb}
-use Rattle.std.proofs.Common.{append_assoc, append-nil, length-append, add-one}
-use mathlib.Core.Option.{none}
-use mathlib.Core.Logic.{dite}
+use Rattle.std.proofs.Common.{[], ◌&&◌, ◌++◌, ◌+◌, ◌<◌, ◌∙◌, ◌∷◌, ◌≡◌, ◌≢◌, add-one, ap, append-nil, append_assoc}
+use Rattle.std.proofs.Common.{arith, Bool, cond, eq-eqb, eqb, false, length-append, List, ne_eqb, None, Option, refl}
+use Rattle.std.proofs.Common.{Result, Some, subst, sym, true, ℕ}
+use Rattle.atomic_table.specs.{Seated.TableId, Table.{rest, step, turned}}
+use mathlib.Core.{Logic.dite, Option.none}
 use native.Mathlib.Decide.{ℕ_discrete}
-use Rattle.atomic_table.specs.Seated.{TableId}
-use Rattle.atomic_table.specs.Table.{step, rest, turned}
-use Rattle.krs_types.specs.declared.ask.Ask.{Ask}
-use Rattle.krs_types.specs.declared.ask.Answer.{Answer}
-use Rattle.krs_types.specs.declared.errno.Errno.{Errno}
-use Rattle.krs_types.specs.declared.event.Event.{Event}
-use Rattle.krs_model.specs.Lists.{Begins}
-use Rattle.krs_model.specs.State.{State}
-use Rattle.krs_model.specs.Step.{Step}
-use Rattle.krs_model.specs.History.{IsLegal, event_of}
+use Rattle.krs_types.specs.declared.{ask.{Answer.Answer, Ask.Ask}, errno.Errno.Errno, event.Event.Event}
+use Rattle.krs_model.specs.{History.{event_of, IsLegal}, Lists.Begins, Sound.IsSound, State.State, Step.Step}
 use Rattle.krs_model.proofs.History.Legal.{legal_more}
-use Rattle.krs_world.specs.declared.view.Flight.{Flight}
-use Rattle.krs_world.specs.declared.view.Part.{Part}
-use Rattle.krs_world.specs.Knowing.{events_of, taken, grabbed, answered, looked_at, put_none}
-use Rattle.krs_desk.specs.declared.slot.SlotValue.{SlotValue}
-use Rattle.krs_desk.specs.declared.slot.SlotValue.TheVariants.{Empty, Home, Asked, Replied}
-use Rattle.krs_desk.specs.Parts.{sat, hand_of}
-use Rattle.krs_desk.specs.Steps.{answers_told, brings_told}
-use Rattle.krs_desk.specs.Sitting.{Sitting}
-use Rattle.krs_desk.specs.Seated.{Me, opening, part, sitting_of, is_free, HasSlot, IsSeated, Holds, Serves}
-use Rattle.krs_model.specs.Sound.{IsSound}
-use Rattle.krs_desk.specs.Helping.{below, lanes_of, Helps, held_of, Had, HoldsAll, HasBehind, turned_back}
-use Rattle.krs_desk.specs.Helping.{ServesBehind, Stays, Progress, Goes, Served, ServesLane}
+use Rattle.krs_world.specs.Knowing.{answered, events_of, grabbed, looked_at, put_none, taken}
+use Rattle.krs_world.specs.declared.view.{Flight.Flight, Part.Part}
+use Rattle.krs_desk.specs.Helping.{below, Goes, HasBehind, held_of, Helps, HoldsAll, lanes_of, Progress, Served}
+use Rattle.krs_desk.specs.{Helping.{ServesBehind, ServesLane, Stays, turned_back}, Parts.{hand_of, sat}}
+use Rattle.krs_desk.specs.Seated.{HasSlot, Holds, is_free, IsSeated, Me, opening, part, Serves, sitting_of}
+use Rattle.krs_desk.specs.{Sitting.Sitting, Steps.{answers_told, brings_told}, declared.slot.SlotValue.SlotValue}
+use Rattle.krs_desk.specs.declared.slot.SlotValue.TheVariants.{Asked, Empty, Home, Replied}
 use Rattle.krs_desk.proofs.Seats.{same_store}
 
 -- The turn is had.

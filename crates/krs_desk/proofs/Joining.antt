@@ -1,34 +1,25 @@
 -- Splitting a token, joining two, and the look of a token of two lanes keep the rule of the table.
-use Rattle.std.proofs.Common.{◌≡◌, ◌≢◌, ◌≤◌, ℕ, ◌+◌, Bool, true, false, List, [], ◌∷◌, ◌++◌, set, Option, None, ⊎_elim}
-use Rattle.std.proofs.Common.{refl, sym, ap, ◌∙◌, subst, arith, length}
-use mathlib.Core.Option.{none, some}
+use Rattle.std.proofs.Common.{[], ⊎_elim, ◌++◌, ◌+◌, ◌∙◌, ◌∷◌, ◌≡◌, ◌≢◌, ◌≤◌, ap, arith, Bool, false, length, List}
+use Rattle.std.proofs.Common.{None, Option, refl, set, subst, sym, true, ℕ}
+use Rattle.atomic_table.specs.Table.{Allows, Joins, keeps, Splits, step}
 use lib.ListN.{get_elem?}
-use Rattle.atomic_table.specs.Table.{step, keeps, Allows, Splits, Joins}
+use mathlib.Core.Option.{none, some}
 use Rattle.krs_types.specs.declared.event.Event.{Event}
-use Rattle.krs_model.specs.State.{State, starting_at}
-use Rattle.krs_world.specs.declared.view.Cell.{Cell}
-use Rattle.krs_world.specs.declared.view.Part.{Part}
-use Rattle.krs_world.specs.declared.view.View.{View}
-use Rattle.krs_world.specs.declared.view.Standing.{Standing}
-use Rattle.krs_world.specs.declared.view.Standing.TheVariants.{Spent, One, Two, Opening}
-use Rattle.krs_world.specs.Knowing.{view, one, loaded}
-use Rattle.krs_world.specs.History.{OneHistory}
-use Rattle.krs_world.proofs.Keeping as law
-use Rattle.krs_world.proofs.Joining as joining
-use Rattle.krs_world.proofs.Seating as seating
-use Rattle.krs_world.proofs.Lifting as lifting
-use Rattle.krs_desk.specs.declared.slot.SlotValue.{SlotValue}
-use Rattle.krs_desk.specs.declared.token.Sight.{Sight}
-use Rattle.krs_desk.specs.Parts.{AreHoused, AreHousedBy}
-use Rattle.krs_desk.specs.Parts.{hand_of, sight, sat, spent, views_of, IsLaid, IsLaidBy, kept_of, given_of, given_laid}
-use Rattle.krs_desk.specs.Parts.{kept_sight, given_sight, both_sights, settled_sight}
-use Rattle.krs_desk.specs.Rule.{IsVacant, InOneOrder}
-use Rattle.krs_desk.specs.Steps.{Found, looks_told, checks_told}
-use Rattle.krs_desk.specs.Moves as move
+use Rattle.krs_model.specs.State.{starting_at, State}
+use Rattle.krs_world.specs.{History.OneHistory, Knowing.{loaded, one, view}, declared.view.{Cell.Cell, Part.Part}}
+use Rattle.krs_world.specs.declared.view.{Standing.{Standing, TheVariants.{One, Opening, Spent, Two}}, View.View}
 use Rattle.krs_desk.specs.Moves.{moved_told}
-use Rattle.krs_desk.specs.Seated.{Me, part}
-use Rattle.krs_desk.specs.Seated.{opening}
-use Rattle.krs_desk.proofs.TurnSteps.{Table, turn, unmoved, views_set, view_at, laid_set, housed_set, sat_lies}
+use Rattle.krs_desk.specs.Parts.{AreHoused, AreHousedBy, both_sights, given_laid, given_of, given_sight, hand_of}
+use Rattle.krs_desk.specs.Parts.{IsLaid, IsLaidBy, kept_of, kept_sight, sat, settled_sight, sight, spent, views_of}
+use Rattle.krs_desk.specs.Rule.{InOneOrder, IsVacant}
+use Rattle.krs_desk.specs.{Seated.{Me, opening, part}, Steps.{checks_told, Found, looks_told}}
+use Rattle.krs_desk.specs.declared.{slot.SlotValue.SlotValue, token.Sight.Sight}
+use Rattle.krs_desk.proofs.TurnSteps.{housed_set, laid_set, sat_lies, Table, turn, unmoved, view_at, views_set}
+use Rattle.krs_desk.specs.Moves as move
+use Rattle.krs_world.proofs.Joining as joining
+use Rattle.krs_world.proofs.Keeping as law
+use Rattle.krs_world.proofs.Lifting as lifting
+use Rattle.krs_world.proofs.Seating as seating
 
 -- what a view that isn't spent has for the opening state is the key
 pub opening_is :

@@ -1,28 +1,17 @@
 -- A turn that a seat keeps: what its token and its seat are then, and what its caller is told.
-use Rattle.std.proofs.Common.{◌≡◌, ◌≢◌, ℕ, zero, suc, ◌<◌, Bool, true, List, [], ◌∷◌, ◌++◌, Some, None, Option, Result}
-use Rattle.std.proofs.Common.{refl, sym, ap, ◌∙◌, subst, append-nil, arith, inl, inr, ⊎_elim}
-use Rattle.atomic_table.specs.Seated.{TableId}
-use Rattle.atomic_table.specs.Table.{rest}
-use Rattle.krs_types.specs.declared.ask.Ask.{Ask}
-use Rattle.krs_types.specs.declared.ask.Answer.{Answer}
-use Rattle.krs_types.specs.declared.errno.Errno.{Errno}
-use Rattle.krs_types.specs.declared.event.Event.{Event}
-use Rattle.krs_model.specs.State.{State}
-use Rattle.krs_model.specs.Sound.{IsSound}
-use Rattle.krs_model.specs.History.{IsLegal, event_of}
+use Rattle.std.proofs.Common.{[], ⊎_elim, ◌++◌, ◌<◌, ◌∙◌, ◌∷◌, ◌≡◌, ◌≢◌, ap, append-nil, arith, Bool, inl, inr, List}
+use Rattle.std.proofs.Common.{None, Option, refl, Result, Some, subst, suc, sym, true, zero, ℕ}
+use Rattle.atomic_table.specs.{Seated.TableId, Table.rest}
+use Rattle.krs_types.specs.declared.{ask.{Answer.Answer, Ask.Ask}, errno.Errno.Errno, event.Event.Event}
+use Rattle.krs_model.specs.{History.{event_of, IsLegal}, Sound.IsSound, State.State}
 use Rattle.krs_model.proofs.History.Legal.{legal_more}
-use Rattle.krs_world.specs.declared.view.Flight.{Flight}
-use Rattle.krs_world.specs.declared.view.Part.{Part}
-use Rattle.krs_world.specs.Knowing.{events_of, put_own, put_none, kept}
+use Rattle.krs_world.specs.{Knowing.{events_of, kept, put_none, put_own}, declared.view.{Flight.Flight, Part.Part}}
 use Rattle.krs_world.proofs.Keeping.{prefix_self}
-use Rattle.krs_desk.specs.declared.slot.SlotValue.{SlotValue}
-use Rattle.krs_desk.specs.declared.slot.SlotValue.TheVariants.{Home}
-use Rattle.krs_desk.specs.Parts.{sat, hand_of}
-use Rattle.krs_desk.specs.Sitting.{Sitting, Adds, rested}
-use Rattle.krs_desk.specs.Seated.{Me, part, opening, sitting_of, is_free, IsSeated, Serves}
-use Rattle.krs_desk.specs.Helping.{HoldsAll, Goes, Finishes, HasLooked, below, lanes_of, held_of}
-use Rattle.krs_desk.specs.Keeping.{HasKept, given_back, at_rest, IsPlaced, GoesRound, GoesOn}
-use Rattle.krs_desk.proofs.Turns.{serves_is, serves_last, adds}
+use Rattle.krs_desk.specs.Helping.{below, Finishes, Goes, HasLooked, held_of, HoldsAll, lanes_of}
+use Rattle.krs_desk.specs.Keeping.{at_rest, given_back, GoesOn, GoesRound, HasKept, IsPlaced}
+use Rattle.krs_desk.specs.{Parts.{hand_of, sat}, Seated.{is_free, IsSeated, Me, opening, part, Serves, sitting_of}}
+use Rattle.krs_desk.specs.{Sitting.{Adds, rested, Sitting}, declared.slot.SlotValue.{SlotValue, TheVariants.Home}}
+use Rattle.krs_desk.proofs.Turns.{adds, serves_is, serves_last}
 
 -- A seat, whether or not it has kept a turn.
 

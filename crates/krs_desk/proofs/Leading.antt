@@ -1,47 +1,31 @@
 -- Whatever happens to a table, the machine that it is makes steps; and a desk that was just opened is the machine as it
 -- begins.
-use Rattle.std.proofs.Common.{◌≡◌, ◌≢◌, ℕ, zero, suc, ◌+◌, ◌<◌, ◌≤◌, List, [], ◌∷◌, ◌++◌}
-use Rattle.std.proofs.Common.{None, refl, sym, ap, ◌∙◌, subst, set, inl, inr, ⊎_elim, ◌⊎◌, length, length-set}
-use Rattle.std.proofs.Common.{get_or, arith}
-use mathlib.Core.Option.{some, some-injective, some-ne-none}
-use mathlib.Core.Logic.{dite}
-use native.Mathlib.Decide.{ℕ_discrete}
+use Rattle.std.proofs.Common.{[], ⊎_elim, ◌++◌, ◌+◌, ◌<◌, ◌∙◌, ◌∷◌, ◌≡◌, ◌≢◌, ◌≤◌, ◌⊎◌, ap, arith, get_or, inl, inr}
+use Rattle.std.proofs.Common.{length, length-set, List, None, refl, set, subst, suc, sym, zero, ℕ}
 use lib.ListN.{get_elem?}
+use mathlib.Core.{Logic.dite, Option.{some, some-injective, some-ne-none}}
+use native.Mathlib.Decide.{ℕ_discrete}
 use Rattle.krs_types.specs.declared.event.Event.{Event}
-use Rattle.krs_model.specs.State.{State, starting_at}
-use Rattle.krs_model.specs.Lists.{Begins}
-use Rattle.krs_model.specs.History.{IsLegal}
-use Rattle.krs_model.proofs.History.Determined.{one_history}
-use Rattle.krs_model.proofs.History.Legal.{legal_none}
-use Rattle.krs_world.specs.declared.step.Kind.TheVariants.{Load}
-use Rattle.krs_world.specs.declared.step.WorldStep.{WorldStep}
-use Rattle.krs_world.specs.declared.view.Cell.{Cell}
-use Rattle.krs_world.specs.declared.view.Cell.TheVariants as cells
-use Rattle.krs_world.specs.declared.view.Part.{Part}
-use Rattle.krs_world.specs.declared.view.Standing.{Standing}
-use Rattle.krs_world.specs.declared.view.Standing.TheVariants.{Spent, One, Two, Opening}
-use Rattle.krs_world.specs.declared.view.View.{View}
-use Rattle.krs_world.specs.Knowing.{fresh, loaded, events_of}
-use Rattle.krs_world.specs.History.{HasSeen, Stands}
-use Rattle.krs_world.specs.World.{Turn, Free, Out, World, IsHistoryBy, Runs, begun, empty_cells}
-use Rattle.krs_world.specs.World.{reseated}
-use Rattle.krs_world.proofs.Keeping as law
+use Rattle.krs_model.specs.{History.IsLegal, Lists.Begins, State.{starting_at, State}}
+use Rattle.krs_model.proofs.History.{Determined.one_history, Legal.legal_none}
+use Rattle.krs_world.specs.{History.{HasSeen, Stands}, Knowing.{events_of, fresh, loaded}}
+use Rattle.krs_world.specs.World.{begun, empty_cells, Free, IsHistoryBy, Out, reseated, Runs, Turn, World}
+use Rattle.krs_world.specs.declared.{step.{Kind.TheVariants.Load, WorldStep.WorldStep}, view.{Cell.Cell, Part.Part}}
+use Rattle.krs_world.specs.declared.view.{Standing.{Standing, TheVariants.{One, Opening, Spent, Two}}, View.View}
 use Rattle.krs_world.proofs.Beginning.{fresh_here, fresh_there}
-use Rattle.krs_desk.specs.declared.token.Sight.{Sight}
-use Rattle.krs_desk.specs.Parts.{views_of, kept_sight, given_sight, kept_of, given_of, both_sights, settled_sight, spent}
-use Rattle.krs_desk.specs.Parts.{part_of}
-use Rattle.krs_desk.specs.Rule.{InOneOrder}
-use Rattle.krs_desk.specs.Moves.{IsMoved, IsReading, HasTurn}
-use Rattle.krs_desk.specs.Running.{Board, IsStepped, IsCut, IsJoined, Happens}
-use Rattle.krs_desk.specs.Machine.{Sits, IsSeatedIn, IsWorld, RunsAs, BeginsAs, FollowsSteps, steps_by, step_by}
+use Rattle.krs_desk.specs.Machine.{BeginsAs, FollowsSteps, IsSeatedIn, IsWorld, RunsAs, Sits, step_by, steps_by}
+use Rattle.krs_desk.specs.{Moves.{HasTurn, IsMoved, IsReading}, Parts.{both_sights, given_of, given_sight, kept_of}}
+use Rattle.krs_desk.specs.{Parts.{kept_sight, part_of, settled_sight, spent, views_of}, Rule.InOneOrder}
+use Rattle.krs_desk.specs.{Running.{Board, Happens, IsCut, IsJoined, IsStepped}, declared.token.Sight.Sight}
+use Rattle.krs_desk.proofs.Adding.{now_views, was_there}
+use Rattle.krs_desk.proofs.Agreeing.{Agrees, agrees, history_of, holder_there, is_world, known_at, not_dealing, shared}
+use Rattle.krs_desk.proofs.Going.{cell_stays, keeps_served, last_same_of, log_back, same_log, same_serving, same_world}
+use Rattle.krs_desk.proofs.{Joining.{views_cut, views_twice}, Looking.not_both}
+use Rattle.krs_desk.proofs.Making.{AreSeats, Leads, out_set, reads_words, Replaced, seats_as, seats_set, steps_as}
+use Rattle.krs_desk.proofs.Running.{by_cut, by_join, same_view, seen_sits, step_grows, within}
 use Rattle.krs_desk.proofs.TurnSteps.{turn, view_at}
-use Rattle.krs_desk.proofs.Joining.{views_cut, views_twice}
-use Rattle.krs_desk.proofs.Looking.{not_both}
-use Rattle.krs_desk.proofs.Running.{same_view, within, seen_sits, by_cut, by_join, step_grows}
-use Rattle.krs_desk.proofs.Adding.{was_there, now_views}
-use Rattle.krs_desk.proofs.Agreeing.{shared, Agrees, known_at, holder_there, agrees, is_world, history_of, not_dealing}
-use Rattle.krs_desk.proofs.Going.{cell_stays, same_serving, keeps_served, same_log, log_back, last_same_of, same_world}
-use Rattle.krs_desk.proofs.Making.{AreSeats, Replaced, seats_set, seats_as, out_set, reads_words, steps_as, Leads}
+use Rattle.krs_world.proofs.Keeping as law
+use Rattle.krs_world.specs.declared.view.Cell.TheVariants as cells
 
 zero_of : (n : ℕ) → n ≤ 2 → n ≢ 1 → n ≢ 2 → n ≡ 0
 zero_of zero le not dealt = refl

@@ -1,16 +1,12 @@
 -- What a lane knows of its turns and looks is what its token's steps made: no look out of turn, and none forgotten.
-use Rattle.std.proofs.Common.{◌≡◌, ◌≢◌, ℕ, ◌+◌, eqb, ◌&&◌, List, [], ◌∷◌, ◌++◌, Option, Some, None, refl, sym, ap}
-use Rattle.std.proofs.Common.{◌∙◌, arith}
+use Rattle.std.proofs.Common.{[], ◌&&◌, ◌++◌, ◌+◌, ◌∙◌, ◌∷◌, ◌≡◌, ◌≢◌, ap, arith, eqb, List, None, Option, refl, Some}
+use Rattle.std.proofs.Common.{sym, ℕ}
 use Rattle.atomic_table.specs.Table.{Step}
 use Rattle.krs_types.specs.declared.event.Event.{Event}
-use Rattle.krs_world.specs.declared.view.Part.{Part}
-use Rattle.krs_world.specs.declared.view.Standing.{Standing}
-use Rattle.krs_world.specs.Knowing.{taken, missed, looked_at}
-use Rattle.krs_desk.specs.declared.slot.SlotValue.{SlotValue}
-use Rattle.krs_desk.specs.Parts.{part_of}
+use Rattle.krs_world.specs.{Knowing.{looked_at, missed, taken}, declared.view.{Part.Part, Standing.Standing}}
+use Rattle.krs_desk.specs.Moves.{after, CountsLooks, CountsMisses, CountsTurns, HasTurn, IsMadeAt, IsTry, LooksInTurn}
+use Rattle.krs_desk.specs.{Moves.Move, Parts.part_of, declared.slot.SlotValue.SlotValue}
 use Rattle.krs_desk.specs.Moves as move
-use Rattle.krs_desk.specs.Moves.{Move, after, IsMadeAt, IsTry, HasTurn, LooksInTurn, CountsLooks, CountsMisses}
-use Rattle.krs_desk.specs.Moves.{CountsTurns}
 
 no_longer : (l : List ℕ) (x : ℕ) → l ≡ l ++ x ∷ [] → ⊥
 no_longer [] x e = absurd cc

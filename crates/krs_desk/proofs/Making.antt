@@ -1,48 +1,34 @@
 -- Each step of a lane's token is the machine's of its name, on the machine that the table is.
-use Rattle.std.proofs.Common.{◌≡◌, ◌≢◌, ℕ, zero, suc, ◌+◌, ◌<◌, ◌≤◌, eqb, ◌&&◌, Bool, true, false, cond, List, [], ◌∷◌}
-use Rattle.std.proofs.Common.{◌++◌, Option, Some, None, refl, sym, ap, ◌∙◌, subst, set, inl, inr, ⊎_elim, ◌⊎◌, length}
-use Rattle.std.proofs.Common.{length-append, length-set, get_or, get_or-set_other, get_or-set_same, arith, lt_of_not-le, append-nil}
-use mathlib.Core.Option.{some, some-injective}
-use mathlib.Core.Logic.{dite}
-use native.Mathlib.Decide.{ℕ_discrete, dec_le}
+use Rattle.std.proofs.Common.{[], ⊎_elim, ◌&&◌, ◌++◌, ◌+◌, ◌<◌, ◌∙◌, ◌∷◌, ◌≡◌, ◌≢◌, ◌≤◌, ◌⊎◌, ap, append-nil, arith}
+use Rattle.std.proofs.Common.{Bool, cond, eqb, false, get_or, get_or-set_other, get_or-set_same, inl, inr, length}
+use Rattle.std.proofs.Common.{length-append, length-set, List, lt_of_not-le, None, Option, refl, set, Some, subst, suc}
+use Rattle.std.proofs.Common.{sym, true, zero, ℕ}
 use lib.ListN.{get_elem?}
-use Rattle.krs_types.specs.declared.ask.Ask.{Ask}
-use Rattle.krs_types.specs.declared.event.Event.{Event}
-use Rattle.krs_model.specs.State.{State}
-use Rattle.krs_model.specs.Lists.{Begins}
-use Rattle.krs_model.specs.Step.{Step}
-use Rattle.krs_model.specs.History.{event_of, IsLegal}
-use Rattle.krs_world.specs.declared.view.Cell.{Cell}
-use Rattle.krs_world.specs.declared.view.Cell.TheVariants as cells
-use Rattle.krs_world.specs.declared.view.Flight.{Flight}
-use Rattle.krs_world.specs.declared.view.Part.{Part}
-use Rattle.krs_world.specs.declared.view.Service.{Service}
-use Rattle.krs_world.specs.declared.view.Standing.TheVariants.{One}
-use Rattle.krs_world.specs.declared.view.View.{View}
-use Rattle.krs_world.specs.Knowing.{events_of, service, flight, put_own, answered, collected, looked_at, kept}
+use mathlib.Core.{Logic.dite, Option.{some, some-injective}}
+use native.Mathlib.Decide.{dec_le, ℕ_discrete}
+use Rattle.krs_types.specs.declared.{ask.Ask.Ask, event.Event.Event}
+use Rattle.krs_model.specs.{History.{event_of, IsLegal}, Lists.Begins, State.State, Step.Step}
 use Rattle.krs_world.specs.History.{Fits}
-use Rattle.krs_world.specs.declared.step.Kind.{Kind}
-use Rattle.krs_world.specs.declared.step.Kind.TheVariants.{Take, TakeFound, Put, Load, Post, Grab, Answer, Collect}
-use Rattle.krs_world.specs.declared.step.Kind.TheVariants.{CollectFound, LookAt, Serve}
-use Rattle.krs_world.specs.declared.step.WorldStep.{WorldStep}
-use Rattle.krs_world.specs.World as world
-use Rattle.krs_world.specs.World.{Turn, Free, Out, World, IsHistory, IsUnanswered, is_answered, Runs, StepsAs}
-use Rattle.krs_world.specs.World.{reseated, recelled, brought_home}
-use Rattle.krs_world.proofs.Keeping as law
-use Rattle.krs_desk.specs.Parts.{views_of}
-use Rattle.krs_desk.specs.Rule.{CellIs, InOneOrder}
-use Rattle.krs_desk.specs.Moves as move
-use Rattle.krs_desk.specs.Moves.{Move, after, IsMadeAt, HasTurn}
-use Rattle.krs_desk.specs.Running.{Board, IsStepped, IsLeft}
+use Rattle.krs_world.specs.Knowing.{answered, collected, events_of, flight, kept, looked_at, put_own, service}
+use Rattle.krs_world.specs.World.{brought_home, Free, is_answered, IsHistory, IsUnanswered, Out, recelled, reseated}
+use Rattle.krs_world.specs.World.{Runs, StepsAs, Turn, World}
+use Rattle.krs_world.specs.declared.step.Kind.{Kind, TheVariants.{Answer, Collect, CollectFound, Grab, Load, LookAt}}
+use Rattle.krs_world.specs.declared.step.Kind.TheVariants.{Post, Put, Serve, Take, TakeFound}
+use Rattle.krs_world.specs.declared.{step.WorldStep.WorldStep, view.{Cell.Cell, Flight.Flight, Part.Part}}
+use Rattle.krs_world.specs.declared.view.{Service.Service, Standing.TheVariants.One, View.View}
+use Rattle.krs_desk.specs.Machine.{IsOutIn, IsSeatedIn, IsWorld, Sits, step_by, steps_by}
+use Rattle.krs_desk.specs.Moves.{after, HasTurn, IsMadeAt, Move}
+use Rattle.krs_desk.specs.{Parts.views_of, Rule.{CellIs, InOneOrder}, Running.{Board, IsLeft, IsStepped}}
+use Rattle.krs_desk.proofs.Adding.{afterwards, before, last_same, now_views, steps_as_named, turn_becomes, was_there}
+use Rattle.krs_desk.proofs.{Adding.word_found, Agreeing.{Agrees, agrees, free_turn, history_of, is_world, known_at}}
+use Rattle.krs_desk.proofs.Agreeing.{not_dealing, out_here, out_turn, seat_there, Slot}
+use Rattle.krs_desk.proofs.Going.{cell_stays, keeps_served, last_same_of, not_longer, one_call, same_serving}
+use Rattle.krs_desk.proofs.{Going.same_world, Looking.not_both, Running.{same_view, within}, TurnSteps.{turn, view_at}}
 use Rattle.krs_desk.specs.Machine as machine
-use Rattle.krs_desk.specs.Machine.{Sits, IsSeatedIn, IsOutIn, IsWorld, steps_by, step_by}
-use Rattle.krs_desk.proofs.TurnSteps.{turn, view_at}
-use Rattle.krs_desk.proofs.Looking.{not_both}
-use Rattle.krs_desk.proofs.Running.{same_view, within}
-use Rattle.krs_desk.proofs.Adding.{was_there, now_views, before, afterwards, last_same, steps_as_named, word_found, turn_becomes}
-use Rattle.krs_desk.proofs.Agreeing.{Slot, Agrees, known_at, seat_there, agrees, is_world, history_of}
-use Rattle.krs_desk.proofs.Agreeing.{free_turn, out_turn, not_dealing, out_here}
-use Rattle.krs_desk.proofs.Going.{cell_stays, same_serving, keeps_served, last_same_of, same_world, not_longer, one_call}
+use Rattle.krs_desk.specs.Moves as move
+use Rattle.krs_world.proofs.Keeping as law
+use Rattle.krs_world.specs.World as world
+use Rattle.krs_world.specs.declared.view.Cell.TheVariants as cells
 
 -- Lists of seats.
 

@@ -1,42 +1,26 @@
 -- Posting a call and collecting its reply keep the rule of the table, and what their callers are told.
-use Rattle.std.proofs.Common.{◌≡◌, ℕ, ◌+◌, ◌<◌, eqb, Bool, true, false, List, [], ◌∷◌, ◌++◌, get_or}
-use Rattle.std.proofs.Common.{Some, None, Result, refl, sym, ap, ◌∙◌, subst, arith, eq-eqb, ne_eqb}
-use mathlib.Core.Option.{none, some}
-use mathlib.Core.Option as maybe
-use mathlib.Core.Logic.{dite}
+use Rattle.std.proofs.Common.{[], ◌++◌, ◌+◌, ◌<◌, ◌∙◌, ◌∷◌, ◌≡◌, ap, arith, Bool, eq-eqb, eqb, false, get_or, List}
+use Rattle.std.proofs.Common.{ne_eqb, None, refl, Result, Some, subst, sym, true, ℕ}
+use Rattle.atomic_table.specs.{Seated.TableId, Table.{Allows, gives, keeps, rest, step, stepped, takes}}
+use lib.ListN.{get_elem?}
+use mathlib.Core.{Logic.dite, Option.{none, some}}
 use native.Mathlib.Decide.{ℕ_discrete}
 use prog.Atomic.{either}
-use lib.ListN.{get_elem?}
-use Rattle.atomic_table.specs.Seated.{TableId}
-use Rattle.atomic_table.specs.Table.{step, stepped, keeps, takes, gives, rest, Allows}
-use Rattle.krs_types.specs.declared.ask.Ask.{Ask}
-use Rattle.krs_types.specs.declared.ask.Answer.{Answer}
-use Rattle.krs_types.specs.declared.errno.Errno.{Errno}
-use Rattle.krs_types.specs.declared.event.Event.{Event}
-use Rattle.krs_model.specs.Lists.{Begins}
-use Rattle.krs_model.specs.History.{event_of}
-use Rattle.krs_model.specs.State.{State}
-use Rattle.krs_world.specs.declared.view.Cell.{Cell}
-use Rattle.krs_world.specs.declared.view.Cell.TheVariants as cells
-use Rattle.krs_world.specs.declared.view.Part.{Part}
-use Rattle.krs_world.specs.declared.view.View.{View}
-use Rattle.krs_world.specs.Knowing.{one, posted, collected}
+use Rattle.krs_types.specs.declared.{ask.{Answer.Answer, Ask.Ask}, errno.Errno.Errno, event.Event.Event}
+use Rattle.krs_model.specs.{History.event_of, Lists.Begins, State.State}
 use Rattle.krs_world.specs.History.{Fits}
+use Rattle.krs_world.specs.{Knowing.{collected, one, posted}, declared.view.{Cell.Cell, Part.Part, View.View}}
+use Rattle.krs_desk.specs.{Moves.{moved_told, stored_told}, Parts.{hand_of, sat, views_of}}
+use Rattle.krs_desk.specs.{Rule.{CellIs, InOneOrder, IsVacant}, Seated.{IsSeated, Me, opening, part, sitting_of}}
+use Rattle.krs_desk.specs.{Sitting.{Collects, posted_by, Sitting}, Steps.{collects_told, Gathers, posts_told}}
+use Rattle.krs_desk.specs.declared.{slot.SlotValue.{SlotValue, TheVariants.{Asked, Empty, Replied}}, token.Sight.Sight}
+use Rattle.krs_desk.proofs.Cells.{lies_apart, moved_cell}
+use Rattle.krs_desk.proofs.{Seats.own_slot, TurnSteps.{any_key, sat_lies, Slot, turn, unmoved, view_at}}
+use Rattle.krs_desk.specs.Moves as move
 use Rattle.krs_world.proofs.Keeping as law
 use Rattle.krs_world.proofs.Posting as posting
-use Rattle.krs_desk.specs.declared.slot.SlotValue.{SlotValue}
-use Rattle.krs_desk.specs.declared.slot.SlotValue.TheVariants.{Empty, Asked, Replied}
-use Rattle.krs_desk.specs.declared.token.Sight.{Sight}
-use Rattle.krs_desk.specs.Parts.{sat, views_of, hand_of}
-use Rattle.krs_desk.specs.Rule.{CellIs, IsVacant, InOneOrder}
-use Rattle.krs_desk.specs.Steps.{posts_told, collects_told, Gathers}
-use Rattle.krs_desk.specs.Sitting.{Sitting, posted_by, Collects}
-use Rattle.krs_desk.specs.Moves as move
-use Rattle.krs_desk.specs.Moves.{moved_told, stored_told}
-use Rattle.krs_desk.specs.Seated.{Me, opening, part, sitting_of, IsSeated}
-use Rattle.krs_desk.proofs.TurnSteps.{Slot, turn, unmoved, view_at, sat_lies, any_key}
-use Rattle.krs_desk.proofs.Cells.{lies_apart, moved_cell}
-use Rattle.krs_desk.proofs.Seats.{own_slot}
+use Rattle.krs_world.specs.declared.view.Cell.TheVariants as cells
+use mathlib.Core.Option as maybe
 
 -- Posting.
 

@@ -1,10 +1,8 @@
 -- Of the list that a seat has seen: a key that a uid has to itself is read by it alone.
 use Rattle.std.proofs.Common.{List, subst}
 use Rattle.krs_types.specs.declared.event.Event.{Event}
-use Rattle.krs_model.specs.State.{State}
-use Rattle.krs_model.specs.Sound.{IsSound}
-use Rattle.krs_model.specs.History.{IsLegal}
-use Rattle.krs_model.proofs.Isolation.Histories.{private_legal, keeps_to_itself}
+use Rattle.krs_model.specs.{History.IsLegal, Sound.IsSound, State.State}
+use Rattle.krs_model.proofs.Isolation.Histories.{keeps_to_itself, private_legal}
 use Rattle.krs_desk.specs.Confidentiality.{AreReadAlone}
 use Rattle.krs_desk.proofs.Seen.{next_step}
 

@@ -1,42 +1,26 @@
 -- Whatever happens to a table, what was seen stays seen, and the history only grows.
-use Rattle.std.proofs.Common.{◌≡◌, ◌≢◌, ◌⊎◌, ℕ, List, [], ◌∷◌, ◌++◌, Option, Some, None, refl, sym, ap, ◌∙◌, subst, set}
-use Rattle.std.proofs.Common.{inl, inr, ⊎_elim, length, get_or}
-use mathlib.Core.Option.{some, some-injective}
-use mathlib.Core.Logic.{dite}
-use native.Mathlib.Decide.{ℕ_discrete}
-use lib.ListN.{get_elem?}
+use Rattle.std.proofs.Common.{[], ⊎_elim, ◌++◌, ◌∙◌, ◌∷◌, ◌≡◌, ◌≢◌, ◌⊎◌, ap, get_or, inl, inr, length, List, None}
+use Rattle.std.proofs.Common.{Option, refl, set, Some, subst, sym, ℕ}
 use Rattle.atomic_table.specs.Table.{Step}
+use lib.ListN.{get_elem?}
+use mathlib.Core.{Logic.dite, Option.{some, some-injective}}
+use native.Mathlib.Decide.{ℕ_discrete}
 use Rattle.krs_types.specs.declared.event.Event.{Event}
-use Rattle.krs_model.specs.State.{State, starting_at}
-use Rattle.krs_model.specs.Lists.{Begins}
-use Rattle.krs_model.specs.Revocation.{StaysUnread}
-use Rattle.krs_world.specs.declared.view.Part.{Part}
-use Rattle.krs_world.specs.declared.view.Standing.{Standing}
-use Rattle.krs_world.specs.declared.view.Standing.TheVariants.{Spent, One, Two, Opening}
-use Rattle.krs_world.specs.declared.view.View.{View}
-use Rattle.krs_world.specs.Knowing.{loaded, one}
-use Rattle.krs_world.specs.History.{Shared, Known, Stands, HasSeen}
-use Rattle.krs_world.specs.History as history
+use Rattle.krs_model.specs.{Lists.Begins, Revocation.StaysUnread, State.{starting_at, State}}
 use Rattle.krs_world.specs.Between.{IsSeenBy}
-use Rattle.krs_world.proofs.Keeping as law
-use Rattle.krs_world.proofs.Between.{seen_begins_log}
-use Rattle.krs_world.proofs.Orders.{either_begins}
-use Rattle.krs_desk.specs.declared.slot.SlotValue.{SlotValue}
-use Rattle.krs_desk.specs.declared.token.Sight.{Sight}
-use Rattle.krs_desk.specs.Parts.{views_of, part_of, kept_of, given_of, kept_sight, given_sight, both_sights}
-use Rattle.krs_desk.specs.Parts.{settled_sight}
-use Rattle.krs_desk.specs.Parts.{spent, cell_of, sight}
-use Rattle.krs_desk.specs.Rule.{InOneOrder}
+use Rattle.krs_world.specs.{History.{HasSeen, Known, Shared, Stands}, Knowing.{loaded, one}, declared.view.Part.Part}
+use Rattle.krs_world.specs.declared.view.{Standing.{Standing, TheVariants.{One, Opening, Spent, Two}}, View.View}
+use Rattle.krs_world.proofs.{Between.seen_begins_log, Orders.either_begins}
+use Rattle.krs_desk.specs.{Between.StaysSeen, Machine.{IsSeatedIn, Sits}, Moves.{after, IsMadeAt, IsMoved, Move}}
+use Rattle.krs_desk.specs.Parts.{both_sights, cell_of, given_of, given_sight, kept_of, kept_sight, part_of}
+use Rattle.krs_desk.specs.{Parts.{settled_sight, sight, spent, views_of}, Rule.InOneOrder}
+use Rattle.krs_desk.specs.Running.{Board, Happens, IsCut, IsJoined, IsStepped, KeepsRealTime, KeepsSeenLists, OnlyGrows}
+use Rattle.krs_desk.specs.{Running.{SeesOneOrder, StaysRefused}, declared.{slot.SlotValue.SlotValue, token.Sight.Sight}}
+use Rattle.krs_desk.proofs.Between.{collected, idle_word, real_time, refuses_revoked, seen_by}
+use Rattle.krs_desk.proofs.{Joining.{views_cut, views_twice}, Looking.not_both, TurnSteps.{turn, view_at, views_set}}
 use Rattle.krs_desk.specs.Moves as move
-use Rattle.krs_desk.specs.Moves.{Move, after, IsMadeAt, IsMoved}
-use Rattle.krs_desk.specs.Between.{StaysSeen}
-use Rattle.krs_desk.specs.Machine.{Sits, IsSeatedIn}
-use Rattle.krs_desk.specs.Running.{Board, IsStepped, IsCut, IsJoined, Happens}
-use Rattle.krs_desk.specs.Running.{KeepsSeenLists, OnlyGrows, SeesOneOrder, KeepsRealTime, StaysRefused}
-use Rattle.krs_desk.proofs.TurnSteps.{turn, view_at, views_set}
-use Rattle.krs_desk.proofs.Joining.{views_cut, views_twice}
-use Rattle.krs_desk.proofs.Looking.{not_both}
-use Rattle.krs_desk.proofs.Between.{seen_by, idle_word, real_time, collected, refuses_revoked}
+use Rattle.krs_world.proofs.Keeping as law
+use Rattle.krs_world.specs.History as history
 
 -- What becomes of a lane.
 

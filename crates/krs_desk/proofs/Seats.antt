@@ -1,20 +1,13 @@
 -- Seats after a missed turn, and after a meeting: what holds of them, and what their callers are told.
-use Rattle.std.proofs.Common.{◌≡◌, ℕ, ◌+◌, Bool, true, List, [], ◌∷◌, None, refl, sym, ap, ◌∙◌, subst}
-use Rattle.atomic_table.specs.Seated.{TableId}
-use Rattle.atomic_table.specs.Table.{rest}
+use Rattle.std.proofs.Common.{[], ◌+◌, ◌∙◌, ◌∷◌, ◌≡◌, ap, Bool, List, None, refl, subst, sym, true, ℕ}
+use Rattle.atomic_table.specs.{Seated.TableId, Table.rest}
 use Rattle.krs_types.specs.declared.event.Event.{Event}
-use Rattle.krs_model.specs.State.{State}
-use Rattle.krs_model.specs.Sound.{IsSound}
-use Rattle.krs_model.specs.History.{IsLegal}
+use Rattle.krs_model.specs.{History.IsLegal, Sound.IsSound, State.State}
 use Rattle.krs_model.proofs.History.Legal.{legal_none}
-use Rattle.krs_world.specs.Knowing.{fresh, missed, loaded}
-use Rattle.krs_desk.specs.declared.slot.SlotValue.{SlotValue}
-use Rattle.krs_desk.specs.declared.slot.SlotValue.TheVariants.{Empty, Home}
-use Rattle.krs_desk.specs.Parts.{sat, hand_of}
-use Rattle.krs_desk.specs.Steps.{Found}
-use Rattle.krs_desk.specs.Sitting.{Sitting, missed_by, Meets}
-use Rattle.krs_desk.specs.Seated.{Me, part, opening, sitting_of, IsSeated}
-use Rattle.krs_desk.specs.Seated.{SeeOneList}
+use Rattle.krs_world.specs.Knowing.{fresh, loaded, missed}
+use Rattle.krs_desk.specs.Parts.{hand_of, sat}
+use Rattle.krs_desk.specs.{Seated.{IsSeated, Me, opening, part, SeeOneList, sitting_of}, Sitting.{Meets, Sitting}}
+use Rattle.krs_desk.specs.{Steps.Found, declared.slot.SlotValue.{SlotValue, TheVariants.{Empty, Home}}}
 
 -- the slots in hand, of which this one comes first
 pub front : (c : List (ℕ × SlotValue)) (x : ℕ × SlotValue) (xs : List (ℕ × SlotValue)) → c ≡ x ∷ xs → c ≡ x ∷ rest c

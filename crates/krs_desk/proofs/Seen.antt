@@ -1,20 +1,12 @@
 -- The laws of a store, told of the list that a seat has seen.
-use Rattle.std.proofs.Common.{◌≡◌, List, [], ◌∷◌, ◌++◌, refl, subst, ⊎_elim}
-use Rattle.krs_types.specs.declared.event.Event.{Event}
-use Rattle.krs_model.specs.State.{State}
-use Rattle.krs_model.specs.Sound.{IsSound}
-use Rattle.krs_model.specs.Step.{Step}
-use Rattle.krs_model.specs.History.{IsLegal}
-use Rattle.krs_types.specs.declared.ask.Op.TheVariants.{Invalidate}
-use Rattle.krs_model.specs.Revocation.{StaysUnread, Revokes, IsServed}
-use Rattle.krs_model.specs.Secrecy.{ReadsByRight}
-use Rattle.krs_model.proofs.History.Determined.{one_history, legal_moves}
-use Rattle.krs_model.proofs.History.Streams.{gives_streams}
-use Rattle.krs_model.specs.Table.{IsBelow}
+use Rattle.std.proofs.Common.{[], ⊎_elim, ◌++◌, ◌∷◌, ◌≡◌, List, refl, subst}
+use Rattle.krs_types.specs.declared.{ask.Op.TheVariants.Invalidate, event.Event.Event}
+use Rattle.krs_model.specs.{History.IsLegal, Revocation.{IsServed, Revokes, StaysUnread}, Secrecy.ReadsByRight}
+use Rattle.krs_model.specs.{Sound.IsSound, State.State, Step.Step, Table.IsBelow}
 use Rattle.krs_model.proofs.Asks.LaterByStep.{legal_follows}
-use Rattle.krs_model.proofs.Hiding.Gone.{revoked_gone, stays_gone, tells_nobody}
-use Rattle.krs_model.proofs.Hiding.Invalidated.{invalidated_gone}
-use Rattle.krs_desk.specs.Seen.{IsNotReadRevoked, AreReadByRight, GivesItsStreams, TellsNobodyAfter}
+use Rattle.krs_model.proofs.Hiding.{Gone.{revoked_gone, stays_gone, tells_nobody}, Invalidated.invalidated_gone}
+use Rattle.krs_model.proofs.History.{Determined.{legal_moves, one_history}, Streams.gives_streams}
+use Rattle.krs_desk.specs.Seen.{AreReadByRight, GivesItsStreams, IsNotReadRevoked, TellsNobodyAfter}
 
 -- a legal history, cut in two
 pub legal_cut :

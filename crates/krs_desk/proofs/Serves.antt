@@ -1,41 +1,26 @@
 -- The steps of a holder that answers posted calls keep the rule of the table.
-use Rattle.std.proofs.Common.{◌≡◌, ◌≢◌, ℕ, ◌+◌, ◌<◌, ◌&&◌, eqb, Bool, true, false, List, ◌∷◌, length}
-use Rattle.std.proofs.Common.{get_or, Some, None, Result, ⊎_elim, refl, sym, ap, ◌∙◌, subst, arith, eq-eqb}
-use Rattle.std.proofs.Common.{ne_eqb}
-use mathlib.Core.Option.{none, some}
-use mathlib.Core.Option as maybe
-use mathlib.Core.Logic.{dite}
+use Rattle.std.proofs.Common.{⊎_elim, ◌&&◌, ◌+◌, ◌<◌, ◌∙◌, ◌∷◌, ◌≡◌, ◌≢◌, ap, arith, Bool, eq-eqb, eqb, false, get_or}
+use Rattle.std.proofs.Common.{length, List, ne_eqb, None, refl, Result, Some, subst, sym, true, ℕ}
+use Rattle.atomic_table.specs.Table.{Allows, gives, keeps, step, stepped, takes}
+use lib.ListN.{get_elem?}
+use mathlib.Core.{Logic.dite, Option.{none, some}}
 use native.Mathlib.Decide.{ℕ_discrete}
 use prog.Atomic.{either}
-use lib.ListN.{get_elem?}
-use Rattle.atomic_table.specs.Table.{step, stepped, keeps, takes, gives, Allows}
-use Rattle.krs_types.specs.declared.ask.Ask.{Ask}
-use Rattle.krs_types.specs.declared.ask.Answer.{Answer}
-use Rattle.krs_types.specs.declared.errno.Errno.{Errno}
-use Rattle.krs_types.specs.declared.event.Event.{Event}
-use Rattle.krs_model.specs.History.{IsLegal, event_of}
-use Rattle.krs_model.specs.State.{State}
-use Rattle.krs_model.specs.Step.{Step}
-use Rattle.krs_world.specs.declared.view.Cell.{Cell}
-use Rattle.krs_world.specs.declared.view.Cell.TheVariants as cells
-use Rattle.krs_world.specs.declared.view.Part.{Part}
-use Rattle.krs_world.specs.declared.view.View.{View}
-use Rattle.krs_world.specs.Knowing.{events_of, one, service, grabbed, answered, looked_at, put_none}
+use Rattle.krs_types.specs.declared.{ask.{Answer.Answer, Ask.Ask}, errno.Errno.Errno, event.Event.Event}
+use Rattle.krs_model.specs.{History.{event_of, IsLegal}, State.State, Step.Step}
+use Rattle.krs_world.specs.Knowing.{answered, events_of, grabbed, looked_at, one, put_none, service}
+use Rattle.krs_world.specs.declared.view.{Cell.Cell, Part.Part, View.View}
+use Rattle.krs_desk.specs.{Helping.HoldsAll, Moves.{moved_told, stored_told}, Parts.{hand_of, sat, views_of}}
+use Rattle.krs_desk.specs.Rule.{CellIs, InOneOrder, IsVacant}
+use Rattle.krs_desk.specs.{Seated.{Me, opening, part}, Steps.{answers_told, brings_told, glances_told, grabs_told}}
+use Rattle.krs_desk.specs.declared.{slot.SlotValue.{SlotValue, TheVariants.{Asked, Home, Replied}}, token.Sight.Sight}
+use Rattle.krs_desk.proofs.{Cells.moved_cell, Posts.answered_of}
+use Rattle.krs_desk.proofs.TurnSteps.{any_key, moved_home, sat_lies, Slot, Table, turn, unmoved, view_at}
+use Rattle.krs_desk.specs.Moves as move
 use Rattle.krs_world.proofs.Keeping as law
 use Rattle.krs_world.proofs.Serving as serving
-use Rattle.krs_desk.specs.declared.slot.SlotValue.{SlotValue}
-use Rattle.krs_desk.specs.declared.slot.SlotValue.TheVariants.{Asked, Home, Replied}
-use Rattle.krs_desk.specs.declared.token.Sight.{Sight}
-use Rattle.krs_desk.specs.Parts.{sat, views_of, hand_of}
-use Rattle.krs_desk.specs.Rule.{CellIs, IsVacant, InOneOrder}
-use Rattle.krs_desk.specs.Steps.{glances_told, grabs_told, answers_told, brings_told}
-use Rattle.krs_desk.specs.Moves as move
-use Rattle.krs_desk.specs.Moves.{moved_told, stored_told}
-use Rattle.krs_desk.specs.Seated.{Me, opening, part}
-use Rattle.krs_desk.specs.Helping.{HoldsAll}
-use Rattle.krs_desk.proofs.TurnSteps.{Table, Slot, turn, unmoved, moved_home, view_at, sat_lies, any_key}
-use Rattle.krs_desk.proofs.Cells.{moved_cell}
-use Rattle.krs_desk.proofs.Posts.{answered_of}
+use Rattle.krs_world.specs.declared.view.Cell.TheVariants as cells
+use mathlib.Core.Option as maybe
 
 -- what a lane's cell is whose word is 1
 pub posted_of :

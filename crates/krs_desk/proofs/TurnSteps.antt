@@ -1,38 +1,25 @@
 -- The steps of a call keep the rule of the table: taking the turn, finding it out, and giving it back.
-use Rattle.std.proofs.Common.{◌≡◌, ◌≢◌, ℕ, zero, suc, ◌+◌, ◌<◌, eqb, true, false, List, [], ◌∷◌, get_or, set}
-use Rattle.std.proofs.Common.{length}
-use Rattle.std.proofs.Common.{Option, Some, None, ⊎_elim, refl, sym, ap, ◌∙◌, subst, arith, eq-eqb, ne_eqb, length-set}
-use Rattle.std.proofs.Common.{get_or-set_same, get_or-set_other}
-use mathlib.Core.Option.{none, some, some-injective, some-ne-none}
-use mathlib.Core.Option as maybe
-use mathlib.Core.Logic.{dite}
+use Rattle.std.proofs.Common.{[], ⊎_elim, ◌+◌, ◌<◌, ◌∙◌, ◌∷◌, ◌≡◌, ◌≢◌, ap, arith, eq-eqb, eqb, false, get_or}
+use Rattle.std.proofs.Common.{get_or-set_other, get_or-set_same, length, length-set, List, ne_eqb, None, Option, refl}
+use Rattle.std.proofs.Common.{set, Some, subst, suc, sym, true, zero, ℕ}
+use Rattle.atomic_table.specs.Table.{Allows, gives, keeps, rest, step, stepped, takes}
+use Rattle.atomic_table.proofs.Lists.{set_else, set_here}
+use lib.{ListN.get_elem?, Seq.set-get_or}
+use mathlib.Core.{Logic.dite, Option.{none, some, some-injective, some-ne-none}}
 use native.Mathlib.Decide.{ℕ_discrete}
 use prog.Atomic.{either}
-use lib.ListN.{get_elem?}
-use lib.Seq.{set-get_or}
-use Rattle.atomic_table.specs.Table as table
-use Rattle.atomic_table.specs.Table.{step, stepped, keeps, takes, gives, rest, Allows}
-use Rattle.atomic_table.proofs.Lists.{set_here, set_else}
 use Rattle.krs_types.specs.declared.event.Event.{Event}
-use Rattle.krs_model.specs.State.{State}
-use Rattle.krs_model.specs.Step.{Step}
-use Rattle.krs_model.specs.History.{IsLegal}
-use Rattle.krs_world.specs.declared.view.Cell.{Cell}
-use Rattle.krs_world.specs.declared.view.Part.{Part}
-use Rattle.krs_world.specs.declared.view.View.{View}
-use Rattle.krs_world.specs.declared.view.Standing.TheVariants.{Spent}
-use Rattle.krs_world.specs.Knowing.{events_of, one, taken, missed, put_own, kept}
-use Rattle.krs_world.specs.History.{OneHistory}
-use Rattle.krs_world.proofs.Keeping as law
-use Rattle.krs_desk.specs.declared.slot.SlotValue.{SlotValue}
-use Rattle.krs_desk.specs.declared.slot.SlotValue.TheVariants.{Home}
-use Rattle.krs_desk.specs.declared.token.Sight.{Sight}
-use Rattle.krs_desk.specs.Parts.{sat, views_of, IsLaid, AreHoused, hand_of}
-use Rattle.krs_desk.specs.Rule.{IsAtHome, CellIs, IsVacant, InOneOrder}
-use Rattle.krs_desk.specs.Steps.{takes_told, puts_told, keeps_told}
+use Rattle.krs_model.specs.{History.IsLegal, State.State, Step.Step}
+use Rattle.krs_world.specs.{History.OneHistory, Knowing.{events_of, kept, missed, one, put_own, taken}}
+use Rattle.krs_world.specs.declared.view.{Cell.Cell, Part.Part, Standing.TheVariants.Spent, View.View}
+use Rattle.krs_desk.specs.{Moves.moved_told, Parts.{AreHoused, hand_of, IsLaid, sat, views_of}}
+use Rattle.krs_desk.specs.Rule.{CellIs, InOneOrder, IsAtHome, IsVacant}
+use Rattle.krs_desk.specs.{Seated.{HoldsBefore, Me, opening, part}, Steps.{keeps_told, puts_told, takes_told}}
+use Rattle.krs_desk.specs.declared.{slot.SlotValue.{SlotValue, TheVariants.Home}, token.Sight.Sight}
+use Rattle.atomic_table.specs.Table as table
 use Rattle.krs_desk.specs.Moves as move
-use Rattle.krs_desk.specs.Moves.{moved_told}
-use Rattle.krs_desk.specs.Seated.{Me, opening, part, HoldsBefore}
+use Rattle.krs_world.proofs.Keeping as law
+use mathlib.Core.Option as maybe
 
 abbrev pub Table : Type 0
 Table = table.State SlotValue Sight

@@ -1,26 +1,16 @@
 -- A call that is served as the last of its turn: what its token and its seat are then, and what its caller is told.
-use Rattle.std.proofs.Common.{◌≡◌, ℕ, ◌+◌, Bool, List, [], ◌∷◌, ◌++◌, Some, None, Result, refl, sym, ap}
-use Rattle.std.proofs.Common.{◌∙◌, subst, append-nil, append_assoc, arith}
-use Rattle.atomic_table.specs.Seated.{TableId}
-use Rattle.atomic_table.specs.Table.{rest}
-use Rattle.krs_types.specs.declared.ask.Ask.{Ask}
-use Rattle.krs_types.specs.declared.ask.Answer.{Answer}
-use Rattle.krs_types.specs.declared.errno.Errno.{Errno}
-use Rattle.krs_types.specs.declared.event.Event.{Event}
-use Rattle.krs_model.specs.Lists.{Begins}
-use Rattle.krs_model.specs.State.{State}
-use Rattle.krs_model.specs.Step.{Step}
-use Rattle.krs_model.specs.History.{IsLegal, event_of}
+use Rattle.std.proofs.Common.{[], ◌++◌, ◌+◌, ◌∙◌, ◌∷◌, ◌≡◌, ap, append-nil, append_assoc, arith, Bool, List, None, refl}
+use Rattle.std.proofs.Common.{Result, Some, subst, sym, ℕ}
+use Rattle.atomic_table.specs.{Seated.TableId, Table.rest}
+use Rattle.krs_types.specs.declared.{ask.{Answer.Answer, Ask.Ask}, errno.Errno.Errno, event.Event.Event}
+use Rattle.krs_model.specs.{History.{event_of, IsLegal}, Lists.Begins, State.State, Step.Step}
 use Rattle.krs_model.proofs.History.Legal.{legal_more}
-use Rattle.krs_world.specs.declared.view.Part.{Part}
-use Rattle.krs_world.specs.Knowing.{events_of, put_own}
+use Rattle.krs_world.specs.{Knowing.{events_of, put_own}, declared.view.Part.Part}
 use Rattle.krs_world.proofs.Keeping.{own_event}
-use Rattle.krs_desk.specs.declared.slot.SlotValue.{SlotValue}
-use Rattle.krs_desk.specs.declared.slot.SlotValue.TheVariants.{Home}
-use Rattle.krs_desk.specs.Parts.{sat, hand_of}
-use Rattle.krs_desk.specs.Sitting.{Sitting, Adds}
-use Rattle.krs_desk.specs.Seated.{Me, part, opening, sitting_of, is_free, IsSeated, Holds, Serves, HoldsBefore}
-use Rattle.krs_desk.specs.Helping.{HoldsAll, Goes, Finishes, HasLooked, below, lanes_of, held_of}
+use Rattle.krs_desk.specs.Helping.{below, Finishes, Goes, HasLooked, held_of, HoldsAll, lanes_of}
+use Rattle.krs_desk.specs.Parts.{hand_of, sat}
+use Rattle.krs_desk.specs.Seated.{Holds, HoldsBefore, is_free, IsSeated, Me, opening, part, Serves, sitting_of}
+use Rattle.krs_desk.specs.{Sitting.{Adds, Sitting}, declared.slot.SlotValue.{SlotValue, TheVariants.Home}}
 use Rattle.krs_desk.proofs.Seats.{same_store}
 
 -- The token.

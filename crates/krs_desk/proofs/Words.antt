@@ -1,7 +1,6 @@
 -- The words of a table as it is made.
-use Rattle.std.proofs.Common.{◌≡◌, ℕ, zero, suc, ◌+◌, List, ◌∷◌, length, refl, sym, ap, ◌∙◌, subst, add-one}
-use Rattle.std.proofs.lemmas.List.{length-replicate}
-use Rattle.std.specs.Prelude.{replicate, slice_index, slice_set}
+use Rattle.std.proofs.Common.{◌+◌, ◌∙◌, ◌∷◌, ◌≡◌, add-one, ap, length, List, refl, replicate, slice_index, slice_set}
+use Rattle.std.proofs.{Common.{subst, suc, sym, zero, ℕ}, lemmas.List.length-replicate}
 use Rattle.krs_desk.specs.Rule.{AreZero}
 
 zeroes : (n i : ℕ) → slice_index (replicate n 0) i ≡ 0

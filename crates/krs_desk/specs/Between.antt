@@ -1,25 +1,15 @@
 -- Two moments at which the rule of the table holds: what a call stands behind at the second that wasn't asked, or wasn't
 -- answered, at the first. Herlihy and Wing, "Linearizability" (1990), real-time order.
-use Rattle.std.specs.Prelude.{◌≡◌, ◌≢◌, ℕ, Bool, List, ◌∷◌, ◌++◌, None, Result, slice_index}
-use mathlib.Core.Option.{some}
+use Rattle.std.specs.Prelude.{◌++◌, ◌∷◌, ◌≡◌, ◌≢◌, Bool, List, None, Result, slice_index, ℕ}
 use lib.ListN.{get_elem?}
+use mathlib.Core.Option.{some}
+use Rattle.krs_types.specs.declared.{ask.{Answer.Answer, Ask.Ask}, errno.Errno.Errno, event.Event.Event}
+use Rattle.krs_model.specs.{History.{event_of, IsLegal}, Revocation.{Reads, Revokes}, State.State}
+use Rattle.krs_world.specs.{Between.{IsSeenBy, StandsNext}, Knowing.{events_of, one}, declared.view.Part.Part}
+use Rattle.krs_desk.specs.{Parts.{cell_of, sight, views_of}, Rule.InOneOrder, declared.slot.SlotValue.SlotValue}
+use Rattle.krs_desk.specs.declared.{token.Sight.Sight, word.TheConstants.ANSWERED}
 use Rattle.atomic_table.specs.Table as table
-use Rattle.krs_types.specs.declared.ask.Ask.{Ask}
-use Rattle.krs_types.specs.declared.ask.Answer.{Answer}
-use Rattle.krs_types.specs.declared.errno.Errno.{Errno}
-use Rattle.krs_types.specs.declared.event.Event.{Event}
-use Rattle.krs_model.specs.State.{State}
-use Rattle.krs_model.specs.History.{IsLegal, event_of}
-use Rattle.krs_model.specs.Revocation.{Revokes, Reads}
 use Rattle.krs_world.specs.declared.view.Cell.TheVariants as cells
-use Rattle.krs_world.specs.declared.view.Part.{Part}
-use Rattle.krs_world.specs.Knowing.{one, events_of}
-use Rattle.krs_world.specs.Between.{StandsNext, IsSeenBy}
-use Rattle.krs_desk.specs.declared.slot.SlotValue.{SlotValue}
-use Rattle.krs_desk.specs.declared.token.Sight.{Sight}
-use Rattle.krs_desk.specs.declared.word.TheConstants.{ANSWERED}
-use Rattle.krs_desk.specs.Parts.{cell_of, sight, views_of}
-use Rattle.krs_desk.specs.Rule.{InOneOrder}
 
 -- a token stands for this lane, which knows p
 abbrev pub IsSat : State → Part → table.State SlotValue Sight → Type 0

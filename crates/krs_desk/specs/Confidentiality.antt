@@ -1,10 +1,8 @@
 -- What holds of every list that a seat has seen, of the keys that a uid has to itself. The form is this project's own;
 -- which keys these are, and when one is given away: krs_model/specs/Confidentiality.antt.
-use Rattle.std.specs.Prelude.{◌≡◌, ℕ, List, ◌∷◌, ◌++◌, Bool, true}
+use Rattle.std.specs.Prelude.{◌++◌, ◌∷◌, ◌≡◌, Bool, List, true, ℕ}
 use Rattle.krs_types.specs.declared.event.Event.{Event}
-use Rattle.krs_model.specs.State.{State}
-use Rattle.krs_model.specs.Revocation.{Reads}
-use Rattle.krs_model.specs.Confidentiality.{HasToItself, KeepsPrivate}
+use Rattle.krs_model.specs.{Confidentiality.{HasToItself, KeepsPrivate}, Revocation.Reads, State.State}
 
 -- each accepted READ of the list, of a key that a uid has to itself, and has not given away by then, is in a context of
 -- that uid: keyctl(2), KEYCTL_READ

@@ -2,19 +2,16 @@
 -- tables that a step, a split and a join lead to have here the forms that its specs/Table.antt has: `stepped` in
 -- `Allows`, and the records in `Splits` and `Joins`. Each step on a word tells `Moves` (`moved_told`, `stored_told`).
 -- That threads make such steps alone, one at a time, is atomic_table's own (its README.md, "What is proved").
-use Rattle.std.specs.Prelude.{◌≡◌, ℕ, ◌<◌, ◌==◌, ◌⊎◌, ◌∷◌, ◌++◌, [], Some, None, length, slice_index, slice_set}
-use mathlib.Core.Option.{none, some}
+use Rattle.std.specs.Prelude.{[], ◌++◌, ◌<◌, ◌==◌, ◌∷◌, ◌≡◌, ◌⊎◌, length, None, slice_index, slice_set, Some, ℕ}
+use Rattle.atomic_table.specs.Table.{Act, carried_after, step, stepped}
 use lib.ListN.{get_elem?}
+use mathlib.Core.Option.{none, some}
 use prog.Atomic.{either}
-use Rattle.atomic_table.specs.Table.{Act, step, stepped, carried_after}
-use Rattle.krs_model.specs.State.{State, starting_at}
-use Rattle.krs_desk.specs.declared.slot.SlotValue.{SlotValue}
-use Rattle.krs_desk.specs.declared.token.Sight.{Sight}
-use Rattle.krs_desk.specs.Parts.{kept_sight, given_sight, both_sights, settled_sight, spent, AreOnes, IsSpentFor}
-use Rattle.krs_desk.specs.Rule.{InOneOrder}
-use Rattle.krs_desk.specs.Steps.{Known}
+use Rattle.krs_model.specs.State.{starting_at, State}
 use Rattle.krs_desk.specs.Moves.{Moves}
-use Rattle.krs_desk.specs.Running.{Board, IsStepped, IsCut, IsJoined}
+use Rattle.krs_desk.specs.Parts.{AreOnes, both_sights, given_sight, IsSpentFor, kept_sight, settled_sight, spent}
+use Rattle.krs_desk.specs.{Rule.InOneOrder, Running.{Board, IsCut, IsJoined, IsStepped}, Steps.Known}
+use Rattle.krs_desk.specs.declared.{slot.SlotValue.SlotValue, token.Sight.Sight}
 
 -- the rule holds, and this token may step on this word
 abbrev pub IsAt : State → Board → ℕ → ℕ → Known → ℕ → Type 0

@@ -1,24 +1,13 @@
 -- What a turn of help does, and what a call knows of its seat while it waits. The form is this project's own.
-use Rattle.std.specs.Prelude.{◌≡◌, ◌≢◌, ◌⊎◌, ℕ, zero, suc, ◌+◌, ◌-◌, ◌<◌, Bool, true, false, List, [], ◌∷◌, ◌++◌}
-use Rattle.std.specs.Prelude.{Option, Some, None, length}
-use Rattle.atomic_table.specs.Seated.{TableId}
-use Rattle.atomic_table.specs.Table.{rest, turned}
-use Rattle.krs_types.specs.declared.ask.Ask.{Ask}
-use Rattle.krs_types.specs.declared.event.Event.{Event}
-use Rattle.krs_model.specs.State.{State}
-use Rattle.krs_model.specs.Lists.{Begins}
-use Rattle.krs_model.specs.Step.{Step}
-use Rattle.krs_model.specs.History.{IsLegal}
-use Rattle.krs_world.specs.declared.view.Part.{Part}
-use Rattle.krs_world.specs.Knowing.{events_of, flight, taken, put_own}
-use Rattle.krs_desk.specs.declared.helping.Helped.{Helped}
-use Rattle.krs_desk.specs.declared.helping.Helped.TheVariants.{Took, Busy}
-use Rattle.krs_desk.specs.declared.slot.SlotValue.{SlotValue}
-use Rattle.krs_desk.specs.declared.slot.SlotValue.TheVariants.{Empty, Home}
-use Rattle.krs_desk.specs.Parts.{sat, hand_of}
-use Rattle.krs_desk.specs.Steps.{Found}
-use Rattle.krs_desk.specs.Seated.{Me, part, opening}
-use Rattle.krs_desk.specs.Sitting.{Sitting, missed_by, HasItsCalls}
+use Rattle.std.specs.Prelude.{[], ◌++◌, ◌+◌, ◌-◌, ◌<◌, ◌∷◌, ◌≡◌, ◌≢◌, ◌⊎◌, Bool, false, length, List, None, Option}
+use Rattle.std.specs.Prelude.{Some, suc, true, zero, ℕ}
+use Rattle.atomic_table.specs.{Seated.TableId, Table.{rest, turned}}
+use Rattle.krs_types.specs.declared.{ask.Ask.Ask, event.Event.Event}
+use Rattle.krs_model.specs.{History.IsLegal, Lists.Begins, State.State, Step.Step}
+use Rattle.krs_world.specs.{Knowing.{events_of, flight, put_own, taken}, declared.view.Part.Part}
+use Rattle.krs_desk.specs.{Parts.{hand_of, sat}, Seated.{Me, opening, part}, Sitting.{HasItsCalls, missed_by, Sitting}}
+use Rattle.krs_desk.specs.{Steps.Found, declared.helping.Helped.{Helped, TheVariants.{Busy, Took}}}
+use Rattle.krs_desk.specs.declared.slot.SlotValue.{SlotValue, TheVariants.{Empty, Home}}
 
 -- the numbers below this one, in order
 abbrev pub below : ℕ → List ℕ

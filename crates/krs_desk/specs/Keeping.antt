@@ -1,16 +1,11 @@
 -- A turn that a seat keeps from one call to the next. The form is this project's own.
-use Rattle.std.specs.Prelude.{◌≡◌, ◌≢◌, ◌⊎◌, ℕ, zero, suc, Bool, List, ◌∷◌, Some, None}
-use Rattle.atomic_table.specs.Seated.{TableId}
-use Rattle.atomic_table.specs.Table.{rest}
+use Rattle.std.specs.Prelude.{◌∷◌, ◌≡◌, ◌≢◌, ◌⊎◌, Bool, List, None, Some, suc, zero, ℕ}
+use Rattle.atomic_table.specs.{Seated.TableId, Table.rest}
 use Rattle.krs_types.specs.declared.event.Event.{Event}
-use Rattle.krs_model.specs.State.{State}
-use Rattle.krs_model.specs.Step.{Step}
-use Rattle.krs_model.specs.History.{IsLegal}
+use Rattle.krs_model.specs.{History.IsLegal, State.State, Step.Step}
 use Rattle.krs_world.specs.Knowing.{events_of, kept}
+use Rattle.krs_desk.specs.{Helping.{Goes, HoldsAll, lanes_of}, Parts.sat, Seated.{IsSeated, Me, opening, part, untold}}
 use Rattle.krs_desk.specs.declared.slot.SlotValue.TheVariants.{Home}
-use Rattle.krs_desk.specs.Parts.{sat}
-use Rattle.krs_desk.specs.Seated.{Me, part, opening, untold, IsSeated}
-use Rattle.krs_desk.specs.Helping.{HoldsAll, Goes, lanes_of}
 
 -- The token has the turn, and has seen the list that it holds. No call of its own is in flight.
 pub record HasKept (m : Me) : Type 0 where

@@ -1,30 +1,20 @@
 -- The machine (krs_world) that a table is, and its steps: each step of a seat is the machine's of its name, so that the
 -- machine's laws hold of running threads. The form is this project's own.
-use Rattle.std.specs.Prelude.{◌≡◌, ◌≢◌, ℕ, ◌+◌, ◌<◌, ◌⊎◌, List, [], ◌∷◌, Option, Some, None, length, map, slice_index}
-use mathlib.Core.Option.{some}
+use Rattle.std.specs.Prelude.{[], ◌+◌, ◌<◌, ◌∷◌, ◌≡◌, ◌≢◌, ◌⊎◌, length, List, map, None, Option, slice_index, Some, ℕ}
 use lib.ListN.{get_elem?}
+use mathlib.Core.Option.{some}
 use Rattle.krs_types.specs.declared.event.Event.{Event}
 use Rattle.krs_model.specs.State.{State}
-use Rattle.krs_world.specs.declared.step.Kind.{Kind}
-use Rattle.krs_world.specs.declared.step.Kind.TheVariants.{Take, TakeFound, Put, Load, Post, Grab, Answer, Collect}
-use Rattle.krs_world.specs.declared.step.Kind.TheVariants.{CollectFound, LookAt, Serve}
-use Rattle.krs_world.specs.declared.step.WorldStep.{WorldStep}
-use Rattle.krs_world.specs.declared.view.Cell.{Cell}
-use Rattle.krs_world.specs.declared.view.Cell.TheVariants.{Empty, Posted, Serving, Answered}
-use Rattle.krs_world.specs.declared.view.Flight.{Flight}
-use Rattle.krs_world.specs.declared.view.Part.{Part}
-use Rattle.krs_world.specs.declared.view.Standing.{Standing}
-use Rattle.krs_world.specs.declared.view.Standing.TheVariants.{Spent, One, Two, Opening}
-use Rattle.krs_world.specs.declared.view.View.{View}
-use Rattle.krs_world.specs.Knowing.{fresh, flight}
-use Rattle.krs_world.specs.World.{Turn, Free, Out, World, begun, Runs, IsHistory}
-use Rattle.krs_desk.specs.declared.slot.SlotValue.TheVariants.{Home}
-use Rattle.krs_desk.specs.declared.word.TheConstants.{TURN, FREE, OUT, DEALING}
-use Rattle.krs_desk.specs.Parts.{cell_of, views_of}
-use Rattle.krs_desk.specs.Rule.{CellIs, InOneOrder}
-use Rattle.krs_desk.specs.Moves.{Move, stays, takes, misses, puts_own, puts_none, loads, posts, finds, grabs, answers}
-use Rattle.krs_desk.specs.Moves.{collects, looks, serves_own, after, IsMadeAt}
-use Rattle.krs_desk.specs.Running.{Board, IsStepped, Leads, turn_of}
+use Rattle.krs_world.specs.{Knowing.{flight, fresh}, World.{begun, Free, IsHistory, Out, Runs, Turn, World}}
+use Rattle.krs_world.specs.declared.step.Kind.{Kind, TheVariants.{Answer, Collect, CollectFound, Grab, Load, LookAt}}
+use Rattle.krs_world.specs.declared.step.Kind.TheVariants.{Post, Put, Serve, Take, TakeFound}
+use Rattle.krs_world.specs.declared.{step.WorldStep.WorldStep, view.Cell.Cell}
+use Rattle.krs_world.specs.declared.view.{Cell.TheVariants.{Answered, Empty, Posted, Serving}, Flight.Flight, Part.Part}
+use Rattle.krs_world.specs.declared.view.{Standing.{Standing, TheVariants.{One, Opening, Spent, Two}}, View.View}
+use Rattle.krs_desk.specs.Moves.{after, answers, collects, finds, grabs, IsMadeAt, loads, looks, misses, Move, posts}
+use Rattle.krs_desk.specs.{Moves.{puts_none, puts_own, serves_own, stays, takes}, Parts.{cell_of, views_of}}
+use Rattle.krs_desk.specs.{Rule.{CellIs, InOneOrder}, Running.{Board, IsStepped, Leads, turn_of}}
+use Rattle.krs_desk.specs.declared.{slot.SlotValue.TheVariants.Home, word.TheConstants.{DEALING, FREE, OUT, TURN}}
 
 -- the token stands for a lane that knows p
 abbrev pub Sits : Part → Standing → Type 0

@@ -5,22 +5,15 @@
 -- The words of a step are those of atomic_table: `word` is the number of the word that it is made on. A store writes
 -- `first`; any other step writes `second` where it finds `first`, and else changes nothing. `found` is what was there:
 -- Some of that number, and None at a store, which doesn't look.
-use Rattle.std.specs.Prelude.{◌≡◌, ◌≢◌, ℕ, ◌==◌, ◌&&◌, Bool, List, [], ◌∷◌, ◌++◌, Option, Some, None}
-use Rattle.atomic_table.specs.Seated.{TableId}
-use Rattle.atomic_table.specs.Table.{Step}
-use Rattle.krs_types.specs.declared.ask.Ask.{Ask}
-use Rattle.krs_types.specs.declared.event.Event.{Event}
-use Rattle.krs_model.specs.Lists.{Begins}
-use Rattle.krs_model.specs.State.{State}
-use Rattle.krs_world.specs.declared.view.Part.{Part}
-use Rattle.krs_world.specs.declared.view.Standing.{Standing}
-use Rattle.krs_world.specs.declared.view.Standing.TheVariants.{Spent, One, Two, Opening}
-use Rattle.krs_world.specs.Knowing.{service, taken, missed, put_own, put_none, loaded, kept}
-use Rattle.krs_world.specs.Knowing.{posted, grabbed, answered, collected, looked_at}
-use Rattle.krs_desk.specs.declared.slot.SlotValue.{SlotValue}
-use Rattle.krs_desk.specs.declared.word.TheConstants.{TURN, FREE, OUT, EMPTY, POSTED, SERVING, ANSWERED}
-use Rattle.krs_desk.specs.Parts.{cell_of}
-use Rattle.krs_desk.specs.Steps.{Known}
+use Rattle.std.specs.Prelude.{[], ◌&&◌, ◌++◌, ◌==◌, ◌∷◌, ◌≡◌, ◌≢◌, Bool, List, None, Option, Some, ℕ}
+use Rattle.atomic_table.specs.{Seated.TableId, Table.Step}
+use Rattle.krs_types.specs.declared.{ask.Ask.Ask, event.Event.Event}
+use Rattle.krs_model.specs.{Lists.Begins, State.State}
+use Rattle.krs_world.specs.Knowing.{answered, collected, grabbed, kept, loaded, looked_at, missed, posted, put_none}
+use Rattle.krs_world.specs.Knowing.{put_own, service, taken}
+use Rattle.krs_world.specs.declared.view.{Part.Part, Standing.{Standing, TheVariants.{One, Opening, Spent, Two}}}
+use Rattle.krs_desk.specs.{Parts.cell_of, Steps.Known, declared.slot.SlotValue.SlotValue}
+use Rattle.krs_desk.specs.declared.word.TheConstants.{ANSWERED, EMPTY, FREE, OUT, POSTED, SERVING, TURN}
 
 -- what contracts see of a table: which it is, and the state of the store as it was made
 pub record Tabled : Type 0 where

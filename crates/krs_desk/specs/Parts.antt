@@ -1,15 +1,9 @@
 -- The lanes that a token stands for, and how joining and splitting tokens changes them. The form is this project's own.
-use Rattle.std.specs.Prelude.{◌≡◌, ◌≤◌, ◌<◌, ℕ, ◌+◌, Bool, true, false, List, [], ◌∷◌, Option, Some, None, map}
+use Rattle.std.specs.Prelude.{[], ◌+◌, ◌<◌, ◌∷◌, ◌≡◌, ◌≤◌, Bool, false, List, map, None, Option, Some, true, ℕ}
 use Rattle.krs_model.specs.State.{State}
-use Rattle.krs_world.specs.declared.view.Flight.{Flight}
-use Rattle.krs_world.specs.declared.view.Part.{Part}
-use Rattle.krs_world.specs.declared.view.Standing.{Standing}
-use Rattle.krs_world.specs.declared.view.Standing.TheVariants.{Spent, One, Two, Opening}
-use Rattle.krs_world.specs.declared.view.View.{View}
-use Rattle.krs_world.specs.Knowing.{fresh, view, one}
-use Rattle.krs_desk.specs.declared.slot.SlotValue.{SlotValue}
-use Rattle.krs_desk.specs.declared.slot.SlotValue.TheVariants.{Empty}
-use Rattle.krs_desk.specs.declared.token.Sight.{Sight}
+use Rattle.krs_world.specs.{Knowing.{fresh, one, view}, declared.view.{Flight.Flight, Part.Part, Standing.Standing}}
+use Rattle.krs_world.specs.declared.view.{Standing.TheVariants.{One, Opening, Spent, Two}, View.View}
+use Rattle.krs_desk.specs.declared.{slot.SlotValue.{SlotValue, TheVariants.Empty}, token.Sight.Sight}
 
 abbrev pub sight : View → Bool → Sight
 sight v laid = record { view = v; laid = laid }

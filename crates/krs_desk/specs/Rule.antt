@@ -2,22 +2,17 @@
 -- Words, slots and views are those of atomic_table. A word is a number that changes in single steps. A slot is a place
 -- for one value: `homes` has `some (some v)` where the value v lies in it, `some none` while a seat has it, and `none`
 -- where there is no such slot. Word 0 is the turn, and slot 0 the store's. Those of a lane are at `cell_of lane`.
-use Rattle.std.specs.Prelude.{◌≡◌, ℕ, ◌<◌, false, List, Option, Some, None, length, slice_index}
-use mathlib.Core.Option.{none, some}
-use mathlib.Core.Option as maybe
+use Rattle.std.specs.Prelude.{◌<◌, ◌≡◌, false, length, List, None, Option, slice_index, Some, ℕ}
 use lib.ListN.{get_elem?}
-use Rattle.atomic_table.specs.Table as table
+use mathlib.Core.Option.{none, some}
 use Rattle.krs_model.specs.State.{State}
-use Rattle.krs_world.specs.declared.view.Cell.{Cell}
+use Rattle.krs_world.specs.{History.OneHistory, Knowing.view, declared.view.{Cell.Cell, Standing.TheVariants.Opening}}
+use Rattle.krs_desk.specs.Parts.{AreHoused, cell_of, IsLaid, sight, views_of}
+use Rattle.krs_desk.specs.declared.slot.SlotValue.{SlotValue, TheVariants.{Asked, Empty, Home, Replied}}
+use Rattle.krs_desk.specs.declared.{token.Sight.Sight, word.TheConstants.{ANSWERED, EMPTY, POSTED, SERVING, TURN}}
+use Rattle.atomic_table.specs.Table as table
 use Rattle.krs_world.specs.declared.view.Cell.TheVariants as cells
-use Rattle.krs_world.specs.declared.view.Standing.TheVariants.{Opening}
-use Rattle.krs_world.specs.Knowing.{view}
-use Rattle.krs_world.specs.History.{OneHistory}
-use Rattle.krs_desk.specs.declared.slot.SlotValue.{SlotValue}
-use Rattle.krs_desk.specs.declared.slot.SlotValue.TheVariants.{Empty, Home, Asked, Replied}
-use Rattle.krs_desk.specs.declared.token.Sight.{Sight}
-use Rattle.krs_desk.specs.declared.word.TheConstants.{TURN, EMPTY, POSTED, SERVING, ANSWERED}
-use Rattle.krs_desk.specs.Parts.{cell_of, sight, views_of, IsLaid, AreHoused}
+use mathlib.Core.Option as maybe
 
 -- the first slot has the store that is at home, and is empty where none is
 abbrev pub IsAtHome : Option State → maybe.Option (maybe.Option SlotValue) → Type 0

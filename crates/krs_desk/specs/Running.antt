@@ -1,31 +1,21 @@
 -- Running threads: what may happen to a table between two moments, and what stays so however much happens. The desk's
 -- calls are linearizable: Herlihy and Wing, "Linearizability" (1990). The form is this project's own.
-use Rattle.std.specs.Prelude.{◌≡◌, ◌≢◌, ◌⊎◌, ℕ, ◌<◌, List, [], ◌∷◌, ◌++◌, Option, Some, None, length, slice_index}
-use Rattle.std.specs.Prelude.{slice_set}
-use mathlib.Core.Option.{some}
+use Rattle.std.specs.Prelude.{[], ◌++◌, ◌<◌, ◌∷◌, ◌≡◌, ◌≢◌, ◌⊎◌, length, List, None, Option, slice_index, slice_set}
+use Rattle.std.specs.Prelude.{Some, ℕ}
 use lib.ListN.{get_elem?}
+use mathlib.Core.Option.{some}
+use Rattle.krs_types.specs.declared.{ask.Ask.Ask, event.Event.Event}
+use Rattle.krs_model.specs.{History.IsLegal, Lists.Begins, Revocation.Reads, State.{starting_at, State}, Step.Step}
+use Rattle.krs_world.specs.{Between.{IsSeenBy, StandsNext}, Knowing.events_of, World.{IsUnanswered, IsUnposted}}
+use Rattle.krs_world.specs.declared.view.Cell.TheVariants.{Answered, Empty, Posted, Serving}
+use Rattle.krs_world.specs.declared.view.{Part.Part, Standing.TheVariants.{One, Spent}}
+use Rattle.krs_desk.specs.Between.{HasRevoked, IsSat}
+use Rattle.krs_desk.specs.Moves.{after, answers, collects, finds, grabs, IsMadeAt, IsMoved, loads, looks, misses, Move}
+use Rattle.krs_desk.specs.Moves.{posts, puts_none, puts_own, serves_own, stays, takes}
+use Rattle.krs_desk.specs.Parts.{both_sights, cell_of, given_sight, kept_sight, settled_sight, spent, views_of}
+use Rattle.krs_desk.specs.{Rule.InOneOrder, declared.slot.SlotValue.SlotValue}
+use Rattle.krs_desk.specs.declared.{token.Sight.Sight, word.TheConstants.{ANSWERED, FREE, OUT, TURN}}
 use Rattle.atomic_table.specs.Table as table
-use Rattle.krs_types.specs.declared.ask.Ask.{Ask}
-use Rattle.krs_types.specs.declared.event.Event.{Event}
-use Rattle.krs_model.specs.State.{State, starting_at}
-use Rattle.krs_model.specs.Lists.{Begins}
-use Rattle.krs_model.specs.Step.{Step}
-use Rattle.krs_model.specs.History.{IsLegal}
-use Rattle.krs_model.specs.Revocation.{Reads}
-use Rattle.krs_world.specs.declared.view.Cell.TheVariants.{Empty, Posted, Serving, Answered}
-use Rattle.krs_world.specs.declared.view.Part.{Part}
-use Rattle.krs_world.specs.declared.view.Standing.TheVariants.{Spent, One}
-use Rattle.krs_world.specs.Knowing.{events_of}
-use Rattle.krs_world.specs.World.{IsUnanswered, IsUnposted}
-use Rattle.krs_world.specs.Between.{StandsNext, IsSeenBy}
-use Rattle.krs_desk.specs.declared.slot.SlotValue.{SlotValue}
-use Rattle.krs_desk.specs.declared.token.Sight.{Sight}
-use Rattle.krs_desk.specs.declared.word.TheConstants.{TURN, FREE, OUT, ANSWERED}
-use Rattle.krs_desk.specs.Parts.{cell_of, views_of, spent, kept_sight, given_sight, both_sights, settled_sight}
-use Rattle.krs_desk.specs.Rule.{InOneOrder}
-use Rattle.krs_desk.specs.Moves.{Move, stays, takes, misses, puts_own, puts_none, loads, posts, finds, grabs, answers}
-use Rattle.krs_desk.specs.Moves.{collects, looks, serves_own, after, IsMadeAt, IsMoved}
-use Rattle.krs_desk.specs.Between.{IsSat, HasRevoked}
 
 -- the words, the slots, and what each token knows
 abbrev pub Board : Type 0

@@ -1,18 +1,11 @@
 -- How a seat is kept: by what its token of the table knows and holds. The form is this project's own.
-use Rattle.std.specs.Prelude.{◌≡◌, ℕ, ◌<◌, Bool, true, false, List, ◌∷◌, Option, Some, None}
-use Rattle.atomic_table.specs.Seated.{TableId}
-use Rattle.atomic_table.specs.Table.{rest}
+use Rattle.std.specs.Prelude.{◌<◌, ◌∷◌, ◌≡◌, Bool, false, List, None, Option, Some, true, ℕ}
+use Rattle.atomic_table.specs.{Seated.TableId, Table.rest}
 use Rattle.krs_types.specs.declared.event.Event.{Event}
-use Rattle.krs_model.specs.State.{State}
-use Rattle.krs_model.specs.Sound.{IsSound}
-use Rattle.krs_model.specs.Step.{Step}
-use Rattle.krs_model.specs.History.{IsLegal}
-use Rattle.krs_world.specs.declared.view.Flight.{Flight}
-use Rattle.krs_world.specs.declared.view.Part.{Part}
-use Rattle.krs_world.specs.Knowing.{taken, loaded}
-use Rattle.krs_desk.specs.declared.slot.SlotValue.TheVariants.{Home}
-use Rattle.krs_desk.specs.Parts.{cell_of, sat, hand_of}
-use Rattle.krs_desk.specs.Steps.{Known, Found}
+use Rattle.krs_model.specs.{History.IsLegal, Sound.IsSound, State.State, Step.Step}
+use Rattle.krs_world.specs.{Knowing.{loaded, taken}, declared.view.{Flight.Flight, Part.Part}}
+use Rattle.krs_desk.specs.Parts.{cell_of, hand_of, sat}
+use Rattle.krs_desk.specs.{Steps.{Found, Known}, declared.slot.SlotValue.TheVariants.Home}
 pub use Rattle.krs_desk.specs.Steps.{part, opening}
 use Rattle.krs_desk.specs.Sitting.{Sitting}
 

@@ -1,15 +1,9 @@
 -- What holds of every list that a seat has seen. The form is this project's own.
-use Rattle.std.specs.Prelude.{◌≡◌, ◌⊎◌, ℕ, List, ◌∷◌, ◌++◌, Some}
-use Rattle.krs_types.specs.declared.ask.Op.TheVariants.{Invalidate}
-use Rattle.krs_types.specs.declared.event.Event.{Event}
-use Rattle.krs_model.specs.Table.{at}
-use Rattle.krs_model.specs.State.{State, Queue, raised}
-use Rattle.krs_model.specs.Lists.{Begins}
-use Rattle.krs_model.specs.History.{IsLegal}
-use Rattle.krs_model.specs.Revocation.{IsServed, Revokes, Reads}
-use Rattle.krs_model.specs.Secrecy.{MayBeRead, TellsNobody}
-use Rattle.krs_model.specs.Receiving.{HasMoves, IsOpened}
-use Rattle.krs_model.specs.Notes.Stream.{Move, taken, stream}
+use Rattle.std.specs.Prelude.{◌++◌, ◌∷◌, ◌≡◌, ◌⊎◌, List, Some, ℕ}
+use Rattle.krs_types.specs.declared.{ask.Op.TheVariants.Invalidate, event.Event.Event}
+use Rattle.krs_model.specs.{History.IsLegal, Lists.Begins, Notes.Stream.{Move, stream, taken}}
+use Rattle.krs_model.specs.{Receiving.{HasMoves, IsOpened}, Revocation.{IsServed, Reads, Revokes}}
+use Rattle.krs_model.specs.{Secrecy.{MayBeRead, TellsNobody}, State.{Queue, raised, State}, Table.at}
 
 -- the list leads from the opening state to some state, event after event
 abbrev pub IsOneHistory : State → List Event → Type 0

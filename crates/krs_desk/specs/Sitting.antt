@@ -1,16 +1,10 @@
 -- What a caller knows of a seat, and how calls, meeting and closing change it. The form is this project's own.
-use Rattle.std.specs.Prelude.{◌≡◌, ◌≢◌, ℕ, zero, suc, ◌+◌, ◌≤◌, Bool, false, List, [], ◌∷◌, ◌++◌, Some, None, Result}
+use Rattle.std.specs.Prelude.{[], ◌++◌, ◌+◌, ◌∷◌, ◌≡◌, ◌≢◌, ◌≤◌, Bool, false, List, None, Result, Some, suc, zero, ℕ}
 use Rattle.atomic_table.specs.Seated.{TableId}
-use Rattle.krs_types.specs.declared.ask.Ask.{Ask}
-use Rattle.krs_types.specs.declared.ask.Answer.{Answer}
-use Rattle.krs_types.specs.declared.errno.Errno.{Errno}
-use Rattle.krs_types.specs.declared.event.Event.{Event}
-use Rattle.krs_model.specs.State.{State}
-use Rattle.krs_model.specs.Lists.{Begins}
-use Rattle.krs_model.specs.History.{IsLegal, event_of}
-use Rattle.krs_world.specs.declared.view.Part.{Part}
-use Rattle.krs_world.specs.Knowing.{events_of, flight, fresh, loaded, missed, posted}
+use Rattle.krs_types.specs.declared.{ask.{Answer.Answer, Ask.Ask}, errno.Errno.Errno, event.Event.Event}
+use Rattle.krs_model.specs.{History.{event_of, IsLegal}, Lists.Begins, State.State}
 use Rattle.krs_world.specs.History.{StandsAfter}
+use Rattle.krs_world.specs.{Knowing.{events_of, flight, fresh, loaded, missed, posted}, declared.view.Part.Part}
 
 -- A seat: of which desk it is, the state of the store that the desk was opened with, and what the seat knows: its lane,
 -- the events that it has `seen`, its own calls `mine`, and how often it `found` the turn taken. A turn may be kept for

@@ -1,25 +1,16 @@
 -- What each step on the table tells the token that makes it. The form is this project's own.
-use Rattle.std.specs.Prelude.{◌≡◌, ◌≢◌, ℕ, ◌==◌, ◌&&◌, true, false, List, [], ◌∷◌, ◌++◌, Some, None, Result}
-use Rattle.atomic_table.specs.Table.{Me, Step, rest}
-use Rattle.krs_types.specs.declared.ask.Ask.{Ask}
-use Rattle.krs_types.specs.declared.ask.Answer.{Answer}
-use Rattle.krs_types.specs.declared.errno.Errno.{Errno}
-use Rattle.krs_types.specs.declared.event.Event.{Event}
-use Rattle.krs_model.specs.State.{State}
-use Rattle.krs_model.specs.Lists.{Begins}
-use Rattle.krs_model.specs.History.{IsLegal, event_of}
+use Rattle.std.specs.Prelude.{[], ◌&&◌, ◌++◌, ◌==◌, ◌∷◌, ◌≡◌, ◌≢◌, false, List, None, Result, Some, true, ℕ}
+use Rattle.atomic_table.specs.Table.{Me, rest, Step}
+use Rattle.krs_types.specs.declared.{ask.{Answer.Answer, Ask.Ask}, errno.Errno.Errno, event.Event.Event}
+use Rattle.krs_model.specs.{History.{event_of, IsLegal}, Lists.Begins, State.State}
 use Rattle.krs_store.specs.Told.{reply_of}
-use Rattle.krs_world.specs.declared.view.Part.{Part}
-use Rattle.krs_world.specs.declared.view.Standing.TheVariants.{Two}
-use Rattle.krs_world.specs.Knowing.{events_of, service, flight, view, taken, missed, put_own, put_none, loaded, kept}
-use Rattle.krs_world.specs.Knowing.{posted, grabbed, answered, collected, looked_at}
-use Rattle.krs_world.specs.History.{StandsAfter}
+use Rattle.krs_world.specs.{History.StandsAfter, Knowing.{answered, collected, events_of, flight, grabbed, kept}}
+use Rattle.krs_world.specs.Knowing.{loaded, looked_at, missed, posted, put_none, put_own, service, taken, view}
+use Rattle.krs_world.specs.declared.view.{Part.Part, Standing.TheVariants.Two}
+use Rattle.krs_desk.specs.Parts.{cell_of, part_of, sat, second_of, sight, spent}
 use Rattle.krs_desk.specs.declared.served_call.ServedCall.{ServedCall}
-use Rattle.krs_desk.specs.declared.slot.SlotValue.{SlotValue}
-use Rattle.krs_desk.specs.declared.slot.SlotValue.TheVariants.{Empty, Home, Asked, Replied}
-use Rattle.krs_desk.specs.declared.token.Sight.{Sight}
-use Rattle.krs_desk.specs.declared.word.TheConstants.{FREE, POSTED, ANSWERED}
-use Rattle.krs_desk.specs.Parts.{cell_of, sight, sat, spent, part_of, second_of}
+use Rattle.krs_desk.specs.declared.slot.SlotValue.{SlotValue, TheVariants.{Asked, Empty, Home, Replied}}
+use Rattle.krs_desk.specs.declared.{token.Sight.Sight, word.TheConstants.{ANSWERED, FREE, POSTED}}
 
 -- the event of a served call
 abbrev pub event_in : ServedCall → Event

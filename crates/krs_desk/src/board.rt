@@ -1,16 +1,14 @@
 //! The table of a desk. What lies in it is reached by the steps of this file alone, and each of them is a step of the
 //! machine: no other can change what a lane knows.
-ghost use Rattle.std.specs.Prelude.{◌≡◌, ◌<◌, ◌==◌, [], ◌∷◌, length, IfOk, IfErr};
+ghost use Rattle.std.specs.Prelude.{[], ◌<◌, ◌==◌, ◌∷◌, ◌≡◌, IfErr, IfOk, length};
+ghost use Rattle.atomic_table.specs.Table.{Allows, Joins, opening as opened, rest, Splits, step};
 ghost use mathlib.Core.Option.{none};
 ghost use prog.Atomic.{either};
-ghost use Rattle.atomic_table.specs.Table.{step, Allows, Splits, Joins, rest, opening as opened};
-ghost use Rattle.krs_model.specs.State.{State, starting_at};
-ghost use Rattle.krs_model.specs.History.{event_of};
-ghost use Rattle.krs_store.specs.Told.{reply_of, bytes_of};
-ghost use Rattle.krs_desk.specs.Parts.{kept_sight, given_sight, both_sights, settled_sight, spent, AreOnes, IsSpentFor};
-ghost use Rattle.krs_desk.specs.Rule.{InOneOrder, first_sight};
+ghost use Rattle.krs_model.specs.{History.event_of, State.{starting_at, State}};
+ghost use Rattle.krs_store.specs.Told.{bytes_of, reply_of};
 ghost use Rattle.krs_desk.specs.Moves.{moved_told, stored_told};
-ghost use Rattle.krs_desk.specs.Seated.{Has, Serves};
+ghost use Rattle.krs_desk.specs.Parts.{AreOnes, both_sights, given_sight, IsSpentFor, kept_sight, settled_sight, spent};
+ghost use Rattle.krs_desk.specs.{Rule.{first_sight, InOneOrder}, Seated.{Has, Serves}};
 
 use crate::slot::SlotValue;
 use crate::steps::{Cut, Glue, OneOrder, Settle};
@@ -26,8 +24,7 @@ use std::snapshot::Snapshot;
 pub(crate) trait Tells {
     ghost use Rattle.std.specs.Prelude.{ℕ};
     ghost use Rattle.atomic_table.specs.Table.{Step};
-    ghost use Rattle.krs_desk.specs.Steps.{Known};
-    ghost use Rattle.krs_desk.specs.declared.slot.SlotValue.{SlotValue};
+    ghost use Rattle.krs_desk.specs.{Steps.Known, declared.slot.SlotValue.SlotValue};
 
     ghost told: { Step SlotValue → Known → ℕ → Known → Type 0 };
 }

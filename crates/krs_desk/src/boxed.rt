@@ -1,8 +1,7 @@
 //! A store on the heap.
-ghost use Rattle.std.specs.Prelude.{◌≡◌, IfOk, IfErr};
-ghost use Rattle.krs_model.specs.Step.{Step};
-ghost use Rattle.krs_model.specs.History.{event_of};
-ghost use Rattle.krs_store.specs.Told.{reply_of, bytes_of};
+ghost use Rattle.std.specs.Prelude.{◌≡◌, IfErr, IfOk};
+ghost use Rattle.krs_model.specs.{History.event_of, Step.Step};
+ghost use Rattle.krs_store.specs.Told.{bytes_of, reply_of};
 
 use krs_store::{Store, Taker, Told};
 use krs_types::{Ask, Reply};

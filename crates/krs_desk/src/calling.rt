@@ -1,9 +1,8 @@
 //! A call that waits until it is answered.
-ghost use Rattle.std.specs.Prelude.{◌≡◌, IfOk, IfErr, OnOk, OnErr, None};
+ghost use Rattle.std.specs.Prelude.{◌≡◌, IfErr, IfOk, None, OnErr, OnOk};
 ghost use Rattle.krs_model.specs.History.{event_of};
-ghost use Rattle.krs_store.specs.Told.{reply_of, bytes_of};
-ghost use Rattle.krs_desk.specs.Sitting.{Adds, KeepsTurn, missed_by};
-ghost use Rattle.krs_desk.specs.Helping.{HasLooked};
+ghost use Rattle.krs_store.specs.Told.{bytes_of, reply_of};
+ghost use Rattle.krs_desk.specs.{Helping.HasLooked, Sitting.{Adds, KeepsTurn, missed_by}};
 
 use crate::desk::Desk;
 use crate::nobody::{Nobody, reply_in};

@@ -1,5 +1,5 @@
 //! The store comes back when all is over.
-ghost use Rattle.std.specs.Prelude.{◌≡◌, ◌<◌, IfOk, IfErr};
+ghost use Rattle.std.specs.Prelude.{◌<◌, ◌≡◌, IfErr, IfOk};
 ghost use Rattle.krs_desk.specs.Sitting.{EndsIn, missed_by};
 
 use crate::desk::Desk;

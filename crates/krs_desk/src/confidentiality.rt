@@ -1,9 +1,8 @@
 //! That no user of a desk reads another's keys, unless it was given them, nor changes them, nor is told of what they hold.
-ghost use Rattle.std.specs.Prelude.{ℕ, List, Bool, false};
+ghost use Rattle.std.specs.Prelude.{Bool, false, List, ℕ};
 ghost use Rattle.krs_types.specs.declared.event.Event.{Event};
+ghost use Rattle.krs_model.specs.Confidentiality.{HasToItself, KeepsPrivate, LeavesAlone, ReadsAlone, TellsNoStranger};
 ghost use Rattle.krs_model.specs.State.{State};
-ghost use Rattle.krs_model.specs.Confidentiality.{HasToItself, KeepsPrivate, ReadsAlone};
-ghost use Rattle.krs_model.specs.Confidentiality.{LeavesAlone, TellsNoStranger};
 ghost use Rattle.krs_desk.specs.Confidentiality.{AreReadAlone};
 
 use crate::seat::Seat;

@@ -1,16 +1,13 @@
 //! The desk, and a call in a turn of its own.
-ghost use Rattle.std.specs.Prelude.{◌≡◌, ◌≢◌, List, [], ◌∷◌, IfOk, IfErr, Some, None};
+ghost use Rattle.std.specs.Prelude.{[], ◌∷◌, ◌≡◌, ◌≢◌, IfErr, IfOk, List, None, Some};
 ghost use Rattle.atomic_table.specs.Table.{rest};
 ghost use Rattle.krs_types.specs.declared.event.Event.{Event};
-ghost use Rattle.krs_model.specs.State.{State};
-ghost use Rattle.krs_model.specs.History.{event_of};
-ghost use Rattle.krs_store.specs.Told.{reply_of, bytes_of};
+ghost use Rattle.krs_model.specs.{History.event_of, State.State};
+ghost use Rattle.krs_store.specs.Told.{bytes_of, reply_of};
 ghost use Rattle.krs_world.specs.Knowing.{events_of, missed, put_own};
-ghost use Rattle.krs_desk.specs.Parts.{sat};
-ghost use Rattle.krs_desk.specs.Steps.{event_in};
-ghost use Rattle.krs_desk.specs.Sitting.{Adds, missed_by};
-ghost use Rattle.krs_desk.specs.Helping.{HoldsAll, Finishes};
-ghost use Rattle.krs_desk.specs.Seated.{IsResting, Holds, Has, Serves, HoldsBefore, part, opening};
+ghost use Rattle.krs_desk.specs.Helping.{Finishes, HoldsAll};
+ghost use Rattle.krs_desk.specs.{Parts.sat, Seated.{Has, Holds, HoldsBefore, IsResting, opening, part, Serves}};
+ghost use Rattle.krs_desk.specs.{Sitting.{Adds, missed_by}, Steps.event_in};
 
 use crate::bells::Bells;
 use crate::board::Board;
@@ -37,13 +34,13 @@ pub struct Desk {
 }
 
 impl Model for Desk {
-    ghost use Rattle.atomic_table.specs.Seated.{TableId, table_id_coded};
+    ghost use Rattle.atomic_table.specs.Seated.{table_id_coded, TableId};
 
     ghost Value = { TableId };
 
     ghost coded = { table_id_coded };
 
-    ghost use Rattle.std.specs.Prelude.{◌≡◌, ◌<◌, ◌≤◌};
+    ghost use Rattle.std.specs.Prelude.{◌<◌, ◌≡◌, ◌≤◌};
 
     ghost view = { λ d. d.table.id };
 

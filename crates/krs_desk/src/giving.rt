@@ -1,12 +1,10 @@
 //! A turn is given back, and then whom that concerns is woken: neither is forgotten, and not the other way round.
-ghost use Rattle.std.specs.Prelude.{◌≡◌, List, [], ◌∷◌, None, Some};
+ghost use Rattle.std.specs.Prelude.{[], ◌∷◌, ◌≡◌, List, None, Some};
 ghost use Rattle.atomic_table.specs.Table.{rest};
 ghost use Rattle.krs_types.specs.declared.event.Event.{Event};
 ghost use Rattle.krs_world.specs.Knowing.{events_of, put_none, put_own};
-ghost use Rattle.krs_desk.specs.Parts.{sat};
-ghost use Rattle.krs_desk.specs.Steps.{event_in};
-ghost use Rattle.krs_desk.specs.Seated.{HoldsBefore, part, opening};
-ghost use Rattle.krs_desk.specs.Helping.{HoldsAll, held_of};
+ghost use Rattle.krs_desk.specs.Helping.{held_of, HoldsAll};
+ghost use Rattle.krs_desk.specs.{Parts.sat, Seated.{HoldsBefore, opening, part}, Steps.event_in};
 
 use crate::desk::Desk;
 use crate::served_call::{Added, ServedCall};

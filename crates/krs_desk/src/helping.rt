@@ -1,12 +1,11 @@
 //! A turn of `call` or `help` answers the calls that it finds posted.
-ghost use Rattle.std.specs.Prelude.{◌≡◌, ◌≢◌, ◌+◌, ◌≤◌, ◌<◌, IfOk, IfErr, None};
+ghost use Rattle.std.specs.Prelude.{◌+◌, ◌<◌, ◌≡◌, ◌≢◌, ◌≤◌, IfErr, IfOk, None};
 ghost use Rattle.atomic_table.specs.Table.{rest};
 ghost use Rattle.krs_model.specs.History.{event_of};
 ghost use Rattle.krs_world.specs.Knowing.{events_of, missed, put_none};
-ghost use Rattle.krs_desk.specs.Parts.{sat};
-ghost use Rattle.krs_desk.specs.Seated.{IsResting, part, opening, is_free};
-ghost use Rattle.krs_desk.specs.Helping.{HasHelped, Had, HoldsAll, IsBehind, ServesBehind, Goes, ServesLane};
-ghost use Rattle.krs_desk.specs.Helping.{held_of, lanes_of, turned_back};
+ghost use Rattle.krs_desk.specs.Helping.{Goes, Had, HasHelped, held_of, HoldsAll, IsBehind, lanes_of, ServesBehind};
+ghost use Rattle.krs_desk.specs.Helping.{ServesLane, turned_back};
+ghost use Rattle.krs_desk.specs.{Parts.sat, Seated.{is_free, IsResting, opening, part}};
 
 use crate::desk::Desk;
 use crate::seat::Seat;

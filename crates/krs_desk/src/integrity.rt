@@ -1,13 +1,10 @@
 //! Who changes what in a desk, whose its contexts and queues are, and what it never holds more of.
-ghost use Rattle.krs_laws.specs.Belonging.{LeavesNothing, ContextsAreTheirClients, QueuesAreTheirClients};
+ghost use Rattle.krs_laws.specs.Belonging.{ContextsAreTheirClients, LeavesNothing, QueuesAreTheirClients};
 ghost use Rattle.krs_laws.specs.Belonging.{ReadersHaveNamedThemselves};
-ghost use Rattle.krs_laws.specs.Emptied.{AreEmptiedInTheEnd, AreEmptiedByLeaving};
-ghost use Rattle.krs_laws.specs.Expired.{ExpiredStaysUnread};
-ghost use Rattle.krs_laws.specs.Integrity.{AllChangesAreByRight};
-ghost use Rattle.krs_laws.specs.Limits.{IsWithinLimits, StaysWithinLimits};
-ghost use Rattle.krs_laws.specs.Noting.{QueuesAreTheirOwners, AllWatchesAreByRight, AllNotesAreCalledFor};
-ghost use Rattle.krs_laws.specs.Noting.{AllNotesAreByRight};
-ghost use Rattle.krs_laws.specs.Overwritten.{UpdatesForget, AddsForget};
+ghost use Rattle.krs_laws.specs.{Emptied.{AreEmptiedByLeaving, AreEmptiedInTheEnd}, Expired.ExpiredStaysUnread};
+ghost use Rattle.krs_laws.specs.{Integrity.AllChangesAreByRight, Limits.{IsWithinLimits, StaysWithinLimits}};
+ghost use Rattle.krs_laws.specs.Noting.{AllNotesAreByRight, AllNotesAreCalledFor, AllWatchesAreByRight};
+ghost use Rattle.krs_laws.specs.{Noting.QueuesAreTheirOwners, Overwritten.{AddsForget, UpdatesForget}};
 
 use crate::seat::Seat;
 

@@ -1,15 +1,12 @@
 //! A turn that a seat keeps for the calls that follow at once.
-ghost use Rattle.std.specs.Prelude.{◌≡◌, ◌≢◌, ◌<◌, true, List, [], ◌∷◌, IfOk, IfErr, OnOk, OnErr, Some, None};
+ghost use Rattle.std.specs.Prelude.{[], ◌<◌, ◌∷◌, ◌≡◌, ◌≢◌, IfErr, IfOk, List, None, OnErr, OnOk, Some, true};
 ghost use Rattle.krs_types.specs.declared.event.Event.{Event};
 ghost use Rattle.krs_model.specs.History.{event_of};
-ghost use Rattle.krs_store.specs.Told.{reply_of, bytes_of};
+ghost use Rattle.krs_store.specs.Told.{bytes_of, reply_of};
 ghost use Rattle.krs_world.specs.Knowing.{events_of, kept};
-ghost use Rattle.krs_desk.specs.Parts.{sat};
+ghost use Rattle.krs_desk.specs.{Helping.{HasLooked, HoldsAll}, Keeping.{at_rest, GoesOn, GoesRound, HasKept}};
+ghost use Rattle.krs_desk.specs.{Parts.sat, Seated.{HoldsBefore, opening, part}, Sitting.{Adds, KeepsTurn, rested}};
 ghost use Rattle.krs_desk.specs.Steps.{event_in};
-ghost use Rattle.krs_desk.specs.Sitting.{Adds, KeepsTurn, rested};
-ghost use Rattle.krs_desk.specs.Seated.{HoldsBefore, part, opening};
-ghost use Rattle.krs_desk.specs.Helping.{HoldsAll, HasLooked};
-ghost use Rattle.krs_desk.specs.Keeping.{HasKept, GoesOn, GoesRound, at_rest};
 
 use crate::desk::Desk;
 use crate::seat::Seat;

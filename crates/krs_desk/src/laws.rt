@@ -1,19 +1,15 @@
 //! What holds of all that a seat has seen.
-ghost use Rattle.krs_model.specs.Receiving.{GivesStreams};
-ghost use Rattle.krs_model.specs.Revocation.{StaysUnread};
-ghost use Rattle.std.specs.Prelude.{ℕ, List};
+ghost use Rattle.std.specs.Prelude.{List, ℕ};
 ghost use Rattle.krs_types.specs.declared.event.Event.{Event};
-ghost use Rattle.krs_model.specs.State.{State};
-ghost use Rattle.krs_model.specs.Secrecy.{TellsNoUnread, ReadsByRight};
-ghost use Rattle.krs_model.specs.Secrecy.{TellsByReadsAlone, HasOthers, IsGone, TellsNobody};
-ghost use Rattle.krs_desk.specs.Seen.{IsOneHistory, IsNotReadRevoked, AreReadByRight, GivesItsStreams};
-ghost use Rattle.krs_desk.specs.Seen.{TellsNobodyAfter};
-ghost use Rattle.krs_desk.specs.Moves.{LooksInTurn, CountsLooks, CountsMisses, CountsTurns};
-ghost use Rattle.krs_desk.specs.Between.{KeepsRealTimeBetween, KeepsCollectedBetween, KeepsPostedBetween, RefusesRevoked};
-ghost use Rattle.krs_desk.specs.Running.{StepsAsNamed, KeepsSeenLists, OnlyGrows, SeesOneOrder};
-ghost use Rattle.krs_desk.specs.Running.{KeepsRealTime, StaysRefused};
-ghost use Rattle.krs_desk.specs.Machine.{IsSomeWorld, IsOneWorld, StepsAs, RunsAs, BeginsAs, FollowsSteps};
-ghost use Rattle.krs_desk.specs.Happening.{StepsHappen};
+ghost use Rattle.krs_model.specs.{Receiving.GivesStreams, Revocation.StaysUnread, Secrecy.{HasOthers, IsGone}};
+ghost use Rattle.krs_model.specs.{Secrecy.{ReadsByRight, TellsByReadsAlone, TellsNobody, TellsNoUnread}, State.State};
+ghost use Rattle.krs_desk.specs.Between.{KeepsCollectedBetween, KeepsPostedBetween, KeepsRealTimeBetween};
+ghost use Rattle.krs_desk.specs.{Between.RefusesRevoked, Happening.StepsHappen};
+ghost use Rattle.krs_desk.specs.Machine.{BeginsAs, FollowsSteps, IsOneWorld, IsSomeWorld, RunsAs, StepsAs};
+ghost use Rattle.krs_desk.specs.Moves.{CountsLooks, CountsMisses, CountsTurns, LooksInTurn};
+ghost use Rattle.krs_desk.specs.Running.{KeepsRealTime, KeepsSeenLists, OnlyGrows, SeesOneOrder, StaysRefused};
+ghost use Rattle.krs_desk.specs.{Running.StepsAsNamed, Seen.AreReadByRight};
+ghost use Rattle.krs_desk.specs.Seen.{GivesItsStreams, IsNotReadRevoked, IsOneHistory, TellsNobodyAfter};
 
 use crate::seat::Seat;
 

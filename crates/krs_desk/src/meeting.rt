@@ -1,7 +1,6 @@
 //! Two seats learn that they share the history.
-ghost use Rattle.std.specs.Prelude.{◌≡◌, ◌<◌};
-ghost use Rattle.krs_desk.specs.Sitting.{Meets};
-ghost use Rattle.krs_desk.specs.Seated.{IsResting, SeeOneList, opening};
+ghost use Rattle.std.specs.Prelude.{◌<◌, ◌≡◌};
+ghost use Rattle.krs_desk.specs.{Seated.{IsResting, opening, SeeOneList}, Sitting.Meets};
 
 use crate::board::Board;
 use crate::desk::Desk;

@@ -1,6 +1,6 @@
 //! Nobody takes the bytes of a reply where they lie.
 ghost use Rattle.std.specs.Prelude.{◌≡◌, None};
-ghost use Rattle.krs_store.specs.Told.{reply_of, bytes_of};
+ghost use Rattle.krs_store.specs.Told.{bytes_of, reply_of};
 
 use krs_store::{Taker, Told};
 use krs_types::Reply;

@@ -1,11 +1,10 @@
 //! A desk is opened with a store, and gives a seat for each lane.
-ghost use Rattle.std.specs.Prelude.{◌≡◌, ◌<◌, ◌≤◌, ◌↔◌, ◌+◌, [], ◌∷◌, All, length};
-ghost use Rattle.std.specs.Prelude.{IfOk, IfErr, replicate, vec_capacity, slice_index};
+ghost use Rattle.std.specs.Prelude.{[], ◌+◌, ◌<◌, ◌↔◌, ◌∷◌, ◌≡◌, ◌≤◌, All, IfErr, IfOk, length, replicate, slice_index};
+ghost use Rattle.std.specs.Prelude.{vec_capacity};
 ghost use Rattle.krs_model.specs.Sound.{IsSound};
-ghost use Rattle.krs_desk.specs.declared.opening.Why.TheVariants.{Lanes, Memory};
-ghost use Rattle.krs_desk.specs.declared.slot.SlotValue.TheVariants.{Empty, Home};
 ghost use Rattle.krs_desk.specs.Rule.{AreZero, first_sight};
-ghost use Rattle.krs_desk.specs.Sitting.{IsIdleAt, fresh_seats};
+ghost use Rattle.krs_desk.specs.{Sitting.{fresh_seats, IsIdleAt}, declared.opening.Why.TheVariants.{Lanes, Memory}};
+ghost use Rattle.krs_desk.specs.declared.slot.SlotValue.TheVariants.{Empty, Home};
 
 use crate::bells::Bells;
 use crate::board::Board;

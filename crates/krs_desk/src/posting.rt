@@ -1,6 +1,6 @@
 //! Calls that are posted, and collected once they are answered.
-ghost use Rattle.std.specs.Prelude.{◌≡◌, ◌≢◌, true, None, IfSome, IfNone};
-ghost use Rattle.krs_desk.specs.Sitting.{posted_by, Collects, rested};
+ghost use Rattle.std.specs.Prelude.{◌≡◌, ◌≢◌, IfNone, IfSome, None, true};
+ghost use Rattle.krs_desk.specs.Sitting.{Collects, posted_by, rested};
 
 use crate::desk::Desk;
 use crate::seat::Seat;

@@ -1,7 +1,6 @@
 //! What a thread knows of the one history.
-ghost use Rattle.std.specs.Prelude.{◌≡◌, true, None};
-ghost use Rattle.krs_desk.specs.Seated.{HasSlot, sitting_of};
-ghost use Rattle.krs_desk.specs.Keeping.{IsPlaced};
+ghost use Rattle.std.specs.Prelude.{◌≡◌, None, true};
+ghost use Rattle.krs_desk.specs.{Keeping.IsPlaced, Seated.{HasSlot, sitting_of}};
 
 use crate::token::Token;
 use std::marker::Model;
@@ -24,8 +23,7 @@ impl Model for Seat {
 
     ghost Value = { Sitting };
 
-    ghost use Rattle.krs_desk.specs.Seated.{sitting_of, HasSlot};
-    ghost use Rattle.krs_desk.specs.Keeping.{IsPlaced};
+    ghost use Rattle.krs_desk.specs.{Keeping.IsPlaced, Seated.{HasSlot, sitting_of}};
 
     ghost view = { λ s. sitting_of s.token.table_id s.served s.token.me };
 

@@ -1,8 +1,7 @@
 //! The rule of the table, and what each step on it tells.
-ghost use Rattle.krs_desk.specs.Steps.{takes_told, puts_told, looks_told, opens_told, picks_told};
-ghost use Rattle.krs_desk.specs.Steps.{posts_told, collects_told, glances_told, grabs_told, answers_told, brings_told};
-ghost use Rattle.krs_desk.specs.Steps.{checks_told, keeps_told};
-ghost use Rattle.krs_desk.specs.Parts.{kept_sight, given_sight};
+ghost use Rattle.krs_desk.specs.{Parts.{given_sight, kept_sight}, Steps.answers_told};
+ghost use Rattle.krs_desk.specs.Steps.{brings_told, checks_told, collects_told, glances_told, grabs_told, keeps_told};
+ghost use Rattle.krs_desk.specs.Steps.{looks_told, opens_told, picks_told, posts_told, puts_told, takes_told};
 
 use crate::board::Tells;
 use crate::served_call::{Added, Opened};
@@ -17,7 +16,7 @@ use std::snapshot::Snapshot;
 pub struct OneOrder;
 
 impl TableRule<SlotValue, Sight, Snapshot<Store>> for OneOrder {
-    ghost use Rattle.krs_desk.specs.Rule.{InOneOrder, first_sight};
+    ghost use Rattle.krs_desk.specs.Rule.{first_sight, InOneOrder};
 
     ghost holds = { λ key. InOneOrder key.value };
 

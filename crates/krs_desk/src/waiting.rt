@@ -6,7 +6,7 @@
 //! back looks after that for threads that lie. It rings each whose call was answered, and one whose call is still posted:
 //! that one gets up, and takes the turn or finds it taken again. By a bell that was rung since it lay down no thread
 //! begins to sleep.
-ghost use Rattle.std.specs.Prelude.{◌<◌, ◌+◌};
+ghost use Rattle.std.specs.Prelude.{◌+◌, ◌<◌};
 
 use crate::desk::Desk;
 use crate::word::{ANSWERED, FREE, POSTED, TURN, cell_of};

@@ -1,44 +1,23 @@
 -- Behind the guard no peer acts as another.
-use Rattle.std.proofs.Common.{◌≡◌, ℕ, ◌==◌, List, [], ◌∷◌, ◌++◌, Bool, true, false, cond, arith, Result, Ok, Err, refl, ap, ◌∙◌, sym, subst}
-use Rattle.std.proofs.Common.{inl, inr}
-use Rattle.std.specs.Prelude.{IsOk}
+use Rattle.std.proofs.Common.{[], ◌++◌, ◌==◌, ◌∙◌, ◌∷◌, ◌≡◌, ap, arith, Bool, cond, Err, false, inl, inr, IsOk, List}
+use Rattle.std.proofs.Common.{Ok, refl, Result, subst, sym, true, true≢false, ℕ}
 use Rattle.std.specs.List.{AllByRecursion}
-use Rattle.std.proofs.lemmas.Bool.{true≢false}
 use Rattle.std.proofs.lemmas.Bool.Decides.{nat_tests}
-use Rattle.krs_types.specs.declared.errno.Errno.{Errno}
-use Rattle.krs_types.specs.declared.errno.Errno.TheVariants.{EINVAL, ESRCH}
-use Rattle.krs_types.specs.declared.caller.Caller.{Caller}
-use Rattle.krs_types.specs.declared.context.Context.{Context}
-use Rattle.krs_types.specs.declared.ask.Answer.{Answer}
-use Rattle.krs_types.specs.declared.ask.Ask.{Ask}
-use Rattle.krs_types.specs.declared.ask.Op.{Op}
-use Rattle.krs_types.specs.declared.ask.Op.TheVariants.{Hello, Leave}
-use Rattle.krs_types.specs.declared.event.Event.{Event}
-use Rattle.krs_types.specs.Caller.{caller_check}
-use Rattle.krs_types.specs.Refusing.{or_refuse}
-use Rattle.krs_model.specs.State.{State, starting_at, raised}
-use Rattle.krs_model.specs.Table.{at}
+use Rattle.krs_types.specs.{Caller.caller_check, Refusing.or_refuse, declared.ask.{Answer.Answer, Ask.Ask, Op.Op}}
+use Rattle.krs_types.specs.declared.{ask.Op.TheVariants.{Hello, Leave}, caller.Caller.Caller, context.Context.Context}
+use Rattle.krs_types.specs.declared.{errno.Errno.{Errno, TheVariants.{EINVAL, ESRCH}}, event.Event.Event}
+use Rattle.krs_model.specs.{Asks.Hello.hello, Belonging.HasGreeted, Confidentiality.KeepsPrivate, History.IsLegal}
 use Rattle.krs_model.specs.Lookup.{context_of, if_own}
-use Rattle.krs_model.specs.Step.{Step, Ends, outcome_of}
-use Rattle.krs_model.specs.History.{IsLegal}
-use Rattle.krs_model.specs.Asks.Hello.{hello}
-use Rattle.krs_model.specs.Belonging.{HasGreeted}
-use Rattle.krs_model.specs.Confidentiality.{KeepsPrivate}
-use Rattle.krs_model.proofs.Asks.Later.{bind_ok, same_ok}
-use Rattle.krs_model.proofs.History.Belongings.{contexts_greeted, readers_greeted}
-use Rattle.krs_model.proofs.Isolation.Histories.{private_legal, leaves_alone}
-use Rattle.krs_model.proofs.Isolation.Steps.{none_alone}
-use Rattle.krs_model.proofs.Lookups.Serials.{own_there}
-use Rattle.krs_model.proofs.Sound.Steps.{start_sound}
+use Rattle.krs_model.specs.{State.{raised, starting_at, State}, Step.{Ends, outcome_of, Step}, Table.at}
+use Rattle.krs_model.proofs.{Asks.Later.{bind_ok, same_ok}, History.Belongings.{contexts_greeted, readers_greeted}}
+use Rattle.krs_model.proofs.Isolation.Histories.{leaves_alone, private_legal}
+use Rattle.krs_model.proofs.{Isolation.Steps.none_alone, Lookups.Serials.own_there, Sound.Steps.start_sound}
 use Rattle.krs_laws.specs.Belonging.{BeganEmpty}
 use Rattle.krs_desk.proofs.Seen.{next_step}
-use Rattle.krs_screen.specs.declared.claim.Peer.{Peer}
-use Rattle.krs_screen.specs.Reading.{Harmless, nobody, trusted, own}
-use Rattle.krs_screen.specs.Run.{AsksHarmless}
+use Rattle.krs_screen.specs.{Reading.{Harmless, nobody, own, trusted}, Run.AsksHarmless, declared.claim.Peer.Peer}
 use Rattle.krs_screen.proofs.Arriving.{arrives}
-use Rattle.krs_guarded.specs.Guarded.{IsPassedOn, IsBehindGuard, IsPeerOf}
-use Rattle.krs_guarded.specs.Guarded.{NoPeerActsAsAnother, NoPeerReadsAnothers, NoPeerChangesAnothers}
-use Rattle.krs_guarded.specs.Guarded.{AreReadByTheirPeers}
+use Rattle.krs_guarded.specs.Guarded.{AreReadByTheirPeers, IsBehindGuard, IsPassedOn, IsPeerOf, NoPeerActsAsAnother}
+use Rattle.krs_guarded.specs.Guarded.{NoPeerChangesAnothers, NoPeerReadsAnothers}
 
 -- what all of a list meet, one in it meets
 each_meets : {A : Type 0} (P : A → Type 0) (xs : List A) (y : A) (ys : List A) → AllByRecursion P (xs ++ y ∷ ys) → P y

@@ -1,22 +1,12 @@
 -- What holds behind the guard: unix(7), SO_PEERCRED; profile, believed caller. The form is this project's own.
-use Rattle.std.specs.Prelude.{◌≡◌, ◌<◌, ◌⊎◌, ℕ, List, ◌∷◌, ◌++◌, Bool, true, false, Ok, length, slice_index}
-use Rattle.krs_types.specs.declared.ask.Ask.{Ask}
-use Rattle.krs_types.specs.declared.context.Context.{Context}
-use Rattle.krs_types.specs.declared.event.Event.{Event}
-use Rattle.krs_model.specs.State.{State}
-use Rattle.krs_model.specs.Lookup.{context_of}
-use Rattle.krs_model.specs.Step.{Step}
-use Rattle.krs_model.specs.History.{IsLegal}
-use Rattle.krs_model.specs.Revocation.{Reads}
-use Rattle.krs_model.specs.Confidentiality.{KeepsPrivate, AreUnchanged}
-use Rattle.krs_model.specs.Belonging.{HasStayed}
+use Rattle.std.specs.Prelude.{◌++◌, ◌<◌, ◌∷◌, ◌≡◌, ◌⊎◌, Bool, false, length, List, Ok, slice_index, true, ℕ}
+use Rattle.krs_types.specs.declared.{ask.Ask.Ask, context.Context.Context, event.Event.Event}
+use Rattle.krs_model.specs.{Belonging.HasStayed, Confidentiality.{AreUnchanged, KeepsPrivate}, History.IsLegal}
+use Rattle.krs_model.specs.{Lookup.context_of, Revocation.Reads, State.State, Step.Step}
 use Rattle.krs_laws.specs.Belonging.{BeganEmpty}
-use Rattle.krs_wire.specs.declared.framed.Framed.{Framed}
-use Rattle.krs_wire.specs.Frame.{Frames, End}
-use Rattle.krs_screen.specs.declared.claim.Peer.{Peer}
-use Rattle.krs_screen.specs.Counting.{most}
+use Rattle.krs_wire.specs.{Frame.{End, Frames}, declared.framed.Framed.Framed}
+use Rattle.krs_screen.specs.{Counting.most, Run.{run, start}, declared.claim.Peer.Peer}
 use Rattle.krs_screen.specs.Run as screen
-use Rattle.krs_screen.specs.Run.{run, start}
 
 -- all that the guard of a connection with this peer passed on to the daemon, in whatever pieces it came
 abbrev pub passed_on : Peer → List ℕ → List screen.Event → List ℕ

@@ -1,8 +1,8 @@
 //! That behind the guard no peer reads another's keys, nor changes them. A peer is who the kernel says is at the other
 //! end of a connection: unix(7), SO_PEERCRED.
 ghost use Rattle.krs_model.specs.State.{State};
-ghost use Rattle.krs_guarded.specs.Guarded.{NoPeerActsAsAnother, NoPeerReadsAnothers, NoPeerChangesAnothers};
-ghost use Rattle.krs_guarded.specs.Guarded.{AreReadByTheirPeers};
+ghost use Rattle.krs_guarded.specs.Guarded.{AreReadByTheirPeers, NoPeerActsAsAnother, NoPeerChangesAnothers};
+ghost use Rattle.krs_guarded.specs.Guarded.{NoPeerReadsAnothers};
 
 use krs_desk::Seat;
 

@@ -1,37 +1,20 @@
 -- From exact counts to a closed choice.
-use Rattle.std.proofs.Common.{◌≡◌, ℕ, zero, suc, ◌+◌, ◌<◌, ◌==◌, ◌&&◌, List, [], ◌∷◌, ◌++◌, Option, Some, None, Bool}
-use Rattle.std.proofs.Common.{true, false, not, cond, filter, refl, ap, ◌∙◌, sym, arith, inl, inr, ⊎_elim, subst}
-use Rattle.std.proofs.lemmas.Bool.{true≢false, cases_eq}
-use Rattle.std.proofs.lemmas.Bool.Decides.{nat_tests}
-use Rattle.std.proofs.lemmas.Option.{none-some}
-use Rattle.std.proofs.lemmas.Map.Keys.{sorted_head, sorted_tail}
-use Rattle.std.specs.Option.{IsSome}
-use Rattle.std.specs.List.{AllByRecursion}
-use Rattle.std.specs.List.Sorted.{IsStrictlySortedBy}
-use Rattle.std.specs.Cmp.{unsigned_tied, ranked}
-use Rattle.std.specs.Ordering.{nat_cmp}
-use Rattle.std.specs.declared.cmp.Ordering.TheVariants.{Less}
-use Rattle.std.specs.BTreeMap.{is_at}
-use Rattle.std.specs.Map.{keys_of}
-use Rattle.krs_model.specs.Table.{Table, at, without}
-use Rattle.krs_model.specs.State as model
-use Rattle.krs_model.specs.Possession.{links_of_content}
-use Rattle.krs_model.specs.Levels.{is_in}
-use Rattle.krs_model.specs.Sweep.{links_of_key}
-use Rattle.krs_model.specs.Reach.{IsAcyclic, links_of_key_at}
-use Rattle.krs_model.specs.Anchored.{IsAnchored}
-use Rattle.krs_model.proofs.Tables.Changes.{same_at, is_at_same, at_kept, filter_map_keys}
+use Rattle.std.proofs.Common.{[], ⊎_elim, ◌&&◌, ◌++◌, ◌+◌, ◌<◌, ◌==◌, ◌∙◌, ◌∷◌, ◌≡◌, ap, arith, Bool, cond, false}
+use Rattle.std.proofs.Common.{filter, inl, inr, IsSome, List, nat_cmp, None, not, Option, refl, Some, subst, suc, sym}
+use Rattle.std.proofs.Common.{true, true≢false, zero, ℕ}
+use Rattle.std.specs.{BTreeMap.is_at, Cmp.{ranked, unsigned_tied}, List.AllByRecursion}
+use Rattle.std.specs.{List.Sorted.IsStrictlySortedBy, Map.keys_of, declared.cmp.Ordering.TheVariants.Less}
+use Rattle.std.proofs.lemmas.{Bool.{cases_eq, Decides.nat_tests}, Map.Keys.{sorted_head, sorted_tail}, Option.none-some}
+use Rattle.krs_model.specs.{Anchored.IsAnchored, Levels.is_in, Possession.links_of_content}
+use Rattle.krs_model.specs.{Reach.{IsAcyclic, links_of_key_at}, Sweep.links_of_key, Table.{at, Table, without}}
 use Rattle.krs_model.proofs.Reach.Levels.{same_is}
-use Rattle.krs_model.proofs.Sweep.HeldKeys.{closed_held}
-use Rattle.krs_keys.specs.declared.key.Key.{Key}
-use Rattle.krs_keys.specs.Keys.{seen, shown}
-use Rattle.krs_keys.specs.Kept.{KeepsAnchored, Sweeps}
+use Rattle.krs_model.proofs.{Sweep.HeldKeys.closed_held, Tables.Changes.{at_kept, filter_map_keys, is_at_same, same_at}}
+use Rattle.krs_keys.specs.{Kept.{KeepsAnchored, Sweeps}, Keys.{seen, shown}, declared.key.Key.Key}
 use Rattle.krs_keys.proofs.TableLemmas.{keys_map}
-use Rattle.krs_hold.specs.declared.counts.Count.{Count}
-use Rattle.krs_hold.specs.Tally.{times, all_links}
 use Rattle.krs_hold.specs.Chain.{holders_at, IsChain, IsChained, Spares}
-use Rattle.krs_hold.proofs.Times.{times-append, times-in, in-times, other_is}
-use Rattle.krs_hold.proofs.Exact.{IsCounted}
+use Rattle.krs_hold.specs.{Tally.{all_links, times}, declared.counts.Count.Count}
+use Rattle.krs_hold.proofs.{Exact.IsCounted, Times.{in-times, other_is, times-append, times-in}}
+use Rattle.krs_model.specs.State as model
 
 -- ---- what is left of a table
 filter_all : {X : Type 0} (xs : List X) → xs ≡ filter (λ x. true) xs

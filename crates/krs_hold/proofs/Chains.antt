@@ -1,20 +1,14 @@
 -- Laws of the chain of the counts that wait.
-use Rattle.std.proofs.Common.{◌≡◌, ℕ, ◌+◌, ◌-◌, ◌<◌, ◌≤◌, ◌==◌, ◌&&◌, ◌||◌, List, [], ◌∷◌, Option, Some, None, true}
-use Rattle.std.proofs.Common.{false, not, cond, refl, ap, ◌∙◌, sym, arith, ⊎_elim, subst}
-use Rattle.std.proofs.lemmas.Bool.{true≢false, cases_eq}
-use Rattle.std.proofs.lemmas.Bool.Decides.{nat_tests}
-use Rattle.std.proofs.lemmas.Option.{none-some, same_Some}
-use Rattle.std.specs.Option.{option_map, IsSome, is_some}
-use Rattle.std.specs.Ordering.{nat_cmp}
+use Rattle.std.proofs.Common.{[], ⊎_elim, ◌&&◌, ◌+◌, ◌-◌, ◌<◌, ◌==◌, ◌||◌, ◌∙◌, ◌∷◌, ◌≡◌, ◌≤◌, ap, arith, cond, false}
+use Rattle.std.proofs.Common.{is_some, IsSome, List, nat_cmp, None, not, Option, option_map, refl, Some, subst, sym}
+use Rattle.std.proofs.Common.{true, true≢false, ℕ}
 use Rattle.std.specs.BTreeMap.{is_at}
-use Rattle.krs_hold.specs.declared.counts.Count.{Count}
-use Rattle.krs_model.specs.Table.{Table, at, alter, put, without}
-use Rattle.krs_model.specs.Levels.{is_in}
-use Rattle.krs_hold.specs.Chain.{holders_at, is_waiting, next_at, IsChain, IsChained, falls, falls_at, lowered}
-use Rattle.krs_hold.specs.Chain.{raised, rested, Chained, gone, gone_all, weight, total_weight}
-use Rattle.krs_model.proofs.Tables.Changes.{alter_none, at_put_same, at_alter_same}
-use Rattle.krs_hold.proofs.Places.{alter_other, put_other, without_other, at_some}
-use Rattle.krs_hold.proofs.Times.{in_head, in_tail, in_rest}
+use Rattle.std.proofs.lemmas.{Bool.{cases_eq, Decides.nat_tests}, Option.{none-some, same_Some}}
+use Rattle.krs_model.specs.{Levels.is_in, Table.{alter, at, put, Table, without}}
+use Rattle.krs_model.proofs.Tables.Changes.{alter_none, at_alter_same, at_put_same}
+use Rattle.krs_hold.specs.Chain.{Chained, falls, falls_at, gone, gone_all, holders_at, is_waiting, IsChain, IsChained}
+use Rattle.krs_hold.specs.{Chain.{lowered, next_at, raised, rested, total_weight, weight}, declared.counts.Count.Count}
+use Rattle.krs_hold.proofs.{Places.{alter_other, at_some, put_other, without_other}, Times.{in_head, in_rest, in_tail}}
 
 -- a chain stays where its counts wait and name the next as before
 pub chain_same :

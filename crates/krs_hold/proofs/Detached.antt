@@ -1,24 +1,16 @@
 -- What a key that goes out of every keyring and every attachment owes the numbers: keyctl(2), KEYCTL_INVALIDATE.
-use Rattle.std.proofs.Common.{◌≡◌, ℕ, ◌+◌, ◌==◌, List, [], ◌∷◌, ◌++◌, Option, Some, None, true, false, cond, not}
-use Rattle.std.proofs.Common.{filter, zero, suc, refl, ap, ◌∙◌, sym, subst, arith, ⊎_elim}
-use Rattle.std.specs.Prelude.{replicate}
-use Rattle.std.specs.Option.{option_map, option_to_list, IsSome}
-use Rattle.std.proofs.lemmas.Bool.{cases_eq}
-use Rattle.std.proofs.lemmas.Bool.Decides.{nat_tests}
-use Rattle.krs_types.specs.declared.context.Context.{Context}
-use Rattle.krs_types.specs.declared.context.UidRings.{UidRings}
-use Rattle.krs_model.specs.Table.{Table, at, map_values}
-use Rattle.krs_model.specs.State.{State, Key, Content, Payload, Links}
-use Rattle.krs_model.specs.Possession.{links_of_content}
-use Rattle.krs_model.specs.Sweep.{roots, context_roots, process_roots, uid_roots}
-use Rattle.krs_model.specs.Asks.Linked.{without_link, unlinked_content}
-use Rattle.krs_model.specs.Asks.Invalidating.{detached, context_without, rings_without, invalidated}
-use Rattle.krs_model.proofs.Reach.Levels.{same_is}
-use Rattle.krs_model.proofs.Tables.Changes.{at_map}
-use Rattle.krs_hold.specs.Tally.{times, all_links, number_at, all_less, IsTallied}
-use Rattle.krs_hold.proofs.Times.{times-cons, times-append, times-same, times-other, other_is}
-use Rattle.krs_hold.proofs.Gathered.{gathered}
-use Rattle.krs_hold.proofs.Tallies.{tallied_let_go_all}
+use Rattle.std.proofs.Common.{[], ⊎_elim, ◌++◌, ◌+◌, ◌==◌, ◌∙◌, ◌∷◌, ◌≡◌, ap, arith, cond, false, filter, IsSome, List}
+use Rattle.std.proofs.Common.{None, not, Option, option_map, option_to_list, refl, replicate, Some, subst, suc, sym}
+use Rattle.std.proofs.{Common.{true, zero, ℕ}, lemmas.Bool.{cases_eq, Decides.nat_tests}}
+use Rattle.krs_types.specs.declared.context.{Context.Context, UidRings.UidRings}
+use Rattle.krs_model.specs.Asks.Invalidating.{context_without, detached, invalidated, rings_without}
+use Rattle.krs_model.specs.Asks.Linked.{unlinked_content, without_link}
+use Rattle.krs_model.specs.{Possession.links_of_content, State.{Content, Key, Links, Payload, State}}
+use Rattle.krs_model.specs.{Sweep.{context_roots, process_roots, roots, uid_roots}, Table.{at, map_values, Table}}
+use Rattle.krs_model.proofs.{Reach.Levels.same_is, Tables.Changes.at_map}
+use Rattle.krs_hold.specs.Tally.{all_less, all_links, IsTallied, number_at, times}
+use Rattle.krs_hold.proofs.{Gathered.gathered, Tallies.tallied_let_go_all}
+use Rattle.krs_hold.proofs.Times.{other_is, times-append, times-cons, times-other, times-same}
 
 -- how often a serial is left where one key goes
 abbrev pub left : ℕ → ℕ → ℕ → ℕ

@@ -1,16 +1,12 @@
 -- To let go of a key as often as something holds it is to empty its count at once.
-use Rattle.std.proofs.Common.{◌≡◌, ℕ, zero, suc, ◌-◌, ◌&&◌, Bool, true, false, not, nat_lt, cond, Option, Some}
-use Rattle.std.proofs.Common.{[], ◌∷◌, refl, ap, ◌∙◌, sym, arith}
-use Rattle.std.proofs.lemmas.Bool.{true≢false}
-use Rattle.std.specs.Prelude.{replicate}
-use Rattle.std.specs.Ordering.{nat_cmp}
+use Rattle.std.proofs.Common.{[], ◌&&◌, ◌-◌, ◌∙◌, ◌∷◌, ◌≡◌, ap, arith, Bool, cond, false, nat_cmp, nat_lt, not, Option}
+use Rattle.std.proofs.Common.{refl, replicate, Some, suc, sym, true, true≢false, zero, ℕ}
 use Rattle.std.specs.BTreeMap.{is_at}
 use Rattle.std.proofs.lemmas.Bool.Decides.{nat_tests}
-use Rattle.krs_model.specs.Table.{Table, at, alter}
+use Rattle.krs_model.specs.Table.{alter, at, Table}
+use Rattle.krs_hold.specs.Chain.{Chained, emptied, empties, falls, falls_at, gone, gone_all, lowered, unheld}
 use Rattle.krs_hold.specs.declared.counts.Count.{Count}
-use Rattle.krs_hold.specs.Chain.{Chained, gone, gone_all, falls, falls_at, lowered, unheld, empties, emptied}
-use Rattle.krs_hold.proofs.Chains.{falls_true, falls_false, lowered_stays, lowered_falls}
-use Rattle.krs_hold.proofs.Places.{alter_to, at_some}
+use Rattle.krs_hold.proofs.{Chains.{falls_false, falls_true, lowered_falls, lowered_stays}, Places.{alter_to, at_some}}
 
 -- a change that leaves what is there
 alter_same : {X : Type 0} (es : Table X) (k : ℕ) (f : X → X) (v : X) → at es k ≡ Some v → f v ≡ v → alter es k f ≡ es

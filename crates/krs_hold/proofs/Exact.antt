@@ -1,20 +1,14 @@
 -- Exact counts, as they are kept.
-use Rattle.std.proofs.Common.{◌≡◌, ℕ, ◌+◌, ◌-◌, List, [], ◌∷◌, Option, Some, None, true, false, cond}
-use Rattle.std.proofs.Common.{refl, ap, ◌∙◌, sym, arith, ⊎_elim, subst}
-use Rattle.std.proofs.lemmas.Bool.{true≢false, cases_eq}
-use Rattle.std.specs.Option.{option_map, unwrap_or, IsSome, is_some}
-use Rattle.krs_model.specs.Table.{Table, at, alter, without}
-use Rattle.krs_model.specs.State.{Key}
+use Rattle.std.proofs.Common.{[], ⊎_elim, ◌+◌, ◌-◌, ◌∙◌, ◌∷◌, ◌≡◌, ap, arith, cond, false, is_some, IsSome, List, None}
+use Rattle.std.proofs.Common.{Option, option_map, refl, Some, subst, sym, true, true≢false, unwrap_or, ℕ}
+use Rattle.std.proofs.lemmas.Bool.{cases_eq}
 use Rattle.krs_model.specs.Possession.{links_of_content}
-use Rattle.krs_model.specs.Sweep.{links_of_key}
-use Rattle.krs_model.proofs.Tables.Changes.{at_map, at_alter_same}
-use Rattle.krs_hold.specs.declared.counts.Count.{Count}
-use Rattle.krs_hold.specs.Tally.{times, all_links, number_at, IsTallied}
-use Rattle.krs_hold.specs.Chain.{numbers_of, holders_at, falls, lowered, rested, Chained, gone, gone_all}
-use Rattle.krs_hold.proofs.Places.{alter_other, without_other, is_some_alter}
-use Rattle.krs_hold.proofs.Times.{times-same, times-other}
-use Rattle.krs_hold.proofs.Gathered.{given_by, times-without}
-use Rattle.krs_hold.proofs.Chains.{falls_true}
+use Rattle.krs_model.specs.{State.Key, Sweep.links_of_key, Table.{alter, at, Table, without}}
+use Rattle.krs_model.proofs.Tables.Changes.{at_alter_same, at_map}
+use Rattle.krs_hold.specs.Chain.{Chained, falls, gone, gone_all, holders_at, lowered, numbers_of, rested}
+use Rattle.krs_hold.specs.{Tally.{all_links, IsTallied, number_at, times}, declared.counts.Count.Count}
+use Rattle.krs_hold.proofs.{Chains.falls_true, Gathered.{given_by, times-without}}
+use Rattle.krs_hold.proofs.{Places.{alter_other, is_some_alter, without_other}, Times.{times-other, times-same}}
 
 -- the counts are exact: as their numbers are
 pub record IsCounted (keys : Table Key) (attached owed : List ℕ) (counts : Table Count) : Type 0 where

@@ -1,11 +1,9 @@
 -- What the entries of a table give, one after the other, as its entries change.
-use Rattle.std.proofs.Common.{◌≡◌, ℕ, ◌+◌, List, [], ◌∷◌, ◌++◌, Option, Some, None, Bool, true, false, not, cond}
-use Rattle.std.proofs.Common.{filter, flat_map, refl, ap, sym, arith}
+use Rattle.std.proofs.Common.{[], ◌++◌, ◌+◌, ◌∷◌, ◌≡◌, ap, arith, Bool, cond, false, filter, flat_map, is_eq, List}
+use Rattle.std.proofs.Common.{nat_cmp, None, not, Option, refl, Some, sym, true, ℕ}
+use Rattle.std.specs.{BTreeMap.is_at, Ordering.match_ordering, declared.cmp.Ordering.TheVariants.{Equal, Greater, Less}}
 use Rattle.std.proofs.lemmas.Option.{none-some, same_Some}
-use Rattle.std.specs.Ordering.{nat_cmp, match_ordering, is_eq}
-use Rattle.std.specs.declared.cmp.Ordering.TheVariants.{Less, Equal, Greater}
-use Rattle.std.specs.BTreeMap.{is_at}
-use Rattle.krs_model.specs.Table.{Table, at, alter, put, without}
+use Rattle.krs_model.specs.Table.{alter, at, put, Table, without}
 use Rattle.krs_hold.specs.Tally.{times}
 use Rattle.krs_hold.proofs.Times.{times-append}
 

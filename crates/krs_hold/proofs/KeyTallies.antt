@@ -1,34 +1,21 @@
 -- What each call of a key table owes the numbers: for whoever keeps a key table and its numbers together.
-use Rattle.std.proofs.Common.{◌≡◌, ℕ, ◌+◌, ◌==◌, ◌||◌, List, [], ◌∷◌, ◌++◌, Option, Some, None, true, false, not, cond}
-use Rattle.std.proofs.Common.{refl, ap, ◌∙◌, sym, arith, subst}
-use Rattle.std.specs.List.{find}
-use Rattle.std.specs.Option.{option_map, option_to_list, IsSome}
-use Rattle.std.proofs.lemmas.Bool.{true≢false, eqb-true}
-use Rattle.std.proofs.lemmas.Option.{same_Some}
-use Rattle.krs_types.specs.declared.name.Name.{Name}
-use Rattle.krs_types.specs.Name.{same_name}
-use Rattle.krs_links.specs.Links.{LinkList, link_put, unlinked_key, serial_named, serials}
+use Rattle.std.proofs.Common.{[], ◌++◌, ◌+◌, ◌==◌, ◌||◌, ◌∙◌, ◌∷◌, ◌≡◌, ap, arith, cond, eqb-true, false, find, IsSome}
+use Rattle.std.proofs.Common.{List, None, not, Option, option_map, option_to_list, refl, Some, subst, sym, true}
+use Rattle.std.proofs.{Common.{true≢false, ℕ}, lemmas.Option.same_Some}
+use Rattle.krs_types.specs.{Name.same_name, declared.name.Name.Name}
+use Rattle.krs_model.specs.{Levels.is_in, Possession.links_of_content, Table.{alter, at, put, Table}}
+use Rattle.krs_model.proofs.Tables.Changes.{alter_map, at_map, put_map}
+use Rattle.krs_links.specs.Links.{link_put, LinkList, serial_named, serials, unlinked_key}
 use Rattle.krs_links.proofs.KeyLinks.{serials-unlinked_key}
-use Rattle.krs_model.specs.Levels.{is_in}
-use Rattle.krs_model.specs.Table.{Table, at, put, alter}
-use Rattle.krs_model.specs.State as model
-use Rattle.krs_model.specs.Possession.{links_of_content}
-use Rattle.krs_model.proofs.Tables.Changes.{at_map, put_map, alter_map}
-use Rattle.krs_keys.specs.declared.key.Key.{Key}
-use Rattle.krs_keys.specs.declared.key.Content.{Content}
-use Rattle.krs_keys.specs.declared.key.Content.TheVariants.{Payload, Links}
-use Rattle.krs_keys.specs.declared.key.Change.{Change}
-use Rattle.krs_keys.specs.declared.key.Change.TheVariants as change
-use Rattle.krs_keys.specs.Keys.{seen, shown, named_links_of_content, AreNamed, displaced_at, displaced_by}
-use Rattle.krs_keys.specs.Keys.{with_entry, entered, without_key}
-use Rattle.krs_keys.specs.Changes.{changed, paid_with, emptied, cleared_content}
-use Rattle.krs_keys.proofs.LinkNames.{none_left}
-use Rattle.krs_keys.proofs.KeysLemmas.{serials-content}
-use Rattle.krs_keys.proofs.Unlinking.{links-keyless}
-use Rattle.krs_hold.specs.Tally.{times, IsTallied, one_more, one_less, all_less}
-use Rattle.krs_hold.specs.Taken.{taken_by}
-use Rattle.krs_hold.proofs.Times.{times-cons, times-append}
+use Rattle.krs_keys.specs.{Changes.{changed, cleared_content, emptied, paid_with}, Keys.{AreNamed, displaced_at}}
+use Rattle.krs_keys.specs.Keys.{displaced_by, entered, named_links_of_content, seen, shown, with_entry, without_key}
+use Rattle.krs_keys.specs.declared.key.{Change.Change, Content.{Content, TheVariants.{Links, Payload}}, Key.Key}
+use Rattle.krs_keys.proofs.{KeysLemmas.serials-content, LinkNames.none_left, Unlinking.links-keyless}
+use Rattle.krs_hold.specs.{Taken.taken_by, Tally.{all_less, IsTallied, one_less, one_more, times}}
 use Rattle.krs_hold.proofs.Tallies.{tallied_hold, tallied_let_go, tallied_let_go_all, tallied_put, tallied_relinked}
+use Rattle.krs_hold.proofs.Times.{times-append, times-cons}
+use Rattle.krs_keys.specs.declared.key.Change.TheVariants as change
+use Rattle.krs_model.specs.State as model
 
 -- a link more: of its own serial one more, and of what it displaces one less
 times-linked :

@@ -1,17 +1,12 @@
 -- The numbers that a caller sees of the counts, as the counts change.
-use Rattle.std.proofs.Common.{◌≡◌, ℕ, ◌+◌, ◌-◌, List, [], ◌∷◌, Option, Some, None, true, false, cond}
-use Rattle.std.proofs.Common.{refl, ap, ◌∙◌, sym, subst}
-use Rattle.std.proofs.lemmas.Bool.{true≢false}
-use Rattle.std.specs.Option.{is_some}
-use Rattle.krs_model.specs.Table.{Table, at, alter, put}
-use Rattle.krs_model.proofs.Tables.Changes.{put_map, alter_map}
-use Rattle.krs_hold.specs.declared.counts.Count.{Count}
-use Rattle.krs_hold.specs.Tally.{number_at, with_number, one_more, one_less, all_less}
-use Rattle.krs_hold.specs.Chain.{numbers_of, holders_at, falls_at, lowered, raised, IsChained, Chained, gone}
-use Rattle.krs_hold.specs.Chain.{gone_all}
-use Rattle.krs_hold.proofs.Chains.{made_chained, held_chained, raised_chained, gone_chained, gone_all_chained}
-use Rattle.krs_hold.proofs.Exact.{holders_lowered, number_is, is_some_shown}
-use Rattle.krs_hold.proofs.Places.{alter_put}
+use Rattle.std.proofs.Common.{[], ◌+◌, ◌-◌, ◌∙◌, ◌∷◌, ◌≡◌, ap, cond, false, is_some, List, None, Option, refl, Some}
+use Rattle.std.proofs.Common.{subst, sym, true, true≢false, ℕ}
+use Rattle.krs_model.specs.Table.{alter, at, put, Table}
+use Rattle.krs_model.proofs.Tables.Changes.{alter_map, put_map}
+use Rattle.krs_hold.specs.Chain.{Chained, falls_at, gone, gone_all, holders_at, IsChained, lowered, numbers_of, raised}
+use Rattle.krs_hold.specs.{Tally.{all_less, number_at, one_less, one_more, with_number}, declared.counts.Count.Count}
+use Rattle.krs_hold.proofs.Chains.{gone_all_chained, gone_chained, held_chained, made_chained, raised_chained}
+use Rattle.krs_hold.proofs.{Exact.{holders_lowered, is_some_shown, number_is}, Places.alter_put}
 
 -- what a caller sees of one count
 pub number_seen :

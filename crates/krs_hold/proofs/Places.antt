@@ -1,15 +1,13 @@
 -- Laws of tables: what is at another number after a change, a value that is written back, and one that is changed
 -- where it was put.
-use Rattle.std.proofs.Common.{◌≡◌, ℕ, [], ◌∷◌, Option, Some, None, true, false, cond, refl, ap, ◌∙◌, sym, ⊎_elim}
-use Rattle.std.proofs.Common.{subst}
-use Rattle.std.proofs.lemmas.Bool.{cases_eq}
-use Rattle.std.specs.Option.{option_map, is_some}
-use Rattle.std.specs.Ordering.{match_ordering, nat_cmp}
-use Rattle.std.specs.declared.cmp.Ordering.TheVariants.{Less, Equal, Greater}
+use Rattle.std.proofs.Common.{[], ⊎_elim, ◌∙◌, ◌∷◌, ◌≡◌, ap, cond, false, is_some, nat_cmp, None, Option, option_map}
+use Rattle.std.proofs.Common.{refl, Some, subst, sym, true, ℕ}
 use Rattle.std.specs.BTreeMap.{is_at}
-use Rattle.std.specs.Map.{set_value}
-use Rattle.krs_model.specs.Table.{Table, at, alter, put, without}
-use Rattle.krs_model.proofs.Tables.Changes.{same_at, is_at_same, alter_some, at_alter_same, at_alter_other, at_put_other}
+use Rattle.std.specs.{Map.set_value, Ordering.match_ordering, declared.cmp.Ordering.TheVariants.{Equal, Greater, Less}}
+use Rattle.std.proofs.lemmas.Bool.{cases_eq}
+use Rattle.krs_model.specs.Table.{alter, at, put, Table, without}
+use Rattle.krs_model.proofs.Tables.Changes.{alter_some, at_alter_other, at_alter_same, at_put_other, is_at_same}
+use Rattle.krs_model.proofs.Tables.Changes.{same_at}
 
 -- a number is not at another
 pub other_at : (q k : ℕ) → (q ≡ k → ⊥) → is_at (nat_cmp q) k ≡ false

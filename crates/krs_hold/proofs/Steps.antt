@@ -1,21 +1,15 @@
 -- One look: the first of the chain stays, or goes with its links.
-use Rattle.std.proofs.Common.{◌≡◌, ℕ, ◌<◌, ◌≤◌, List, [], Option, Some, None, ap, ◌∙◌, sym, arith, subst}
-use Rattle.std.specs.Option.{option_map}
-use Rattle.krs_model.specs.Table.{Table, at, alter, without}
-use Rattle.krs_model.specs.State as model
-use Rattle.krs_model.specs.Sweep.{links_of_key}
+use Rattle.std.proofs.Common.{[], ◌<◌, ◌∙◌, ◌≡◌, ◌≤◌, ap, arith, List, None, Option, option_map, Some, subst, sym, ℕ}
+use Rattle.krs_model.specs.{Sweep.links_of_key, Table.{alter, at, Table, without}}
 use Rattle.krs_model.proofs.Tables.Changes.{at_map, without_map}
-use Rattle.krs_keys.specs.declared.key.Key.{Key}
-use Rattle.krs_keys.specs.Keys.{seen, shown}
-use Rattle.krs_hold.specs.declared.counts.Count.{Count}
-use Rattle.krs_hold.specs.Tally.{AreExact}
-use Rattle.krs_hold.specs.Chain.{numbers_of, holders_at, next_at, IsChained, Chained, Spares, rested, gone_all}
-use Rattle.krs_hold.specs.Chain.{total_weight}
-use Rattle.krs_hold.proofs.Chains.{first_waits, rest_popped, kept_chained, dropped_chained, gone_all_chained}
-use Rattle.krs_hold.proofs.Chains.{weight_rested, weight_gone_all, weight_without}
-use Rattle.krs_hold.proofs.Exact.{IsCounted, counted_from, tallied_from, rested_counted, dropped_counted}
-use Rattle.krs_hold.proofs.Exact.{gone_all_counted}
+use Rattle.krs_keys.specs.{Keys.{seen, shown}, declared.key.Key.Key}
+use Rattle.krs_hold.specs.Chain.{Chained, gone_all, holders_at, IsChained, next_at, numbers_of, rested, Spares}
+use Rattle.krs_hold.specs.{Chain.total_weight, Tally.AreExact, declared.counts.Count.Count}
 use Rattle.krs_hold.proofs.Anchoring.{spares_drop}
+use Rattle.krs_hold.proofs.Chains.{dropped_chained, first_waits, gone_all_chained, kept_chained, rest_popped}
+use Rattle.krs_hold.proofs.{Chains.{weight_gone_all, weight_rested, weight_without}, Exact.counted_from}
+use Rattle.krs_hold.proofs.Exact.{dropped_counted, gone_all_counted, IsCounted, rested_counted, tallied_from}
+use Rattle.krs_model.specs.State as model
 
 -- what `rest` leaves: the first of the chain is taken out of it
 pub record IsRested (es : Table Count) (k : ℕ) (fs : Table Count) (next : Option ℕ) : Type 0 where

@@ -1,16 +1,12 @@
 -- What each change of keys, attachments or numbers owes the others.
-use Rattle.std.proofs.Common.{◌≡◌, ℕ, ◌+◌, ◌-◌, ◌≤◌, List, [], ◌∷◌, ◌++◌, Option, Some, None, true, false, cond}
-use Rattle.std.proofs.Common.{refl, ap, ◌∙◌, sym, arith, ⊎_elim, subst}
-use Rattle.std.proofs.lemmas.Bool.{true≢false, cases_eq}
-use Rattle.std.specs.Option.{option_map, unwrap_or, IsSome, is_some}
-use Rattle.krs_model.specs.Table.{Table, at, alter, put}
-use Rattle.krs_model.specs.State.{Key}
-use Rattle.krs_model.specs.Possession.{links_of_content}
+use Rattle.std.proofs.Common.{[], ⊎_elim, ◌++◌, ◌+◌, ◌-◌, ◌∙◌, ◌∷◌, ◌≡◌, ◌≤◌, ap, arith, cond, false, is_some, IsSome}
+use Rattle.std.proofs.Common.{List, None, Option, option_map, refl, Some, subst, sym, true, true≢false, unwrap_or, ℕ}
+use Rattle.std.proofs.lemmas.Bool.{cases_eq}
+use Rattle.krs_model.specs.{Possession.links_of_content, State.Key, Table.{alter, at, put, Table}}
 use Rattle.krs_model.proofs.Tables.Changes.{at_alter_same, at_put_same}
-use Rattle.krs_hold.specs.Tally.{times, all_links, number_at, IsTallied, with_number, one_more, one_less, all_less}
-use Rattle.krs_hold.proofs.Places.{alter_other, put_other, is_some_alter}
-use Rattle.krs_hold.proofs.Times.{times-same, times-other}
-use Rattle.krs_hold.proofs.Gathered.{times-put, times-alter}
+use Rattle.krs_hold.specs.Tally.{all_less, all_links, IsTallied, number_at, one_less, one_more, times, with_number}
+use Rattle.krs_hold.proofs.Gathered.{times-alter, times-put}
+use Rattle.krs_hold.proofs.{Places.{alter_other, is_some_alter, put_other}, Times.{times-other, times-same}}
 
 number_map : (f : ℕ → ℕ) (o : Option ℕ) → IsSome o → unwrap_or (option_map f o) 0 ≡ f (unwrap_or o 0)
 number_map f None h = absurd (true≢false (sym h))

@@ -1,9 +1,7 @@
 -- How often a serial stands in a list.
-use Rattle.std.proofs.Common.{◌≡◌, ℕ, ◌+◌, ◌<◌, ◌==◌, ◌||◌, List, [], ◌∷◌, ◌++◌, true, false, cond}
-use Rattle.std.proofs.Common.{refl, ap, ◌∙◌, sym, arith, subst}
-use Rattle.std.proofs.lemmas.Bool.{true≢false}
-use Rattle.std.proofs.lemmas.Bool.Decides.{nat_tests}
-use Rattle.std.proofs.lemmas.List.Sums.{sum_by-cons, sum_by-append}
+use Rattle.std.proofs.Common.{[], ◌++◌, ◌+◌, ◌<◌, ◌==◌, ◌||◌, ◌∙◌, ◌∷◌, ◌≡◌, ap, arith, cond, false, List, refl, subst}
+use Rattle.std.proofs.Common.{sym, true, true≢false, ℕ}
+use Rattle.std.proofs.lemmas.{Bool.Decides.nat_tests, List.Sums.{sum_by-append, sum_by-cons}}
 use Rattle.krs_model.specs.Levels.{is_in}
 use Rattle.krs_model.proofs.Reach.Levels.{or_true, same_is}
 use Rattle.krs_hold.specs.Tally.{times}

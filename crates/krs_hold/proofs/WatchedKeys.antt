@@ -1,12 +1,10 @@
 -- Of keys that are watched, none has been dropped.
-use Rattle.std.proofs.Common.{◌≡◌, ℕ, [], ◌∷◌, Some, Bool, true, false, cond, refl, ap, ◌∙◌, sym, subst}
-use Rattle.std.proofs.Common.{true≢false}
-use Rattle.std.specs.Ordering.{nat_cmp}
+use Rattle.std.proofs.Common.{[], ◌∙◌, ◌∷◌, ◌≡◌, ap, Bool, cond, false, nat_cmp, refl, Some, subst, sym, true}
+use Rattle.std.proofs.Common.{true≢false, ℕ}
 use Rattle.std.specs.BTreeMap.{is_at}
-use Rattle.krs_model.specs.Table.{Table, at, without}
+use Rattle.krs_model.specs.Table.{at, Table, without}
 use Rattle.krs_model.proofs.Tables.Changes.{same_at}
-use Rattle.krs_keys.specs.declared.key.Key.{Key}
-use Rattle.krs_keys.specs.Kept.{KeepsAll}
+use Rattle.krs_keys.specs.{Kept.KeepsAll, declared.key.Key.Key}
 
 at_without_other :
     {X : Type 0} (es : Table X) (k q : ℕ) → is_at (nat_cmp q) k ≡ false → at (without es k) q ≡ at es q

@@ -1,12 +1,9 @@
 -- The counts as they are kept, and which of them wait for a look.
-use Rattle.std.specs.Prelude.{◌≡◌, ℕ, ◌+◌, ◌-◌, ◌*◌, ◌==◌, ◌&&◌, List, [], ◌∷◌, Bool, true, false, not, nat_lt, cond}
-use Rattle.std.specs.Prelude.{Option, None, Some, IsSome, filter}
+use Rattle.std.specs.Prelude.{[], ◌&&◌, ◌*◌, ◌+◌, ◌-◌, ◌==◌, ◌∷◌, ◌≡◌, Bool, cond, false, filter, IsSome, List, nat_lt}
+use Rattle.std.specs.Prelude.{None, not, Option, Some, true, ℕ}
+use Rattle.krs_model.specs.{Anchored.IsAnchored, Levels.is_in, Table.{alter, at, map_values, Table}}
+use Rattle.krs_keys.specs.{Keys.shown, declared.key.Key.Key}
 use Rattle.krs_hold.specs.declared.counts.Count.{Count}
-use Rattle.krs_model.specs.Table.{Table, at, alter, map_values}
-use Rattle.krs_model.specs.Levels.{is_in}
-use Rattle.krs_model.specs.Anchored.{IsAnchored}
-use Rattle.krs_keys.specs.declared.key.Key.{Key}
-use Rattle.krs_keys.specs.Keys.{shown}
 
 -- the numbers of holders: what a caller sees of the counts
 abbrev pub numbers_of : Table Count → Table ℕ

@@ -1,11 +1,8 @@
 -- What a change of a key lets go of: keyctl(2), KEYCTL_REVOKE and KEYCTL_CLEAR.
-use Rattle.std.specs.Prelude.{ℕ, List, [], Option, None, Some}
+use Rattle.std.specs.Prelude.{[], List, None, Option, Some, ℕ}
 use Rattle.krs_links.specs.Links.{serials}
-use Rattle.krs_keys.specs.declared.key.Key.{Key}
-use Rattle.krs_keys.specs.declared.key.Content.{Content}
-use Rattle.krs_keys.specs.declared.key.Change.{Change}
+use Rattle.krs_keys.specs.{Keys.named_links_of_content, declared.key.{Change.Change, Content.Content, Key.Key}}
 use Rattle.krs_keys.specs.declared.key.Change.TheVariants as change
-use Rattle.krs_keys.specs.Keys.{named_links_of_content}
 
 -- what a change takes out of a keyring: all its links, or none
 abbrev pub taken_by : Change → Content → List ℕ

@@ -1,12 +1,9 @@
 -- How many links and attachments hold each key: keyrings(7), "Anchoring keys".
-use Rattle.std.specs.Prelude.{◌≡◌, ℕ, ◌+◌, ◌-◌, ◌==◌, List, [], ◌∷◌, IsSome, is_some, flat_map, count_by}
-use Rattle.std.specs.Prelude.{if◌then◌else◌}
-use Rattle.std.specs.Option.{unwrap_or}
-use Rattle.krs_model.specs.Table.{Table, at, put, alter}
-use Rattle.krs_model.specs.State.{Key}
-use Rattle.krs_model.specs.Possession.{links_of_content}
-use Rattle.krs_keys.specs.declared.key.Key as kept
+use Rattle.std.specs.Prelude.{[], ◌+◌, ◌-◌, ◌==◌, ◌∷◌, ◌≡◌, count_by, flat_map, if◌then◌else◌, is_some, IsSome, List}
+use Rattle.std.specs.Prelude.{unwrap_or, ℕ}
+use Rattle.krs_model.specs.{Possession.links_of_content, State.Key, Table.{alter, at, put, Table}}
 use Rattle.krs_keys.specs.Keys.{shown}
+use Rattle.krs_keys.specs.declared.key.Key as kept
 
 -- how often a serial stands in a list
 abbrev pub times : ℕ → List ℕ → ℕ

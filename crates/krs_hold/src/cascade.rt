@@ -1,12 +1,8 @@
 //! What goes once nothing holds it, key after key: without a list, without recursion.
-ghost use Rattle.std.specs.Prelude.{◌≡◌, ◌<◌, ℕ, List, Some, None, false};
-ghost use Rattle.krs_model.specs.Table.{at, without};
-ghost use Rattle.krs_model.specs.Sweep.{links_of_key};
-ghost use Rattle.krs_keys.specs.Keys.{shown};
-ghost use Rattle.krs_keys.specs.Kept.{KeepsAnchored, KeepsAll};
-ghost use Rattle.krs_keys.specs.Hashed.{by_serial};
-ghost use Rattle.krs_hold.specs.Tally.{AreExact};
-ghost use Rattle.krs_hold.specs.Chain.{numbers_of, IsChained, Spares, gone_all, total_weight};
+ghost use Rattle.std.specs.Prelude.{◌<◌, ◌≡◌, false, List, None, Some, ℕ};
+ghost use Rattle.krs_model.specs.{Sweep.links_of_key, Table.{at, without}};
+ghost use Rattle.krs_keys.specs.{Hashed.by_serial, Kept.{KeepsAll, KeepsAnchored}, Keys.shown};
+ghost use Rattle.krs_hold.specs.{Chain.{gone_all, IsChained, numbers_of, Spares, total_weight}, Tally.AreExact};
 
 use crate::counts::{Count, forget, holders, let_go_links, rest};
 use krs_keys::{KeySet, KeyTable};

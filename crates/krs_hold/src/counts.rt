@@ -1,12 +1,9 @@
 //! The counts by serial, and the chain through those that wait for a look.
-ghost use Rattle.std.specs.Prelude.{◌≡◌, ◌<◌, ◌^◌, ◌-◌, Some, cond};
-ghost use Rattle.std.specs.Prelude.{replicate};
-ghost use Rattle.krs_model.specs.Table.{at, alter, without};
+ghost use Rattle.std.specs.Prelude.{◌-◌, ◌<◌, ◌^◌, ◌≡◌, cond, replicate, Some};
+ghost use Rattle.krs_model.specs.Table.{alter, at, without};
 ghost use Rattle.krs_links.specs.Links.{serials};
-ghost use Rattle.krs_keys.specs.Hashed.{by_serial};
-ghost use Rattle.krs_keys.specs.Keys.{named_links_of_content};
-ghost use Rattle.krs_hold.specs.Chain.{holders_at, next_at, falls_at, lowered, raised, rested};
-ghost use Rattle.krs_hold.specs.Chain.{gone, gone_all, unheld};
+ghost use Rattle.krs_keys.specs.{Hashed.by_serial, Keys.named_links_of_content};
+ghost use Rattle.krs_hold.specs.Chain.{falls_at, gone, gone_all, holders_at, lowered, next_at, raised, rested, unheld};
 
 use krs_keys::Content;
 use krs_links::Links;
@@ -24,7 +21,7 @@ pub struct Count {
 }
 
 impl Count {
-    ghost use Rattle.krs_hold.specs.Chain.{falls, lowered, empties, emptied};
+    ghost use Rattle.krs_hold.specs.Chain.{emptied, empties, falls, lowered};
 
     /// Whether it has its last holder, and does not wait.
     fn falls(&self) -> bool

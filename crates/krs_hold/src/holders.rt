@@ -1,16 +1,12 @@
-ghost use Rattle.std.specs.Prelude.{◌≡◌, ◌<◌, ◌+◌, ◌-◌, ◌^◌, ℕ, List, [], false};
-ghost use Rattle.std.specs.Prelude.{OnOk, OnErr, IfErr, IsOk, IsSome, nat_le, replicate};
-ghost use Rattle.std.specs.Option.{option_to_list};
+ghost use Rattle.std.specs.Prelude.{[], ◌+◌, ◌-◌, ◌<◌, ◌^◌, ◌≡◌, false, IfErr, IsOk, IsSome, List, nat_le, OnErr, OnOk};
+ghost use Rattle.std.specs.Prelude.{option_to_list, replicate, ℕ};
 ghost use Rattle.krs_types.specs.declared.errno.Errno.TheVariants.{ENOMEM};
-ghost use Rattle.krs_model.specs.Table.{at};
-ghost use Rattle.krs_model.specs.Reach.{IsAcyclic, links_of_key_at};
+ghost use Rattle.krs_model.specs.{Reach.{IsAcyclic, links_of_key_at}, Table.at};
 ghost use Rattle.krs_links.specs.Links.{serials};
-ghost use Rattle.krs_keys.specs.Keys.{named_links_of_content, shown};
 ghost use Rattle.krs_keys.specs.Hashed.{by_serial};
-ghost use Rattle.krs_keys.specs.Kept.{KeepsAnchored, KeepsAll, Sweeps};
-ghost use Rattle.krs_hold.specs.Tally.{number_at, with_number, one_more, one_less, all_less};
-ghost use Rattle.krs_hold.specs.Tally.{AreExact};
+ghost use Rattle.krs_keys.specs.{Kept.{KeepsAll, KeepsAnchored, Sweeps}, Keys.{named_links_of_content, shown}};
 ghost use Rattle.krs_hold.specs.Taken.{taken_at};
+ghost use Rattle.krs_hold.specs.Tally.{all_less, AreExact, number_at, one_less, one_more, with_number};
 
 use crate::cascade::sweep;
 use crate::counts::{Count, holders, let_go, let_go_links, let_go_whole, raise};
@@ -44,8 +40,8 @@ impl Model for Holders {
 
     ghost Value = { Table ℕ };
 
-    ghost use Rattle.krs_hold.specs.Chain.{numbers_of, IsChained};
     ghost use Rattle.krs_keys.specs.Hashed.{by_serial};
+    ghost use Rattle.krs_hold.specs.Chain.{IsChained, numbers_of};
 
     ghost view = { λ h. numbers_of (by_serial h.counts.entries) };
 

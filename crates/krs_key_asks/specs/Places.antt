@@ -1,8 +1,7 @@
 -- Where an added key goes, as the store tells it.
-use Rattle.std.specs.Prelude.{ℕ, ◌≤◌}
+use Rattle.std.specs.Prelude.{◌≤◌, ℕ}
+use Rattle.krs_key_asks.specs.declared.adding.Place.{Place, TheVariants.{Make, Update}}
 use Rattle.krs_model.specs.Asks.Adding as model
-use Rattle.krs_key_asks.specs.declared.adding.Place.{Place}
-use Rattle.krs_key_asks.specs.declared.adding.Place.TheVariants.{Update, Make}
 
 -- the place of the definitions
 abbrev pub meant : Place → model.Place

@@ -1,10 +1,9 @@
 -- The answer to an ask whose bytes a taker may have.
-use Rattle.std.specs.Prelude.{Bool, true, false, ℕ, List, Option, Some, None, Result, Ok, Err}
-use Rattle.krs_types.specs.declared.ask.Answer.{Answer}
-use Rattle.krs_types.specs.declared.ask.Answer.TheVariants as answers
-use Rattle.krs_types.specs.declared.fault.Fault.{Fault}
+use Rattle.std.specs.Prelude.{Bool, Err, false, List, None, Ok, Option, Result, Some, true, ℕ}
+use Rattle.krs_types.specs.declared.{ask.Answer.Answer, fault.Fault.Fault}
 use Rattle.krs_key_asks.specs.declared.taking.Given.{Given}
 use Rattle.krs_key_asks.specs.declared.taking.Given.TheVariants as givens
+use Rattle.krs_types.specs.declared.ask.Answer.TheVariants as answers
 
 -- the bytes, where they were taken
 abbrev pub taken : Bool → List ℕ → Option (List ℕ)

@@ -1,13 +1,10 @@
-ghost use Rattle.std.specs.Prelude.{◌≡◌, ◌≤◌, ◌||◌, length, IfOk, OnOk, OnErr};
-ghost use Rattle.krs_model.specs.Outcome.{Leads, Is};
-ghost use Rattle.krs_model.specs.Asks.Adding.{admitted, if_room, by_match, place_of, new_key, made};
-ghost use Rattle.krs_model.specs.Asks.Adding.{IsKeyringAt, add};
-ghost use Rattle.krs_model.specs.Asks.Changing.{is_updatable};
-ghost use Rattle.krs_key_asks.specs.Places.{meant, HasSerial};
-ghost use Rattle.krs_keys.specs.Keys.{seen};
+ghost use Rattle.std.specs.Prelude.{◌||◌, ◌≡◌, ◌≤◌, IfOk, length, OnErr, OnOk};
+ghost use Rattle.krs_model.specs.Asks.Adding.{add, admitted, by_match, if_room, IsKeyringAt, made, new_key, place_of};
+ghost use Rattle.krs_model.specs.{Asks.Changing.is_updatable, Outcome.{Is, Leads}, Sound.IsSound};
 ghost use Rattle.krs_links.specs.Links.{serials};
-ghost use Rattle.krs_model.specs.Sound.{IsSound};
+ghost use Rattle.krs_keys.specs.Keys.{seen};
 ghost use Rattle.krs_tables.specs.Making.{adding_in};
+ghost use Rattle.krs_key_asks.specs.Places.{HasSerial, meant};
 
 use krs_keys::{Change, Content, Key, LAST_SERIAL};
 use krs_links::{HashedName, Links};

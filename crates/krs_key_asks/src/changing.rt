@@ -1,8 +1,7 @@
-ghost use Rattle.std.specs.Prelude.{◌≡◌, ◌≢◌, ◌||◌, Err};
+ghost use Rattle.std.specs.Prelude.{◌||◌, ◌≡◌, ◌≢◌, Err};
 ghost use Rattle.krs_types.specs.declared.fault.Fault.TheVariants.{Memory};
-ghost use Rattle.krs_model.specs.Outcome.{Leads, Is};
-ghost use Rattle.krs_model.specs.Asks.Changing.{updatable, update, if_owner, set_perm, if_may_own, chown};
-ghost use Rattle.krs_model.specs.Asks.Changing.{expiry_after, set_timeout, revoke};
+ghost use Rattle.krs_model.specs.Asks.Changing.{chown, expiry_after, if_may_own, if_owner, revoke, set_perm};
+ghost use Rattle.krs_model.specs.{Asks.Changing.{set_timeout, updatable, update}, Outcome.{Is, Leads}};
 ghost use Rattle.krs_keys.specs.Keys.{seen};
 
 use krs_keys::{Change, Key};

@@ -1,8 +1,6 @@
-ghost use Rattle.std.specs.Prelude.{◌≡◌, ◌<◌, ◌++◌, ◌∷◌, [], IfOk};
-ghost use Rattle.std.specs.Fmt.{decimal};
+ghost use Rattle.std.specs.Prelude.{[], ◌++◌, ◌<◌, ◌∷◌, ◌≡◌, decimal, IfOk};
 ghost use Rattle.krs_types.specs.Kind.{kind_name};
-ghost use Rattle.krs_model.specs.Outcome.{Leads};
-ghost use Rattle.krs_model.specs.Asks.Reading.{read, describe, description, hex_8, hex_digit};
+ghost use Rattle.krs_model.specs.{Asks.Reading.{describe, description, hex_8, hex_digit, read}, Outcome.Leads};
 ghost use Rattle.krs_keys.specs.Keys.{seen};
 ghost use Rattle.krs_key_asks.specs.Taking.{answered, taken_of};
 

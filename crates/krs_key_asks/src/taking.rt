@@ -6,7 +6,7 @@ use std::snapshot::Snapshot;
 
 /// Who may take the bytes of an answer where they lie, of which no copy is made then.
 pub trait Taker {
-    ghost use Rattle.std.specs.Prelude.{ℕ, List, Option, None};
+    ghost use Rattle.std.specs.Prelude.{List, None, Option, ℕ};
 
     // From the first state to the second these bytes were taken, or none.
     ghost took: { Self → Option (List ℕ) → Self → Type 0 };

@@ -1,13 +1,11 @@
 -- What is told of the key at each serial, after a change of the table.
-use Rattle.std.proofs.Common.{◌≡◌, ℕ, Option, Some, None, Bool, true, false, cond, nat_eq, refl, ap, ◌∙◌, sym}
-use Rattle.std.specs.Cmp.{unsigned_tied}
-use Rattle.std.specs.Option.{option_map}
-use Rattle.std.specs.Ordering.{nat_cmp}
-use Rattle.std.specs.BTreeMap.{is_at}
-use Rattle.krs_model.specs.Table.{Table, at, put, without, alter, map_values, Rises}
-use Rattle.krs_model.proofs.Tables.Changes.{same_at, at_map}
+use Rattle.std.proofs.Common.{◌∙◌, ◌≡◌, ap, Bool, cond, false, nat_cmp, nat_eq, None, Option, option_map, refl, Some}
+use Rattle.std.proofs.Common.{sym, true, ℕ}
+use Rattle.std.specs.{BTreeMap.is_at, Cmp.unsigned_tied}
+use Rattle.krs_model.specs.Table.{alter, at, map_values, put, Rises, Table, without}
+use Rattle.krs_model.proofs.Tables.Changes.{at_map, same_at}
 use Rattle.krs_keys.specs.declared.key.Key.{Key}
-use Rattle.krs_keys.proofs.RisingTables.{at_put, at_alter, at_without, either_way}
+use Rattle.krs_keys.proofs.RisingTables.{at_alter, at_put, at_without, either_way}
 
 -- a change that shows in nothing that is told
 abbrev pub IsHidden : {X : Type 0} → (Option Key → X) → (Key → Key) → Type 0

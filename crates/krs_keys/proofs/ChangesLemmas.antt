@@ -1,15 +1,12 @@
 -- What a change of a key comes to in the definitions, and which links it leaves.
-use Rattle.std.proofs.Common.{◌≡◌, ℕ, List, Option, refl}
+use Rattle.std.proofs.Common.{◌≡◌, List, Option, refl, ℕ}
 use Rattle.krs_types.specs.declared.name.Name.{Name}
-use Rattle.krs_model.specs.Table.{Table, alter}
-use Rattle.krs_keys.specs.declared.key.Key.{Key}
-use Rattle.krs_keys.specs.declared.key.Content.{Content}
-use Rattle.krs_keys.specs.declared.key.Content.TheVariants.{Payload, Links}
-use Rattle.krs_keys.specs.declared.key.Change.{Change}
-use Rattle.krs_keys.specs.declared.key.Change.TheVariants as change
-use Rattle.krs_keys.specs.Keys.{named_links_of_content, name_at, AreNamed, AreFit, seen}
-use Rattle.krs_keys.specs.Changes.{changed, meant_change, paid_with, emptied, cleared_content}
+use Rattle.krs_model.specs.Table.{alter, Table}
+use Rattle.krs_keys.specs.Changes.{changed, cleared_content, emptied, meant_change, paid_with}
+use Rattle.krs_keys.specs.Keys.{AreFit, AreNamed, name_at, named_links_of_content, seen}
+use Rattle.krs_keys.specs.declared.key.{Change.Change, Content.{Content, TheVariants.{Links, Payload}}, Key.Key}
 use Rattle.krs_keys.proofs.LinkNames.{fit_alter}
+use Rattle.krs_keys.specs.declared.key.Change.TheVariants as change
 
 paid_seen : (payload : List ℕ) (key : Key) (content : Content)
     → seen (changed (change.Payload payload) (record key { content = content }))

@@ -1,17 +1,14 @@
 -- Laws of a table that a hash map keeps.
-use Rattle.std.proofs.Common.{◌≡◌, ℕ, List, [], ◌∷◌, Option, Some, None, cond, nat_eq, refl, ap, ◌∙◌, sym}
-use Rattle.std.proofs.lemmas.Map.{lookup-set_value}
-use Rattle.std.specs.List.Sorted.{IsStrictlySortedBy}
-use Rattle.std.specs.Cmp.{nat_eq_equiv, unsigned_tied}
-use Rattle.std.specs.Option.{option_map, is_some}
-use Rattle.std.specs.Ordering.{nat_cmp}
+use Rattle.std.proofs.Common.{[], ◌∙◌, ◌∷◌, ◌≡◌, ap, cond, is_some, List, nat_cmp, nat_eq, None, Option, option_map}
+use Rattle.std.proofs.Common.{refl, Some, sym, ℕ}
 use Rattle.std.specs.BTreeMap.{is_at}
-use Rattle.std.specs.Map.{lookup, set_value}
-use Rattle.krs_model.specs.Table.{at, put, without, alter, Rises}
+use Rattle.std.specs.{Cmp.{nat_eq_equiv, unsigned_tied}, List.Sorted.IsStrictlySortedBy, Map.{lookup, set_value}}
+use Rattle.std.proofs.lemmas.Map.{lookup-set_value}
+use Rattle.krs_model.specs.Table.{alter, at, put, Rises, without}
 use Rattle.krs_model.proofs.Tables.Changes.{alter_none}
 use Rattle.krs_keys.specs.Hashed.{by_serial}
-use Rattle.krs_keys.proofs.RisingTables.{at_put, at_alter, at_without, either_way, same_tables}
-use Rattle.krs_keys.proofs.RisingTables.{rises_put, rises_without, rises_alter}
+use Rattle.krs_keys.proofs.RisingTables.{at_alter, at_put, at_without, either_way, rises_alter, rises_put}
+use Rattle.krs_keys.proofs.RisingTables.{rises_without, same_tables}
 
 -- numbers rise in the table of a hash map
 rises_by_serial : {X : Type 0} (es : List (ℕ × X)) → Rises (by_serial es)

@@ -1,8 +1,6 @@
 -- Hints stay right as a serial loses its place.
-use Rattle.std.proofs.Common.{◌≡◌, ℕ, List, None, nat_eq, cond, ap, ◌∙◌, sym}
-use Rattle.krs_keys.specs.declared.places.Hint.{Hint}
-use Rattle.krs_keys.specs.Listed.{place_of}
-use Rattle.krs_keys.specs.Hints.{AreHints, Forgets}
+use Rattle.std.proofs.Common.{◌∙◌, ◌≡◌, ap, cond, List, nat_eq, None, sym, ℕ}
+use Rattle.krs_keys.specs.{Hints.{AreHints, Forgets}, Listed.place_of, declared.places.Hint.Hint}
 use Rattle.krs_keys.proofs.PlacesLemmas.{other_number}
 
 -- where none is left of the serial, and the others keep their places

@@ -1,21 +1,15 @@
 -- What the store's own keys come to in the definitions.
-use Rattle.std.proofs.Common.{◌≡◌, ℕ, [], ◌∷◌, Option, Some, None, true, false, cond, refl, ap, ◌∙◌}
-use Rattle.std.specs.Option.{option_map}
-use Rattle.std.specs.List.{find}
+use Rattle.std.proofs.Common.{[], ◌∙◌, ◌∷◌, ◌≡◌, ap, cond, false, find, None, Option, option_map, refl, Some, true, ℕ}
 use Rattle.std.proofs.lemmas.Option.{none-some, same_Some}
-use Rattle.krs_types.specs.declared.name.Name.{Name}
-use Rattle.krs_types.specs.Name.{same_name}
-use Rattle.krs_model.specs.Table.{Table, at}
-use Rattle.krs_model.specs.State as model
-use Rattle.krs_model.specs.Possession.{links_of_content}
-use Rattle.krs_model.specs.Linking.{is_named, link_named, with_link, linking}
+use Rattle.krs_types.specs.{Name.same_name, declared.name.Name.Name}
+use Rattle.krs_model.specs.Linking.{is_named, link_named, linking, with_link}
+use Rattle.krs_model.specs.{Possession.links_of_content, Table.{at, Table}}
 use Rattle.krs_model.proofs.Tables.Changes.{at_map}
-use Rattle.krs_keys.specs.declared.key.Key.{Key}
-use Rattle.krs_keys.specs.declared.key.Content.{Content}
-use Rattle.krs_keys.specs.declared.key.Content.TheVariants.{Payload, Links}
-use Rattle.krs_links.specs.Links.{LinkList, serial_named, link_put, serials}
-use Rattle.krs_keys.specs.Keys.{named_links_of_content, seen, seen_content, shown, name_at, AreNamed, AreFit, with_entry}
-use Rattle.krs_keys.specs.Keys.{entered, FindsByName}
+use Rattle.krs_links.specs.Links.{link_put, LinkList, serial_named, serials}
+use Rattle.krs_keys.specs.Keys.{AreFit, AreNamed, entered, FindsByName, name_at, named_links_of_content, seen}
+use Rattle.krs_keys.specs.Keys.{seen_content, shown, with_entry}
+use Rattle.krs_keys.specs.declared.key.{Content.{Content, TheVariants.{Links, Payload}}, Key.Key}
+use Rattle.krs_model.specs.State as model
 
 -- the serials that a key links
 pub serials-content : (content : Content) → serials (named_links_of_content content) ≡ links_of_content (seen_content content)

@@ -1,29 +1,17 @@
 -- Each key holds what keys of its type hold.
-use Rattle.std.proofs.Common.{◌≡◌, ℕ, Option, None, Some, Bool, true, filter, List, refl, ap, ◌∙◌, sym, subst, ⊎_elim}
-use Rattle.std.specs.Option.{option_map}
-use Rattle.std.proofs.lemmas.Bool.{true≢false}
-use Rattle.std.proofs.lemmas.Option.{none-some, same_Some}
-use Rattle.krs_types.specs.declared.kind.Kind.TheVariants.{Keyring}
-use Rattle.krs_types.specs.Kind.{same_kind}
-use Rattle.krs_model.specs.State as model
-use Rattle.krs_model.specs.Levels.{is_in}
-use Rattle.krs_model.specs.Possession.{links_of_content}
-use Rattle.krs_model.specs.Reach.{is_ring}
-use Rattle.krs_model.specs.Sweep.{links_of_key}
-use Rattle.krs_types.specs.declared.kind.Kind.{Kind}
-use Rattle.krs_types.specs.declared.name.Name.{Name}
-use Rattle.krs_model.specs.Table.{Table, at, put, alter, without}
-use Rattle.krs_model.proofs.Tables.Changes.{at_put_same, at_put_other, at_or_apart, at_alter_same, at_alter_other, at_kept}
-use Rattle.krs_model.proofs.Tables.Changes.{at_map, at_without_other}
-use Rattle.krs_keys.specs.declared.key.Key.{Key}
-use Rattle.krs_keys.specs.declared.key.Content.{Content}
-use Rattle.krs_keys.specs.declared.key.Content.TheVariants.{Payload, Links}
-use Rattle.krs_keys.specs.declared.key.Change.{Change}
-use Rattle.krs_keys.specs.declared.key.Change.TheVariants as change
-use Rattle.krs_keys.specs.Keys.{IsOfKind, AreOfKind, with_entry, entered, without_key, keyless_content}
-use Rattle.krs_keys.specs.Keys.{seen, seen_content, shown, OnlyRingsLink}
-use Rattle.krs_keys.specs.Changes.{changed, paid_with, emptied, cleared_content}
+use Rattle.std.proofs.Common.{⊎_elim, ◌∙◌, ◌≡◌, ap, Bool, filter, List, None, Option, option_map, refl, Some, subst}
+use Rattle.std.proofs.{Common.{sym, true, true≢false, ℕ}, lemmas.Option.{none-some, same_Some}}
+use Rattle.krs_types.specs.{Kind.same_kind, declared.{kind.Kind.{Kind, TheVariants.Keyring}, name.Name.Name}}
+use Rattle.krs_model.specs.{Levels.is_in, Possession.links_of_content, Reach.is_ring, Sweep.links_of_key}
+use Rattle.krs_model.specs.Table.{alter, at, put, Table, without}
+use Rattle.krs_model.proofs.Tables.Changes.{at_alter_other, at_alter_same, at_kept, at_map, at_or_apart, at_put_other}
+use Rattle.krs_model.proofs.Tables.Changes.{at_put_same, at_without_other}
+use Rattle.krs_keys.specs.{Changes.{changed, cleared_content, emptied, paid_with}, Keys.{AreOfKind, entered, IsOfKind}}
+use Rattle.krs_keys.specs.Keys.{keyless_content, OnlyRingsLink, seen, seen_content, shown, with_entry, without_key}
+use Rattle.krs_keys.specs.declared.key.{Change.Change, Content.{Content, TheVariants.{Links, Payload}}, Key.Key}
 use Rattle.krs_keys.proofs.TableLemmas.{mapped_some, was_there}
+use Rattle.krs_keys.specs.declared.key.Change.TheVariants as change
+use Rattle.krs_model.specs.State as model
 
 -- a change that keeps a key of its kind
 abbrev pub KeepsKind : (Key → Key) → Type 0

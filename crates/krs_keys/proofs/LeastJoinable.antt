@@ -1,22 +1,13 @@
 -- The least serial of a keyring that a caller may join, found among those whose descriptions hash alike.
-use Rattle.std.proofs.Common.{◌≡◌, ℕ, ◌<◌, List, [], ◌∷◌, Option, Some, None, nat_eq}
-use Rattle.std.proofs.Common.{Bool, true, false, cond, find, refl, ap, ◌∙◌, sym, arith, true≢false}
-use Rattle.std.proofs.lemmas.Bool.Decides.{nat_tests}
-use Rattle.std.proofs.lemmas.Map.Keys.{sorted_tail}
-use Rattle.std.specs.Cmp.{ranked}
-use Rattle.std.specs.List.{list_any}
-use Rattle.std.specs.Option.{option_map}
-use Rattle.std.specs.Ordering.{nat_cmp}
-use Rattle.std.specs.declared.cmp.Ordering.TheVariants.{Less, Equal, Greater}
+use Rattle.std.proofs.Common.{[], ◌<◌, ◌∙◌, ◌∷◌, ◌≡◌, ap, arith, Bool, cond, false, find, List, nat_cmp, nat_eq, None}
+use Rattle.std.proofs.Common.{Option, option_map, refl, Some, sym, true, true≢false, ℕ}
 use Rattle.std.specs.BTreeMap.{is_at}
-use Rattle.std.specs.Map.{keys_of}
+use Rattle.std.specs.{Cmp.ranked, List.list_any, Map.keys_of, declared.cmp.Ordering.TheVariants.{Equal, Greater, Less}}
+use Rattle.std.proofs.lemmas.{Bool.Decides.nat_tests, Map.Keys.sorted_tail}
 use Rattle.krs_types.specs.declared.caller.Caller.{Caller}
-use Rattle.krs_model.specs.Table.{Table, at, map_values, Rises}
-use Rattle.krs_model.specs.Asks.Joining.{is_joinable}
-use Rattle.krs_keys.specs.declared.key.Key.{Key}
-use Rattle.krs_keys.specs.Keys.{seen, joinable_in}
-use Rattle.krs_keys.specs.Places.{is_sooner, passes}
-use Rattle.krs_keys.proofs.RisingTables.{past, below, at_first}
+use Rattle.krs_model.specs.{Asks.Joining.is_joinable, Table.{at, map_values, Rises, Table}}
+use Rattle.krs_keys.specs.{Keys.{joinable_in, seen}, Places.{is_sooner, passes}, declared.key.Key.Key}
+use Rattle.krs_keys.proofs.RisingTables.{at_first, below, past}
 
 -- the least serial of the values that pass a test
 abbrev first : {X : Type 0} → (X → Bool) → Table X → Option ℕ

@@ -1,22 +1,16 @@
 -- Links keep the names of their keys.
-use Rattle.std.proofs.Common.{◌≡◌, ◌≢◌, ℕ, zero, suc, ◌==◌, ◌||◌, [], ◌∷◌, Option, Some, None, Bool, true, false, not, cond, filter}
-use Rattle.std.proofs.Common.{refl, ap, ◌∙◌, sym, subst, ⊎_elim}
-use Rattle.std.specs.Option.{option_map}
-use Rattle.std.specs.List.{find, remove, slice_get}
-use Rattle.std.proofs.lemmas.Bool.{true≢false, eqb-true}
-use Rattle.std.proofs.lemmas.Option.{none-some, same_Some}
-use Rattle.krs_types.specs.declared.name.Name.{Name}
-use Rattle.krs_types.specs.Name.{same_name}
-use Rattle.krs_model.specs.Table.{Table, at, put, alter}
-use Rattle.krs_model.proofs.Tables.Changes.{at_put_same, at_put_other, at_or_apart, at_alter_same, at_alter_other, at_kept}
-use Rattle.krs_keys.specs.declared.key.Key.{Key}
-use Rattle.krs_links.specs.Links.{LinkList, link_put, serial_named, serials, has_link, unlinked_key}
+use Rattle.std.proofs.Common.{[], ⊎_elim, ◌==◌, ◌||◌, ◌∙◌, ◌∷◌, ◌≡◌, ◌≢◌, ap, Bool, cond, eqb-true, false, filter, find}
+use Rattle.std.proofs.Common.{None, not, Option, option_map, refl, remove, slice_get, Some, subst, suc, sym, true}
+use Rattle.std.proofs.{Common.{true≢false, zero, ℕ}, lemmas.Option.{none-some, same_Some}}
+use Rattle.krs_types.specs.{Name.same_name, declared.name.Name.Name}
 use Rattle.krs_types.proofs.Names.{equal_names, other_way, same_name_equiv}
+use Rattle.krs_model.specs.{Levels.is_in, Table.{alter, at, put, Table}}
+use Rattle.krs_model.proofs.{Reach.Levels.{or_true, same_is}, Tables.Changes.at_alter_other}
+use Rattle.krs_model.proofs.Tables.Changes.{at_alter_same, at_kept, at_or_apart, at_put_other, at_put_same}
+use Rattle.krs_links.specs.Links.{has_link, link_put, LinkList, serial_named, serials, unlinked_key}
 use Rattle.krs_links.proofs.LinksLemmas.{serial_named-linked_other}
-use Rattle.krs_model.specs.Levels.{is_in}
-use Rattle.krs_model.proofs.Reach.Levels.{same_is, or_true}
-use Rattle.krs_keys.specs.Keys.{named_links_of_content, named_links_of_key, named_links_of_key_at, name_at, AreNamed}
-use Rattle.krs_keys.specs.Keys.{AreFit}
+use Rattle.krs_keys.specs.Keys.{AreFit, AreNamed, name_at, named_links_of_content, named_links_of_key}
+use Rattle.krs_keys.specs.{Keys.named_links_of_key_at, declared.key.Key.Key}
 use Rattle.krs_keys.proofs.TableLemmas.{mapped_some, was_there}
 
 -- names that are there before are there after

@@ -1,17 +1,11 @@
 -- A keyring without the link at the place of a key is the keyring without the key.
-use Rattle.std.proofs.Common.{◌≡◌, ℕ, Option, Some, None, true, false, cond, nat_eq, refl, ap, ◌∙◌, sym, subst}
-use Rattle.std.proofs.Common.{List, IfNone}
-use Rattle.std.specs.List.{slice_get}
-use Rattle.std.specs.Option.{option_map}
-use Rattle.std.proofs.lemmas.Bool.{eqb-true}
+use Rattle.std.proofs.Common.{◌∙◌, ◌≡◌, ap, cond, eqb-true, false, IfNone, List, nat_eq, None, Option, option_map, refl}
+use Rattle.std.proofs.Common.{slice_get, Some, subst, sym, true, ℕ}
 use Rattle.krs_types.specs.declared.name.Name.{Name}
 use Rattle.krs_links.specs.Links.{has_link, serials}
-use Rattle.krs_keys.specs.declared.key.Key.{Key}
-use Rattle.krs_keys.specs.declared.key.Content.{Content}
-use Rattle.krs_keys.specs.declared.key.Content.TheVariants.{Payload, Links}
-use Rattle.krs_keys.specs.Keys.{named_links_of_content, named_links_of_key, keyless_content, without_key}
-use Rattle.krs_keys.specs.Keys.{content_without_at, without_link_at, AreNamed}
-use Rattle.krs_keys.specs.Places.{held, IsChangedAt}
+use Rattle.krs_keys.specs.Keys.{AreNamed, content_without_at, keyless_content, named_links_of_content}
+use Rattle.krs_keys.specs.{Keys.{named_links_of_key, without_key, without_link_at}, Places.{held, IsChangedAt}}
+use Rattle.krs_keys.specs.declared.key.{Content.{Content, TheVariants.{Links, Payload}}, Key.Key}
 use Rattle.krs_keys.proofs.LinkNames.{others_stay, removed_at}
 
 keyless_none :

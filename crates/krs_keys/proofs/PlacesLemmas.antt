@@ -1,21 +1,15 @@
 -- What the slots show by serial, and how that changes with a slot and with a place.
-use Rattle.std.proofs.Common.{◌≡◌, ◌≢◌, ℕ, suc, List, [], ◌∷◌, length, Option, Some, None, Bool, true, false, cond}
-use Rattle.std.proofs.Common.{nat_eq, refl, ap, ◌∙◌, sym, subst, is_some, IsSome, true≢false, arith}
-use Rattle.std.proofs.lemmas.Bool.Decides.{nat_tests}
-use Rattle.std.proofs.lemmas.Option.{none-some, same_Some}
-use Rattle.std.proofs.lemmas.Map.Keys.{IsDistinct-head, IsDistinct-tail}
-use Rattle.std.specs.List.{AllByRecursion, IsDistinct}
-use Rattle.std.specs.List.Sorted.{IsStrictlySortedBy}
-use Rattle.std.specs.Cmp.{unsigned_tied}
-use Rattle.std.specs.Option.{option_map}
-use Rattle.std.specs.Ordering.{nat_cmp}
+use Rattle.std.proofs.Common.{[], ◌∙◌, ◌∷◌, ◌≡◌, ◌≢◌, ap, arith, Bool, cond, false, is_some, IsSome, length, List}
+use Rattle.std.proofs.Common.{nat_cmp, nat_eq, None, Option, option_map, refl, Some, subst, suc, sym, true, true≢false}
+use Rattle.std.proofs.Common.{ℕ}
 use Rattle.std.specs.BTreeMap.{is_at}
-use Rattle.std.specs.Map.{keys_of}
-use Rattle.krs_model.specs.Table.{Table, at, put, without, alter, Rises}
-use Rattle.krs_keys.specs.declared.key.Key.{Key}
-use Rattle.krs_keys.specs.Places.{held, place_of, with_slot, in_slots, HavePlaces, IsChangedAt}
-use Rattle.krs_keys.proofs.RisingTables.{at_put, at_alter, at_without, either_way, same_tables, length_put}
-use Rattle.krs_keys.proofs.RisingTables.{rises_put, rises_without, rises_alter}
+use Rattle.std.specs.{Cmp.unsigned_tied, List.{AllByRecursion, IsDistinct, Sorted.IsStrictlySortedBy}, Map.keys_of}
+use Rattle.std.proofs.lemmas.Bool.Decides.{nat_tests}
+use Rattle.std.proofs.lemmas.{Map.Keys.{IsDistinct-head, IsDistinct-tail}, Option.{none-some, same_Some}}
+use Rattle.krs_model.specs.Table.{alter, at, put, Rises, Table, without}
+use Rattle.krs_keys.specs.{Places.{HavePlaces, held, in_slots, IsChangedAt, place_of, with_slot}, declared.key.Key.Key}
+use Rattle.krs_keys.proofs.RisingTables.{at_alter, at_put, at_without, either_way, length_put, rises_alter, rises_put}
+use Rattle.krs_keys.proofs.RisingTables.{rises_without, same_tables}
 
 -- what is at the place of a serial, where it has one
 abbrev pub found : {X : Type 0} → List (Option X) → Option ℕ → Option X

@@ -1,20 +1,14 @@
 -- As many serials are listed as there are keyrings.
-use Rattle.std.proofs.Common.{◌≡◌, ℕ, ◌||◌, List, [], ◌∷◌, true, false, cond, Option, Some, None, length, nat_eq}
-use Rattle.std.proofs.Common.{refl, ap, ◌∙◌, sym}
-use Rattle.std.specs.List.{list_any, AllByRecursion, IsDistinct}
-use Rattle.std.specs.List.Sorted.{IsStrictlySortedBy}
-use Rattle.std.specs.Map.{keys_of}
-use Rattle.std.specs.Option.{is_some}
-use Rattle.std.specs.Ordering.{nat_cmp, eq_by_cmp}
-use Rattle.std.specs.BTreeMap.{is_at}
-use Rattle.std.specs.Cmp.{nat_eq_equiv, unsigned_tied}
-use Rattle.std.proofs.lemmas.Map.Keys.{IsDistinct-from_sorted, IsDistinct-head, IsDistinct-tail, IsDistinct-cons}
+use Rattle.std.proofs.Common.{[], ◌||◌, ◌∙◌, ◌∷◌, ◌≡◌, ap, cond, false, is_some, length, List, nat_cmp, nat_eq, None}
+use Rattle.std.proofs.Common.{Option, refl, Some, sym, true, ℕ}
+use Rattle.std.specs.{BTreeMap.is_at, Cmp.{nat_eq_equiv, unsigned_tied}, List.{AllByRecursion, IsDistinct, list_any}}
+use Rattle.std.specs.{List.Sorted.IsStrictlySortedBy, Map.keys_of, Ordering.eq_by_cmp}
 use Rattle.std.proofs.lemmas.Map.Entries.{length-keys_of}
-use Rattle.std.proofs.lemmas.Map.Made.{is_some-lookup, length-from_same_keys, IsDistinct-keys_filter}
-use Rattle.krs_model.specs.Table.{Table, at}
+use Rattle.std.proofs.lemmas.Map.Keys.{IsDistinct-cons, IsDistinct-from_sorted, IsDistinct-head, IsDistinct-tail}
+use Rattle.std.proofs.lemmas.Map.Made.{is_some-lookup, IsDistinct-keys_filter, length-from_same_keys}
+use Rattle.krs_model.specs.Table.{at, Table}
 use Rattle.krs_model.proofs.Tables.Changes.{at_kept}
-use Rattle.krs_keys.specs.declared.key.Key.{Key}
-use Rattle.krs_keys.specs.Places.{is_among, is_keyring, keyrings_in, AreRings}
+use Rattle.krs_keys.specs.{Places.{AreRings, is_among, is_keyring, keyrings_in}, declared.key.Key.Key}
 
 -- the two tests of serials are one
 any_tied : (q : ℕ) (ks : List ℕ) → list_any (is_at (nat_cmp q)) ks ≡ list_any (nat_eq q) ks

@@ -1,23 +1,16 @@
 -- Which serials are those of keyrings, and what that says after a change.
-use Rattle.std.proofs.Common.{◌≡◌, ◌==◌, ℕ, ◌+◌, ◌<◌, List, [], ◌∷◌, length, take, get_or, ◌||◌, Option, Some, None}
-use Rattle.std.proofs.Common.{Bool, true, false, cond, nat_eq, refl, ap, ◌∙◌, sym, true≢false, not}
+use Rattle.std.proofs.Common.{[], ◌+◌, ◌<◌, ◌==◌, ◌||◌, ◌∙◌, ◌∷◌, ◌≡◌, ap, Bool, cond, false, get_or, length, List}
+use Rattle.std.proofs.Common.{nat_cmp, nat_eq, None, not, Option, option_map, refl, Some, sym, take, true, true≢false}
+use Rattle.std.proofs.Common.{ℕ}
+use Rattle.std.specs.{BTreeMap.is_at, Cmp.unsigned_tied}
 use Rattle.std.proofs.lemmas.List.Folds.{list_any_more}
-use Rattle.std.specs.Cmp.{unsigned_tied}
-use Rattle.std.specs.Option.{option_map}
-use Rattle.std.specs.Ordering.{nat_cmp}
-use Rattle.std.specs.BTreeMap.{is_at}
-use Rattle.krs_types.specs.declared.kind.Kind.{Kind}
-use Rattle.krs_types.specs.declared.kind.Kind.TheVariants.{Keyring}
-use Rattle.krs_types.specs.Kind.{same_kind}
-use Rattle.krs_types.specs.declared.name.Name.{Name}
+use Rattle.krs_types.specs.{Kind.same_kind, declared.{kind.Kind.{Kind, TheVariants.Keyring}, name.Name.Name}}
+use Rattle.krs_model.specs.Table.{alter, at, map_values, put, Rises, Table, without}
+use Rattle.krs_model.proofs.Tables.Changes.{at_map, same_at}
 use Rattle.krs_links.specs.Links.{LinkList, unlinked_key}
-use Rattle.krs_model.specs.Table.{Table, at, put, without, alter, map_values, Rises}
-use Rattle.krs_model.proofs.Tables.Changes.{same_at, at_map}
-use Rattle.krs_keys.specs.declared.key.Key.{Key}
-use Rattle.krs_keys.specs.declared.key.Content.{Content}
-use Rattle.krs_keys.specs.declared.key.Content.TheVariants.{Payload, Links}
-use Rattle.krs_keys.specs.Keys.{IsOfKind, AreOfKind, keyless_content, without_key}
-use Rattle.krs_keys.specs.Places.{is_among, is_keyring, AreRings}
+use Rattle.krs_keys.specs.Keys.{AreOfKind, IsOfKind, keyless_content, without_key}
+use Rattle.krs_keys.specs.Places.{AreRings, is_among, is_keyring}
+use Rattle.krs_keys.specs.declared.key.{Content.{Content, TheVariants.{Links, Payload}}, Key.Key}
 use Rattle.krs_keys.proofs.AfterChanges.{told_alter, told_map, told_put, told_without}
 use Rattle.krs_keys.proofs.RisingTables.{at_alter, same_tables}
 

@@ -1,22 +1,15 @@
 -- Laws of tables whose numbers rise: two that have the same at each number are one.
-use Rattle.std.proofs.Common.{◌≡◌, ℕ, suc, List, [], ◌∷◌, length, Some, None, true, false, cond}
-use Rattle.std.proofs.Common.{refl, ap, ◌∙◌, sym, subst}
-use Rattle.std.proofs.lemmas.Option.{none-some, same_Some}
-use Rattle.std.proofs.lemmas.Map.{lookup-none, lookup-remove_entry}
-use Rattle.std.proofs.lemmas.Map.Entries.{none_past_head, none_below_head}
-use Rattle.std.proofs.lemmas.Map.Keys.{sorted_tail, IsDistinct-from_sorted}
-use Rattle.std.specs.List.{AllByRecursion}
-use Rattle.std.specs.List.Sorted.{IsStrictlySortedBy}
-use Rattle.std.specs.Cmp.{nat_cmp_total, eq_by_cmp_equiv, ranked}
-use Rattle.std.specs.Option.{option_map}
-use Rattle.std.specs.Ordering.{nat_cmp, match_ordering, is_eq, ordering_reverse}
-use Rattle.std.specs.declared.cmp.Ordering.TheVariants.{Less, Equal, Greater}
-use Rattle.std.specs.BTreeMap.{is_at}
-use Rattle.std.specs.Map.{keys_of}
-use Rattle.krs_model.specs.Table.{Table, at, put, without, alter, map_values, Rises}
+use Rattle.std.proofs.Common.{[], ◌∙◌, ◌∷◌, ◌≡◌, ap, cond, false, is_eq, length, List, nat_cmp, None, option_map, refl}
+use Rattle.std.proofs.Common.{Some, subst, suc, sym, true, ℕ}
+use Rattle.std.specs.{BTreeMap.is_at, Cmp.{eq_by_cmp_equiv, nat_cmp_total, ranked}, List.AllByRecursion}
+use Rattle.std.specs.{List.Sorted.IsStrictlySortedBy, Map.keys_of, Ordering.{match_ordering, ordering_reverse}}
+use Rattle.std.specs.declared.cmp.Ordering.TheVariants.{Equal, Greater, Less}
+use Rattle.std.proofs.lemmas.Map.{lookup-none, lookup-remove_entry, Entries.{none_below_head, none_past_head}}
+use Rattle.std.proofs.lemmas.{Map.Keys.{IsDistinct-from_sorted, sorted_tail}, Option.{none-some, same_Some}}
+use Rattle.krs_model.specs.Table.{alter, at, map_values, put, Rises, Table, without}
+use Rattle.krs_model.proofs.Tables.Changes.{at_alter_other, at_alter_same, at_put_other, at_put_same, is_at_same}
+use Rattle.krs_model.proofs.Tables.Changes.{same_at}
 use Rattle.krs_keys.proofs.TableLemmas.{keys_map}
-use Rattle.krs_model.proofs.Tables.Changes.{same_at, is_at_same, at_put_same, at_put_other}
-use Rattle.krs_model.proofs.Tables.Changes.{at_alter_same, at_alter_other}
 
 -- two numbers are one either way
 pub either_way : (k q : ℕ) → is_at (nat_cmp k) q ≡ is_at (nat_cmp q) k

@@ -1,33 +1,19 @@
 -- Which keyrings that JOIN made are listed, and under what, after a change.
-use Rattle.std.proofs.Common.{◌≡◌, ℕ, zero, suc, ◌+◌, List, [], ◌∷◌, Some, None, filter}
-use Rattle.std.proofs.Common.{Bool, true, false, cond, ◌&&◌, ◌||◌, nat_eq, refl, ap, ◌∙◌, sym, subst, arith}
-use Rattle.std.proofs.Common.{true≢false}
-use Rattle.std.proofs.lemmas.Bool.{eqb-true}
-use Rattle.std.proofs.lemmas.Cmp.{ranked}
-use Rattle.std.proofs.lemmas.List.Elements.{filter_passes}
-use Rattle.std.specs.Prelude.{◌<◌, not, slice_index_or}
-use Rattle.std.specs.Cmp.{unsigned_tied, nat_cmp_is}
-use Rattle.std.specs.List.{list_any, All}
-use Rattle.std.specs.Ordering.{nat_cmp, ordering_then, is_eq, is_le}
-use Rattle.std.specs.declared.cmp.Ordering.{Ordering}
-use Rattle.std.specs.declared.cmp.Ordering.TheVariants.{Less, Equal, Greater}
-use Rattle.std.specs.declared.ops.Bound.TheVariants.{Included, Excluded, Unbounded}
-use Rattle.std.specs.BTreeMap.{is_at}
-use Rattle.std.specs.BTreeMap.Range.{range_contains}
-use Rattle.krs_types.specs.declared.kind.Kind.TheVariants.{Keyring}
-use Rattle.krs_types.specs.Kind.{same_kind}
-use Rattle.krs_types.specs.declared.name.Name.{Name}
-use Rattle.krs_links.specs.declared.seed.Seed.{Seed}
-use Rattle.krs_links.specs.Seeded.{digest}
-use Rattle.krs_model.specs.Queues.{place_cmp}
-use Rattle.krs_model.specs.Table.{Table, at, put, without, alter, map_values}
-use Rattle.krs_keys.specs.declared.key.Key.{Key}
-use Rattle.krs_keys.specs.declared.key.Change.{Change}
-use Rattle.krs_keys.specs.declared.key.Change.TheVariants as change
+use Rattle.std.proofs.Common.{[], ◌&&◌, ◌+◌, ◌<◌, ◌||◌, ◌∙◌, ◌∷◌, ◌≡◌, All, ap, arith, Bool, cond, eqb-true, false}
+use Rattle.std.proofs.Common.{filter, is_eq, is_le, List, nat_cmp, nat_eq, None, not, refl, slice_index_or, Some, subst}
+use Rattle.std.proofs.Common.{suc, sym, true, true≢false, zero, ℕ}
+use Rattle.std.specs.{BTreeMap.{is_at, Range.range_contains}, Cmp.{nat_cmp_is, unsigned_tied}, List.list_any}
+use Rattle.std.specs.{Ordering.ordering_then, declared.cmp.Ordering.{Ordering, TheVariants.{Equal, Greater, Less}}}
+use Rattle.std.specs.declared.ops.Bound.TheVariants.{Excluded, Included, Unbounded}
+use Rattle.std.proofs.lemmas.{Cmp.ranked, List.Elements.filter_passes}
+use Rattle.krs_types.specs.{Kind.same_kind, declared.{kind.Kind.TheVariants.Keyring, name.Name.Name}}
+use Rattle.krs_model.specs.{Queues.place_cmp, Table.{alter, at, map_values, put, Table, without}}
+use Rattle.krs_links.specs.{Seeded.digest, declared.seed.Seed.Seed}
 use Rattle.krs_keys.specs.Changes.{changed}
-use Rattle.krs_keys.specs.declared.sessions.Sessions.{Sessions}
-use Rattle.krs_keys.specs.Sessions.{session_digest, is_digest, lists, AreSessions, ListsKey, UnlistsKey}
+use Rattle.krs_keys.specs.Sessions.{AreSessions, is_digest, lists, ListsKey, session_digest, UnlistsKey}
+use Rattle.krs_keys.specs.declared.{key.{Change.Change, Key.Key}, sessions.Sessions.Sessions}
 use Rattle.krs_keys.proofs.AfterChanges.{IsHidden, told_alter, told_map, told_put, told_without}
+use Rattle.krs_keys.specs.declared.key.Change.TheVariants as change
 
 -- ---- changes of keys
 -- a change that keeps the name of a key, and whether JOIN made it

@@ -1,13 +1,10 @@
 -- Laws of the table of keys.
-use Rattle.std.proofs.Common.{◌≡◌, ℕ, [], ◌∷◌, Option, Some, None, Bool, true, false, cond, Result, Ok, Err}
-use Rattle.std.proofs.Common.{refl, ap}
-use Rattle.std.specs.Option.{option_map}
+use Rattle.std.proofs.Common.{[], ◌∷◌, ◌≡◌, ap, Bool, cond, Err, false, IfErr, IfOk, None, Ok, OnErr, OnOk, Option}
+use Rattle.std.proofs.Common.{option_map, refl, Result, Some, true, ℕ}
 use Rattle.std.specs.Map.{keys_of}
-use Rattle.std.specs.Result.{OnOk, OnErr, IfOk, IfErr}
 use Rattle.std.proofs.lemmas.Option.{none-some, same_Some}
-use Rattle.krs_model.specs.Table.{Table, map_values}
-use Rattle.krs_keys.specs.declared.key.Key.{Key}
-use Rattle.krs_keys.specs.Table.{Keys}
+use Rattle.krs_model.specs.Table.{map_values, Table}
+use Rattle.krs_keys.specs.{Table.Keys, declared.key.Key.Key}
 
 -- these keys, with the serial that comes next
 abbrev pub seen_as : ℕ → Table Key → Keys

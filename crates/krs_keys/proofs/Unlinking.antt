@@ -1,22 +1,16 @@
 -- Keyrings without their links to one key.
-use Rattle.std.proofs.Common.{◌≡◌, ℕ, ◌==◌, [], ◌∷◌, Option, Some, None, true, false, cond, not}
-use Rattle.std.proofs.Common.{refl, ap, ◌∙◌, sym, subst}
-use Rattle.std.specs.Option.{option_map}
+use Rattle.std.proofs.Common.{[], ◌==◌, ◌∙◌, ◌∷◌, ◌≡◌, ap, cond, false, None, not, Option, option_map, refl, Some}
+use Rattle.std.proofs.Common.{subst, sym, true, ℕ}
 use Rattle.krs_types.specs.declared.name.Name.{Name}
+use Rattle.krs_model.specs.{Asks.Linked.without_link, Table.{alter, at, map_values, Table}}
+use Rattle.krs_model.proofs.Tables.Changes.{alter_map, at_map}
 use Rattle.krs_links.specs.Links.{LinkList, unlinked_key}
-use Rattle.krs_links.proofs.KeyLinks.{serials-unlinked_key, serial_named-unlinked_key}
-use Rattle.krs_model.specs.Table.{Table, at, alter, map_values}
+use Rattle.krs_links.proofs.KeyLinks.{serial_named-unlinked_key, serials-unlinked_key}
+use Rattle.krs_keys.specs.Keys.{AreFit, AreNamed, AreOfKind, IsOfKind, keyless_content, name_at, named_links_of_content}
+use Rattle.krs_keys.specs.Keys.{seen, shown, without_key}
+use Rattle.krs_keys.specs.declared.key.{Content.{Content, TheVariants.{Links, Payload}}, Key.Key}
+use Rattle.krs_keys.proofs.{KindsLemmas.keyless_kind, LinkNames.{fit_alter, named_on}, TableLemmas.mapped_some}
 use Rattle.krs_model.specs.State as model
-use Rattle.krs_model.specs.Asks.Linked.{without_link}
-use Rattle.krs_model.proofs.Tables.Changes.{at_map, alter_map}
-use Rattle.krs_keys.specs.declared.key.Key.{Key}
-use Rattle.krs_keys.specs.declared.key.Content.{Content}
-use Rattle.krs_keys.specs.declared.key.Content.TheVariants.{Payload, Links}
-use Rattle.krs_keys.specs.Keys.{seen, shown, named_links_of_content, keyless_content, without_key}
-use Rattle.krs_keys.specs.Keys.{name_at, AreNamed, AreFit, IsOfKind, AreOfKind}
-use Rattle.krs_keys.proofs.LinkNames.{named_on, fit_alter}
-use Rattle.krs_keys.proofs.KindsLemmas.{keyless_kind}
-use Rattle.krs_keys.proofs.TableLemmas.{mapped_some}
 
 seen_keyless :
     (serial : ℕ) (key : Key) (content : Content)

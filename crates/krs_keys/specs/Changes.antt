@@ -1,14 +1,10 @@
 -- Changes of a key as it is kept, and as the definitions see them.
-use Rattle.std.specs.Prelude.{ℕ, List, [], ◌∷◌, Bool, true, false, None}
-use Rattle.krs_model.specs.State as model
-use Rattle.krs_model.specs.Asks.Changing as meant
-use Rattle.krs_model.specs.Asks.Linked.{cleared}
-use Rattle.krs_model.specs.Asks.Restricting.{restricted}
-use Rattle.krs_keys.specs.declared.key.Key.{Key}
-use Rattle.krs_keys.specs.declared.key.Content.{Content}
-use Rattle.krs_keys.specs.declared.key.Content.TheVariants.{Payload, Links}
-use Rattle.krs_keys.specs.declared.key.Change.{Change}
+use Rattle.std.specs.Prelude.{[], ◌∷◌, Bool, false, List, None, true, ℕ}
+use Rattle.krs_model.specs.Asks.{Linked.cleared, Restricting.restricted}
+use Rattle.krs_keys.specs.declared.key.{Change.Change, Content.{Content, TheVariants.{Links, Payload}}, Key.Key}
 use Rattle.krs_keys.specs.declared.key.Change.TheVariants as change
+use Rattle.krs_model.specs.Asks.Changing as meant
+use Rattle.krs_model.specs.State as model
 
 -- another payload in the place of the one that is there
 abbrev pub paid_with : List ℕ → Content → Content

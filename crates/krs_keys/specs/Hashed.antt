@@ -1,6 +1,6 @@
 -- A table that a hash map keeps, whose entries stand in no order.
-use Rattle.std.specs.Prelude.{ℕ, List, [], ◌∷◌}
-use Rattle.krs_model.specs.Table.{Table, put}
+use Rattle.std.specs.Prelude.{[], ◌∷◌, List, ℕ}
+use Rattle.krs_model.specs.Table.{put, Table}
 
 -- the entries of a hash map, by rising serial
 abbrev pub by_serial : {X : Type 0} → List (ℕ × X) → Table X

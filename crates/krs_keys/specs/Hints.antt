@@ -1,7 +1,6 @@
 -- Hints: where a serial's place may be read without looking into the index.
-use Rattle.std.specs.Prelude.{◌≡◌, ◌≢◌, ◌⊎◌, ℕ, ◌<◌, ◌-◌, List, Some, length, slice_get, bit_and}
-use Rattle.krs_keys.specs.declared.places.Hint.{Hint}
-use Rattle.krs_keys.specs.Listed.{place_of}
+use Rattle.std.specs.Prelude.{◌-◌, ◌<◌, ◌≡◌, ◌≢◌, ◌⊎◌, bit_and, length, List, slice_get, Some, ℕ}
+use Rattle.krs_keys.specs.{Listed.place_of, declared.places.Hint.Hint}
 
 -- where the hint of a serial stands among so many
 unfoldable pub spot : ℕ → ℕ → ℕ

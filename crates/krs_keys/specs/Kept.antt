@@ -1,10 +1,7 @@
 -- Which keys of a table stay: keyrings(7), "Anchoring keys"; profile, dropped at once.
-use Rattle.std.specs.Prelude.{◌≡◌, ℕ, List, Bool, true, filter}
-use Rattle.krs_model.specs.Table.{Table, at}
-use Rattle.krs_model.specs.Sweep.{PicksHeld}
-use Rattle.krs_model.specs.Anchored.{IsClosedChoice}
-use Rattle.krs_keys.specs.declared.key.Key.{Key}
-use Rattle.krs_keys.specs.Keys.{shown}
+use Rattle.std.specs.Prelude.{◌≡◌, Bool, filter, List, true, ℕ}
+use Rattle.krs_model.specs.{Anchored.IsClosedChoice, Sweep.PicksHeld, Table.{at, Table}}
+use Rattle.krs_keys.specs.{Keys.shown, declared.key.Key.Key}
 
 -- just the held keys stay
 pub record Sweeps (attached : List ℕ) (old new : Table Key) : Type 0 where

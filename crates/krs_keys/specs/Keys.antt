@@ -1,22 +1,12 @@
 -- Keys as they are kept, with the names of their links, and as the definitions see them.
-use Rattle.std.specs.Prelude.{◌≡◌, ℕ, List, [], ◌∷◌, true, Option, None, Some, find}
-use Rattle.std.specs.List.{remove}
-use Rattle.std.specs.Option.{option_map}
-use Rattle.krs_types.specs.declared.kind.Kind.{Kind}
-use Rattle.krs_types.specs.declared.kind.Kind.TheVariants.{Keyring}
+use Rattle.std.specs.Prelude.{[], ◌∷◌, ◌≡◌, find, List, None, Option, option_map, remove, Some, true, ℕ}
 use Rattle.krs_types.specs.Kind.{same_kind}
-use Rattle.krs_types.specs.declared.name.Name.{Name}
-use Rattle.krs_model.specs.Table.{Table, at, map_values}
+use Rattle.krs_types.specs.declared.{caller.Caller.Caller, kind.Kind.{Kind, TheVariants.Keyring}, name.Name.Name}
+use Rattle.krs_model.specs.{Asks.Joining.is_joinable, Levels.is_in, Linking.link_named}
+use Rattle.krs_model.specs.{Reach.{is_ring, links_of_key_at}, Table.{at, map_values, Table}}
+use Rattle.krs_links.specs.Links.{link_put, LinkList, serial_named, serials, unlinked_key}
+use Rattle.krs_keys.specs.declared.key.{Content.{Content, TheVariants.{Links, Payload}}, Key.Key}
 use Rattle.krs_model.specs.State as model
-use Rattle.krs_model.specs.Levels.{is_in}
-use Rattle.krs_model.specs.Reach.{links_of_key_at, is_ring}
-use Rattle.krs_model.specs.Linking.{link_named}
-use Rattle.krs_model.specs.Asks.Joining.{is_joinable}
-use Rattle.krs_types.specs.declared.caller.Caller.{Caller}
-use Rattle.krs_keys.specs.declared.key.Key.{Key}
-use Rattle.krs_keys.specs.declared.key.Content.{Content}
-use Rattle.krs_keys.specs.declared.key.Content.TheVariants.{Payload, Links}
-use Rattle.krs_links.specs.Links.{LinkList, link_put, unlinked_key, serial_named, serials}
 
 -- the named links of a keyring
 abbrev pub named_links_of_content : Content → LinkList

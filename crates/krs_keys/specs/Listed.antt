@@ -1,6 +1,5 @@
 -- The places of serials, as contracts see them.
-use Rattle.std.specs.Prelude.{ℕ, List, Option, nat_eq}
-use Rattle.std.specs.Map.{lookup}
+use Rattle.std.specs.{Prelude.{List, nat_eq, Option, ℕ}, Map.lookup}
 
 -- each serial with its place, in no order that matters, and how many more take no memory
 pub record Listed : Type 0 where

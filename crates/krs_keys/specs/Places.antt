@@ -1,13 +1,11 @@
 -- Keys by place: what each place holds, the place of each serial, and the serials of the keyrings.
-use Rattle.std.specs.Prelude.{◌≡◌, ℕ, ◌≤◌, List, [], ◌∷◌, Bool, false, nat_eq, nat_lt, true, Option, None, Some}
-use Rattle.std.specs.Prelude.{IsSome, cond, filter, slice_index_or}
-use Rattle.std.specs.List.{list_any}
-use Rattle.std.specs.Option.{option_map}
-use Rattle.slab.specs.Slab.{HasRoomFor}
+use Rattle.std.specs.Prelude.{[], ◌∷◌, ◌≡◌, ◌≤◌, Bool, cond, false, filter, IsSome, List, nat_eq, nat_lt, None, Option}
+use Rattle.std.specs.Prelude.{option_map, slice_index_or, Some, true, ℕ}
 use Rattle.indexmap.specs.IndexSet.{spare as spare_keys}
-use Rattle.krs_types.specs.declared.kind.Kind.TheVariants.{Keyring}
-use Rattle.krs_types.specs.Kind.{same_kind}
-use Rattle.krs_model.specs.Table.{Table, at, put, without}
+use Rattle.slab.specs.Slab.{HasRoomFor}
+use Rattle.std.specs.List.{list_any}
+use Rattle.krs_types.specs.{Kind.same_kind, declared.kind.Kind.TheVariants.Keyring}
+use Rattle.krs_model.specs.Table.{at, put, Table, without}
 pub use Rattle.krs_keys.specs.Listed.{place_of}
 use Rattle.krs_keys.specs.declared.key.Key.{Key}
 use Rattle.krs_keys.specs.declared.placed.PlacedKeys.{PlacedKeys}

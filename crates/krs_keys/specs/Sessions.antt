@@ -1,15 +1,10 @@
 -- The keyrings that JOIN made, by what their descriptions hash to.
-use Rattle.std.specs.Prelude.{◌≡◌, ℕ, ◌+◌, ◌<◌, ◌^◌, List, Bool, true, false, nat_eq, cond, ◌&&◌, Option, None, Some}
-use Rattle.std.specs.List.{list_any, All}
-use Rattle.std.specs.BTreeMap.{is_at}
-use Rattle.krs_types.specs.declared.kind.Kind.TheVariants.{Keyring}
-use Rattle.krs_types.specs.Kind.{same_kind}
-use Rattle.krs_links.specs.declared.seed.Seed.{Seed}
-use Rattle.krs_links.specs.Seeded.{digest}
-use Rattle.krs_model.specs.Queues.{place_cmp}
-use Rattle.krs_model.specs.Table.{Table, at, put, without, Rises}
-use Rattle.krs_keys.specs.declared.key.Key.{Key}
-use Rattle.krs_keys.specs.declared.sessions.Sessions.{Sessions}
+use Rattle.std.specs.Prelude.{◌&&◌, ◌+◌, ◌<◌, ◌^◌, ◌≡◌, All, Bool, cond, false, List, nat_eq, None, Option, Some, true}
+use Rattle.std.specs.{Prelude.ℕ, BTreeMap.is_at, List.list_any}
+use Rattle.krs_types.specs.{Kind.same_kind, declared.kind.Kind.TheVariants.Keyring}
+use Rattle.krs_model.specs.{Queues.place_cmp, Table.{at, put, Rises, Table, without}}
+use Rattle.krs_links.specs.{Seeded.digest, declared.seed.Seed.Seed}
+use Rattle.krs_keys.specs.declared.{key.Key.Key, sessions.Sessions.Sessions}
 
 -- what the description of a keyring that JOIN made hashes to
 abbrev pub session_digest : Seed → Option Key → Option ℕ

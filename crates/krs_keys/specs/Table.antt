@@ -1,14 +1,10 @@
 -- What a table of keys is seen as.
-use Rattle.std.specs.Prelude.{◌≡◌, ◌⊎◌, ℕ, ◌+◌, ◌≤◌, nat_lt, cond, if◌then◌else◌}
-use Rattle.krs_types.specs.declared.name.Name.{Name}
+use Rattle.std.specs.Prelude.{◌+◌, ◌≡◌, ◌≤◌, ◌⊎◌, cond, if◌then◌else◌, nat_lt, ℕ}
+use Rattle.krs_types.specs.declared.{errno.Errno.{Errno, TheVariants.{ENOMEM, ENOSPC}}, name.Name.Name}
+use Rattle.krs_model.specs.Table.{alter, IsBelow, put, Table}
 use Rattle.krs_links.specs.Links.{link_error}
-use Rattle.krs_keys.specs.Keys.{named_links_of_key_at, with_entry, AreOfKind}
-use Rattle.krs_types.specs.declared.errno.Errno.{Errno}
-use Rattle.krs_types.specs.declared.errno.Errno.TheVariants.{ENOSPC, ENOMEM}
-use Rattle.krs_model.specs.Table.{Table, put, alter, IsBelow}
-use Rattle.krs_keys.specs.declared.key.Key.{Key}
-use Rattle.krs_keys.specs.declared.sessions.Sessions.{Sessions}
-use Rattle.krs_keys.specs.Sessions.{AreSessions}
+use Rattle.krs_keys.specs.Keys.{AreOfKind, named_links_of_key_at, with_entry}
+use Rattle.krs_keys.specs.{Sessions.AreSessions, declared.{key.Key.Key, sessions.Sessions.Sessions}}
 
 -- the keys by serial, and the serial that comes next
 pub record Keys : Type 0 where

@@ -1,10 +1,8 @@
-ghost use Rattle.std.specs.Prelude.{◌≡◌, ◌≢◌, Some, false, true, slice_get, IfSome, IfNone, IfOk, IfErr, OnOk, OnErr, IsOk, IsSome};
-ghost use Rattle.krs_links.specs.Links.{serial_named, serials, is_refused, link_error};
-ghost use Rattle.krs_keys.specs.Keys.{with_entry, without_link_at, named_links_of_content, seen};
-ghost use Rattle.krs_keys.specs.Changes.{changed};
-ghost use Rattle.krs_model.specs.Asks.Changing.{or_left};
-ghost use Rattle.krs_model.specs.Access.{is_over, is_alive, rights_on};
-ghost use Rattle.krs_model.specs.Asks.Joining.{is_joinable};
+ghost use Rattle.std.specs.Prelude.{◌≡◌, ◌≢◌, false, IfErr, IfNone, IfOk, IfSome, IsOk, IsSome, OnErr, OnOk, slice_get};
+ghost use Rattle.std.specs.Prelude.{Some, true};
+ghost use Rattle.krs_model.specs.{Access.{is_alive, is_over, rights_on}, Asks.{Changing.or_left, Joining.is_joinable}};
+ghost use Rattle.krs_links.specs.Links.{is_refused, link_error, serial_named, serials};
+ghost use Rattle.krs_keys.specs.{Changes.changed, Keys.{named_links_of_content, seen, with_entry, without_link_at}};
 
 use bitflags::Flags;
 use krs_links::{HashedName, Links};
@@ -174,7 +172,7 @@ impl Key {
 }
 
 impl Content {
-    ghost use Rattle.krs_keys.specs.Changes.{paid_with, emptied, cleared_content, links_some};
+    ghost use Rattle.krs_keys.specs.Changes.{cleared_content, emptied, links_some, paid_with};
     ghost use Rattle.krs_keys.specs.Keys.{content_without_at};
 
     /// Another payload in the place of the one that is there.

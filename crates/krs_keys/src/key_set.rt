@@ -1,4 +1,4 @@
-ghost use Rattle.std.specs.Prelude.{◌≡◌, ℕ, Bool, is_some};
+ghost use Rattle.std.specs.Prelude.{◌≡◌, Bool, is_some, ℕ};
 ghost use Rattle.krs_model.specs.Table.{at};
 ghost use Rattle.krs_keys.specs.Keys.{shown};
 

@@ -1,18 +1,12 @@
-ghost use Rattle.std.specs.Prelude.{◌≡◌, ◌+◌, ◌^◌, ◌<◌, None, false, [], length};
-ghost use Rattle.std.specs.Prelude.{IfOk, IfErr, OnOk, OnErr, IsOk, IsSome, option_copied};
-ghost use Rattle.std.specs.List.Sorted.{IsStrictlySortedBy};
-ghost use Rattle.std.specs.Map.{keys_of};
-ghost use Rattle.std.specs.Ordering.{nat_cmp};
-ghost use Rattle.krs_model.specs.Table.{at, put, without, alter, map_values, IsBelow};
-ghost use Rattle.krs_keys.specs.Keys.{with_entry, without_key, displaced_at, named_links_of_key_at};
-ghost use Rattle.krs_keys.specs.Keys.{shown, IsOfKind, AreOfKind, AreFit, OnlyRingsLink};
+ghost use Rattle.std.specs.Prelude.{[], ◌+◌, ◌<◌, ◌^◌, ◌≡◌, false, IfErr, IfOk, IsOk, IsSome, length, None, OnErr};
+ghost use Rattle.std.specs.Prelude.{OnOk, option_copied};
+ghost use Rattle.std.specs.{List.Sorted.IsStrictlySortedBy, Map.keys_of, Ordering.nat_cmp};
+ghost use Rattle.krs_model.specs.Table.{alter, at, IsBelow, map_values, put, without};
 ghost use Rattle.krs_links.specs.Links.{has_link, is_refused, link_error};
-ghost use Rattle.krs_keys.specs.Changes.{changed};
-ghost use Rattle.krs_keys.specs.Table.{with_key, with_linked_key, AreLeft};
-ghost use Rattle.krs_keys.specs.Table.{insert_error, IsLinkError, IsLinkedError};
-ghost use Rattle.krs_keys.specs.Keys.{joinable_in};
-ghost use Rattle.krs_keys.specs.Places.{by_place, keyrings_in, ArePlaced};
-ghost use Rattle.krs_keys.specs.Sessions.{AreSessions};
+ghost use Rattle.krs_keys.specs.{Changes.changed, Keys.{AreFit, AreOfKind, displaced_at, IsOfKind, joinable_in}};
+ghost use Rattle.krs_keys.specs.Keys.{named_links_of_key_at, OnlyRingsLink, shown, with_entry, without_key};
+ghost use Rattle.krs_keys.specs.{Places.{ArePlaced, by_place, keyrings_in}, Sessions.AreSessions};
+ghost use Rattle.krs_keys.specs.Table.{AreLeft, insert_error, IsLinkedError, IsLinkError, with_key, with_linked_key};
 
 use crate::hints::{forget, forget_key, forget_links, forget_taken, note, note_links};
 use crate::linkers::Linkers;
@@ -42,8 +36,7 @@ impl Model for KeyTable {
 
     ghost Value = { Keys };
 
-    ghost use Rattle.krs_keys.specs.Table.{AreKept};
-    ghost use Rattle.krs_keys.specs.Places.{by_place, ArePlaced};
+    ghost use Rattle.krs_keys.specs.{Places.{ArePlaced, by_place}, Table.AreKept};
 
     ghost view = { λ t. record { keys = by_place t.keys; next = t.next } };
 

@@ -1,13 +1,11 @@
 //! The keys, each at a place that it keeps.
-ghost use Rattle.std.specs.Prelude.{◌≡◌, ℕ, ◌+◌, [], None, false, length};
-ghost use Rattle.std.specs.Prelude.{IfOk, IfErr, OnOk, OnErr, IsOk, IsSome, option_copied};
+ghost use Rattle.std.specs.Prelude.{[], ◌+◌, ◌≡◌, false, IfErr, IfOk, IsOk, IsSome, length, None, OnErr, OnOk};
+ghost use Rattle.std.specs.Prelude.{option_copied, ℕ};
+ghost use Rattle.krs_model.specs.{Asks.Joining.is_joinable, Table.{alter, at, map_values, put, without}};
 ghost use Rattle.krs_links.specs.Links.{has_link, is_refused, link_error};
-ghost use Rattle.krs_model.specs.Asks.Joining.{is_joinable};
-ghost use Rattle.krs_model.specs.Table.{at, put, without, alter, map_values};
-ghost use Rattle.krs_keys.specs.Changes.{changed};
-ghost use Rattle.krs_keys.specs.Keys.{with_entry, without_key, displaced_at, named_links_of_key_at, seen};
-ghost use Rattle.krs_keys.specs.Keys.{joinable_in, AreFit, AreOfKind};
-ghost use Rattle.krs_keys.specs.Places.{by_place, keyrings_in, is_sooner, passes, ArePlaced, HaveRoom};
+ghost use Rattle.krs_keys.specs.{Changes.changed, Keys.{AreFit, AreOfKind, displaced_at, joinable_in}};
+ghost use Rattle.krs_keys.specs.Keys.{named_links_of_key_at, seen, with_entry, without_key};
+ghost use Rattle.krs_keys.specs.Places.{ArePlaced, by_place, HaveRoom, is_sooner, keyrings_in, passes};
 ghost use Rattle.krs_keys.specs.Sessions.{AreSessions};
 
 use crate::places::Places;

@@ -1,9 +1,7 @@
 //! Where each key lies: an index from serials to places, with hints in front of it.
-ghost use Rattle.std.specs.Prelude.{◌≡◌, ℕ, ◌+◌, ◌≤◌, [], None, Some, length, nat_eq, cond, OnOk, IfSome, IfNone};
-ghost use Rattle.std.specs.List.{IsDistinct};
-ghost use Rattle.std.specs.Map.{keys_of};
-ghost use Rattle.krs_keys.specs.Listed.{place_of};
-ghost use Rattle.krs_keys.specs.Hints.{spot, AreHints, IsHinted, Notes, Forgets};
+ghost use Rattle.std.specs.Prelude.{[], ◌+◌, ◌≡◌, ◌≤◌, cond, IfNone, IfSome, length, nat_eq, None, OnOk, Some, ℕ};
+ghost use Rattle.std.specs.{List.IsDistinct, Map.keys_of};
+ghost use Rattle.krs_keys.specs.{Hints.{AreHints, Forgets, IsHinted, Notes, spot}, Listed.place_of};
 
 use indexmap::IndexMap;
 use std::alloc::{AllocError, Global};
@@ -37,8 +35,7 @@ pub(crate) struct Places {
 
 impl Model for Places {
     ghost use Rattle.indexmap.specs.IndexMap.{spare};
-    ghost use Rattle.krs_keys.specs.Listed.{Listed};
-    ghost use Rattle.krs_keys.specs.Hints.{AreHints};
+    ghost use Rattle.krs_keys.specs.{Hints.AreHints, Listed.Listed};
 
     ghost Value = { Listed };
 

@@ -1,7 +1,7 @@
 //! The keyrings that JOIN made, by their descriptions.
-ghost use Rattle.std.specs.Prelude.{◌≡◌, [], Some, OnOk, OnErr};
+ghost use Rattle.std.specs.Prelude.{[], ◌≡◌, OnErr, OnOk, Some};
 ghost use Rattle.krs_links.specs.Seeded.{digest};
-ghost use Rattle.krs_keys.specs.Sessions.{session_digest, AreSessions, ListsKey, UnlistsKey, HoldsSerials, AreOfDigest};
+ghost use Rattle.krs_keys.specs.Sessions.{AreOfDigest, AreSessions, HoldsSerials, ListsKey, session_digest, UnlistsKey};
 
 use crate::Key;
 use krs_links::Seed;

@@ -1,15 +1,14 @@
 //! What stands at a place, and which keyrings are listed.
-ghost use Rattle.std.specs.Prelude.{◌≡◌, ℕ, ◌+◌, ◌≤◌, Some, false, nat_eq, cond, slice_get, option_copied};
-ghost use Rattle.std.specs.Prelude.{IfSome, IfNone, IfOk, IfErr, OnOk, OnErr, IsOk, IsSome};
+ghost use Rattle.std.specs.Prelude.{◌+◌, ◌≡◌, ◌≤◌, cond, false, IfErr, IfNone, IfOk, IfSome, IsOk, IsSome, nat_eq};
+ghost use Rattle.std.specs.Prelude.{OnErr, OnOk, option_copied, slice_get, Some, ℕ};
 ghost use Rattle.indexmap.specs.IndexSet.{spare};
-ghost use Rattle.krs_links.specs.Links.{has_link, serials, is_refused, link_error};
-ghost use Rattle.krs_model.specs.Table.{at, alter, map_values};
-ghost use Rattle.krs_types.specs.declared.kind.Kind.TheVariants.{Keyring};
-ghost use Rattle.krs_types.specs.Kind.{same_kind};
+ghost use Rattle.krs_types.specs.{Kind.same_kind, declared.kind.Kind.TheVariants.Keyring};
+ghost use Rattle.krs_model.specs.Table.{alter, at, map_values};
+ghost use Rattle.krs_links.specs.Links.{has_link, is_refused, link_error, serials};
 ghost use Rattle.krs_keys.specs.Changes.{changed};
-ghost use Rattle.krs_keys.specs.Keys.{with_entry, without_key, without_link_at, displaced_by, named_links_of_key};
-ghost use Rattle.krs_keys.specs.Keys.{name_at, named_links_of_key_at, AreNamed, AreFit, AreOfKind};
-ghost use Rattle.krs_keys.specs.Places.{held, in_slots, is_among, AreRings, HavePlaces, IsChangedAt};
+ghost use Rattle.krs_keys.specs.Keys.{AreFit, AreNamed, AreOfKind, displaced_by, name_at, named_links_of_key};
+ghost use Rattle.krs_keys.specs.Keys.{named_links_of_key_at, with_entry, without_key, without_link_at};
+ghost use Rattle.krs_keys.specs.Places.{AreRings, HavePlaces, held, in_slots, is_among, IsChangedAt};
 
 use crate::places::Places;
 use crate::{Change, Key};

@@ -1,46 +1,26 @@
 -- What ADD overwrote leaves no trace.
-use Rattle.std.proofs.Common.{◌≡◌, ℕ, ℤ, ◌+◌, ◌<◌, ◌≤◌, ◌&&◌, List, Option, Some, None, Bool, true, false, cond}
-use Rattle.std.proofs.Common.{Result, Ok, Err, refl, ap, ◌∙◌, sym, subst, arith, nat_le}
-use Rattle.std.specs.Prelude.{codes}
-use Rattle.std.proofs.lemmas.Bool.Decides.{nat_tests}
-use Rattle.std.proofs.lemmas.Option.{none-some}
-use Rattle.krs_types.specs.declared.errno.Errno.{Errno}
-use Rattle.krs_types.specs.declared.errno.Errno.TheVariants.{EACCES}
-use Rattle.krs_types.specs.declared.context.Context.{Context}
-use Rattle.krs_types.specs.declared.name.Name.{Name}
-use Rattle.krs_types.specs.declared.key_id.KeyId.{KeyId}
-use Rattle.krs_types.specs.declared.ask.Answer.{Answer}
-use Rattle.krs_types.specs.declared.ask.Answer.TheVariants.{Number}
-use Rattle.krs_types.specs.declared.ask.Op.{Op}
-use Rattle.krs_types.specs.declared.ask.Op.TheVariants.{Add}
-use Rattle.krs_types.specs.declared.note.KeyEvent.TheVariants.{Updated as UpdatedNote, Linked}
+use Rattle.std.proofs.Common.{◌&&◌, ◌+◌, ◌<◌, ◌∙◌, ◌≡◌, ◌≤◌, ap, arith, Bool, codes, cond, Err, false, List, nat_le}
+use Rattle.std.proofs.Common.{None, Ok, Option, refl, Result, Some, subst, sym, true, ℕ, ℤ}
+use Rattle.std.proofs.lemmas.{Bool.Decides.nat_tests, Option.none-some}
+use Rattle.krs_types.specs.{KeyId.key_id_of, Rights.{has_all, WRITE}, declared.ask.Answer.Answer}
+use Rattle.krs_types.specs.declared.{ask.{Answer.TheVariants.Number, Op.{Op, TheVariants.Add}}, context.Context.Context}
+use Rattle.krs_types.specs.declared.{errno.Errno.{Errno, TheVariants.EACCES}, key_id.KeyId.KeyId, name.Name.Name}
+use Rattle.krs_types.specs.declared.note.KeyEvent.TheVariants.{Linked, Updated as UpdatedNote}
 use Rattle.krs_types.specs.declared.rights.Want.TheVariants.{Granted}
-use Rattle.krs_types.specs.KeyId.{key_id_of}
-use Rattle.krs_types.specs.Rights.{has_all, WRITE}
-use Rattle.krs_model.specs.Table.{Table, at, put, IsBelow, IsDistinct}
-use Rattle.krs_model.specs.State.{State, Key, raised}
 use Rattle.krs_model.specs.Access.{is_alive, rights_on}
-use Rattle.krs_model.specs.Lookup.{context_of, serial_of, look_up}
-use Rattle.krs_model.specs.Linking.{ring_links, link_named}
-use Rattle.krs_model.specs.Making.{special_ring, made_for}
-use Rattle.krs_model.specs.Outcome.{Outcome}
-use Rattle.krs_model.specs.Step.{Step, Ends}
-use Rattle.krs_model.specs.Asks.Changing.{is_updatable}
-use Rattle.krs_model.specs.Asks.Adding.{Place, Updated, Made, admitted, if_room, over_match, by_match, place_of}
-use Rattle.krs_model.specs.Asks.Adding.{added, added_serial, added_in, add}
-use Rattle.krs_model.specs.Hiding.{Hiding, blind, blind_content, blind_keys, over}
-use Rattle.krs_model.specs.Secrecy.{HidesOnly}
-use Rattle.krs_model.specs.Notes.Telling.{named, about, about_link}
+use Rattle.krs_model.specs.Asks.Adding.{add, added, added_in, added_serial, admitted, by_match, if_room, Made}
+use Rattle.krs_model.specs.Asks.{Adding.{over_match, Place, place_of, Updated}, Changing.is_updatable}
+use Rattle.krs_model.specs.{Hiding.{blind, blind_content, blind_keys, Hiding, over}, Linking.{link_named, ring_links}}
+use Rattle.krs_model.specs.{Lookup.{context_of, look_up, serial_of}, Making.{made_for, special_ring}}
+use Rattle.krs_model.specs.{Notes.Telling.{about, about_link, named}, Outcome.Outcome, Secrecy.HidesOnly}
+use Rattle.krs_model.specs.{State.{Key, raised, State}, Step.{Ends, Step}, Table.{at, IsBelow, IsDistinct, put, Table}}
 use Rattle.krs_model.proofs.Asks.Later.{bind_ok, same_ok}
-use Rattle.krs_model.proofs.Hiding.Keys.{seen}
-use Rattle.krs_model.proofs.Hiding.Links.{same_ring_links, same_link_named, made_blind}
-use Rattle.krs_model.proofs.Hiding.Lookups.{blind_found, look_up_blind, same_possessed}
-use Rattle.krs_model.proofs.Hiding.Sweeps.{same_there}
-use Rattle.krs_model.proofs.MadeKeyring.Which.{IsMade, NoneMade, ThreadMade, ProcessMade, made_for_is}
-use Rattle.krs_model.proofs.Tables.Distinct.{put_distinct}
-use Rattle.krs_model.proofs.Tables.Entries.{rises_distinct}
+use Rattle.krs_model.proofs.Hiding.{Keys.seen, Links.{made_blind, same_link_named, same_ring_links}}
+use Rattle.krs_model.proofs.Hiding.{Lookups.{blind_found, look_up_blind, same_possessed}, Sweeps.same_there}
+use Rattle.krs_model.proofs.MadeKeyring.Which.{IsMade, made_for_is, NoneMade, ProcessMade, ThreadMade}
+use Rattle.krs_model.proofs.Tables.{Distinct.put_distinct, Entries.rises_distinct}
 use Rattle.krs_laws.specs.Overwritten.{AddsForget}
-use Rattle.krs_laws.proofs.Overwriting.{updated_keys, then_ok, AsksAlike, served_same}
+use Rattle.krs_laws.proofs.Overwriting.{AsksAlike, served_same, then_ok, updated_keys}
 
 -- ---- where an added key goes
 

@@ -1,8 +1,6 @@
 -- The laws of whose contexts are, of one store that began empty.
 use Rattle.std.proofs.Common.{false, subst}
-use Rattle.krs_model.specs.State.{State}
-use Rattle.krs_model.specs.History.{IsLegal}
-use Rattle.krs_model.specs.Confidentiality.{KeepsPrivate}
+use Rattle.krs_model.specs.{Confidentiality.KeepsPrivate, History.IsLegal, State.State}
 use Rattle.krs_model.proofs.History.Belongings.{contexts_greeted, readers_greeted}
 use Rattle.krs_laws.specs.Belonging.{ContextsAreTheirClients, ReadersHaveNamedThemselves}
 

@@ -1,81 +1,49 @@
 -- Each accepted ask changes keys by right, and so does each step.
-use Rattle.std.proofs.Common.{◌≡◌, ℕ, ℤ, ◌+◌, ◌==◌, ◌&&◌, ◌||◌, List, [], ◌∷◌, Option, Some, None, Bool, true, false, cond}
-use Rattle.std.proofs.Common.{Result, Ok, Err, refl, ap, ◌∙◌, sym, subst, ◌⊎◌, inl, inr, ⊎_elim, arith, length, nat_lt, filter}
-use Rattle.std.specs.Prelude.{codes}
-use Rattle.std.specs.Option.{IsSome, option_map}
-use Rattle.std.proofs.lemmas.Bool.{true≢false}
-use Rattle.std.proofs.lemmas.Bool.Decides.{nat_tests}
-use Rattle.std.proofs.lemmas.Option.{none-some, same_Some}
-use Rattle.krs_types.specs.declared.errno.Errno.{Errno}
-use Rattle.krs_types.specs.declared.errno.Errno.TheVariants.{EACCES, EINVAL, ENOKEY, EEXIST}
+use Rattle.std.proofs.Common.{[], ⊎_elim, ◌&&◌, ◌+◌, ◌==◌, ◌||◌, ◌∙◌, ◌∷◌, ◌≡◌, ◌⊎◌, ap, arith, Bool, codes, cond, Err}
+use Rattle.std.proofs.Common.{false, filter, inl, inr, IsSome, length, List, nat_lt, None, Ok, Option, option_map, refl}
+use Rattle.std.proofs.Common.{Result, Some, subst, sym, true, true≢false, ℕ, ℤ}
+use Rattle.std.proofs.lemmas.{Bool.Decides.nat_tests, Option.{none-some, same_Some}}
+use Rattle.krs_types.specs.{Caller.{caller_check, is_of_group}, Growth.has_destination, Kind.paid, Perm.perm_of}
+use Rattle.krs_types.specs.{Refusing.or_refuse, Rights.{LINK, SEARCH, SETATTR, VIEW, WRITE}, declared.ask.Answer.Answer}
+use Rattle.krs_types.specs.declared.ask.Op.{Op, TheVariants.{Add, Chown, Clear, CloseQueue, Describe, Exec, Exit, Fork}}
+use Rattle.krs_types.specs.declared.ask.Op.TheVariants.{GetId, Hello, Invalidate, Join, Leave, Link, Move, OpenQueue}
+use Rattle.krs_types.specs.declared.ask.Op.TheVariants.{Read, ReadQueue, Request, RestrictKeyring, Revoke, Search}
+use Rattle.krs_types.specs.declared.ask.Op.TheVariants.{SetFilter, SetPerm, SetTimeout, Thread, Unlink, Update, Watch}
 use Rattle.krs_types.specs.declared.caller.Caller.{Caller}
-use Rattle.krs_types.specs.declared.context.Context.{Context}
-use Rattle.krs_types.specs.declared.context.UidRings.{UidRings}
-use Rattle.krs_types.specs.declared.ask.Answer.{Answer}
-use Rattle.krs_types.specs.declared.ask.Op.{Op}
-use Rattle.krs_types.specs.declared.ask.Op.TheVariants.{Hello, Thread, Fork, Exec, GetId, Join, Search, Request, Add}
-use Rattle.krs_types.specs.declared.ask.Op.TheVariants.{Update, Revoke, Invalidate, Chown, SetPerm, SetTimeout, Link}
-use Rattle.krs_types.specs.declared.ask.Op.TheVariants.{Unlink, Clear, Read, Describe, Watch, OpenQueue, SetFilter}
-use Rattle.krs_types.specs.declared.ask.Op.TheVariants.{ReadQueue, CloseQueue, Exit, Leave}
-use Rattle.krs_types.specs.declared.ask.Op.TheVariants.{Move, RestrictKeyring}
-use Rattle.krs_types.specs.declared.event.Event.{Event}
-use Rattle.krs_types.specs.declared.note.FilterEntry.{FilterEntry}
-use Rattle.krs_types.specs.declared.rights.Want.TheVariants.{Granted, Either, ToRead}
-use Rattle.krs_types.specs.Caller.{caller_check, is_of_group}
-use Rattle.krs_types.specs.Growth.{has_destination}
-use Rattle.krs_types.specs.Kind.{paid}
-use Rattle.krs_types.specs.Perm.{perm_of}
-use Rattle.krs_types.specs.Refusing.{or_refuse}
-use Rattle.krs_types.specs.Rights.{WRITE, SEARCH, LINK, SETATTR, VIEW}
-use Rattle.krs_model.specs.Table.{Table, at, put, map_values}
-use Rattle.krs_model.specs.State.{State, Key, Content, Payload, Links, raised}
-use Rattle.krs_model.specs.Levels.{is_in}
-use Rattle.krs_model.specs.Possession.{links_of_content}
-use Rattle.krs_model.specs.Lookup.{context_of, look_up, serial_of}
-use Rattle.krs_model.specs.Linking.{ring_links}
-use Rattle.krs_model.specs.Making.{made_for, own_ring}
-use Rattle.krs_model.specs.Queues.{queues_of}
-use Rattle.krs_model.specs.Search.{found, requested}
-use Rattle.krs_model.specs.Sound.{IsSound}
-use Rattle.krs_model.specs.Sweep.{IsHeld, Attached, Linked, PicksHeld, roots}
-use Rattle.krs_model.specs.Step.{Step, Serves, Ends, outcome_of}
+use Rattle.krs_types.specs.declared.{context.{Context.Context, UidRings.UidRings}, errno.Errno.Errno}
+use Rattle.krs_types.specs.declared.{errno.Errno.TheVariants.{EACCES, EEXIST, EINVAL, ENOKEY}, event.Event.Event}
+use Rattle.krs_types.specs.declared.{note.FilterEntry.FilterEntry, rights.Want.TheVariants.{Either, Granted, ToRead}}
 use Rattle.krs_model.specs.Asks.Adding.{add, admitted, place_of}
-use Rattle.krs_model.specs.Asks.Changing.{update, updatable, set_perm, with_perm, if_owner, chown, with_owner, or_left}
-use Rattle.krs_model.specs.Asks.Changing.{if_may_own, may_own, set_timeout, with_expiry, expiry_after, revoke, revoked, emptied}
-use Rattle.krs_model.specs.Asks.Entering.{thread, fork, exec, if_context_number}
-use Rattle.krs_model.specs.Asks.Finding.{get_id, made_where, search_from, sought_name, request}
-use Rattle.krs_model.specs.Asks.Hello.{hello, has_context_left, has_numbers, with_uid, uid_ring}
+use Rattle.krs_model.specs.Asks.Changing.{chown, emptied, expiry_after, if_may_own, if_owner, may_own, or_left, revoke}
+use Rattle.krs_model.specs.Asks.Changing.{revoked, set_perm, set_timeout, updatable, update, with_expiry, with_owner}
+use Rattle.krs_model.specs.Asks.{Changing.with_perm, Entering.{exec, fork, if_context_number, thread}}
+use Rattle.krs_model.specs.Asks.Finding.{get_id, made_where, request, search_from, sought_name}
+use Rattle.krs_model.specs.Asks.Hello.{has_context_left, has_numbers, hello, uid_ring, with_uid}
 use Rattle.krs_model.specs.Asks.Invalidating.{invalidate}
 use Rattle.krs_model.specs.Asks.Joining.{join, joinable, session_joined, session_named, session_ring}
-use Rattle.krs_model.specs.Asks.Leaving.{left, exit}
-use Rattle.krs_model.specs.Asks.Linked.{link, unlink, unless, if_linked, without_link, linked_into, clear}
-use Rattle.krs_model.specs.Asks.Linked.{cleared_content}
-use Rattle.krs_model.specs.Asks.Moving.{move_link, moved}
-use Rattle.krs_model.specs.Asks.Reading.{read, describe}
-use Rattle.krs_model.specs.Asks.Reading as reading
-use Rattle.krs_model.specs.Asks.Restricting.{restrict_keyring, no_type, restricted}
-use Rattle.krs_model.specs.Asks.Watching.{watch, open_queue, set_filter, read_queue, close_queue, with_watching, watch_id_of}
-use Rattle.krs_model.specs.Asks.Watching.{opened, filtered, read_out, closed}
-use Rattle.krs_model.proofs.Asks.Fares.{meets_by}
-use Rattle.krs_model.proofs.Asks.LaterByAsk.{moved_is}
-use Rattle.krs_model.proofs.Asks.Laws.{law_of}
-use Rattle.krs_model.proofs.Asks.Outcomes.{Meets, meets_after, meets_ok, meets_within}
-use Rattle.krs_model.proofs.Lookups.Laws.{look_up_usable}
-use Rattle.krs_model.proofs.Lookups.Serials.{own_there}
-use Rattle.krs_model.proofs.MadeKeyring.State.{HasMadeFor, MadeNone, MadeOne, made_for_has}
+use Rattle.krs_model.specs.Asks.{Leaving.{exit, left}, Linked.{clear, cleared_content, if_linked, link, linked_into}}
+use Rattle.krs_model.specs.Asks.{Linked.{unless, unlink, without_link}, Moving.{move_link, moved}}
+use Rattle.krs_model.specs.Asks.{Reading.{describe, read}, Restricting.{no_type, restrict_keyring, restricted}}
+use Rattle.krs_model.specs.Asks.Watching.{close_queue, closed, filtered, open_queue, opened, read_out, read_queue}
+use Rattle.krs_model.specs.{Asks.Watching.{set_filter, watch, watch_id_of, with_watching}, Levels.is_in}
+use Rattle.krs_model.specs.{Linking.ring_links, Lookup.{context_of, look_up, serial_of}, Making.{made_for, own_ring}}
+use Rattle.krs_model.specs.{Possession.links_of_content, Queues.queues_of, Search.{found, requested}, Sound.IsSound}
+use Rattle.krs_model.specs.{State.{Content, Key, Links, Payload, raised, State}, Step.{Ends, outcome_of, Serves, Step}}
+use Rattle.krs_model.specs.{Sweep.{Attached, IsHeld, Linked, PicksHeld, roots}, Table.{at, map_values, put, Table}}
+use Rattle.krs_model.proofs.Asks.{Fares.meets_by, LaterByAsk.moved_is, Laws.law_of}
+use Rattle.krs_model.proofs.{Asks.Outcomes.{Meets, meets_after, meets_ok, meets_within}, Lookups.Laws.look_up_usable}
+use Rattle.krs_model.proofs.{Lookups.Serials.own_there, MadeKeyring.State.{HasMadeFor, made_for_has, MadeNone, MadeOne}}
 use Rattle.krs_model.proofs.Reach.Levels.{only_in, true_or}
-use Rattle.krs_model.proofs.Sound.Changes.{Stands, LinksTo, not_there}
-use Rattle.krs_model.proofs.Sound.KeyChanges.{unlinked_lessens}
-use Rattle.krs_model.proofs.Sound.NewContexts.{own_process_there}
-use Rattle.krs_model.proofs.Sound.Steps.{sound_stands, raised_sound, legal_sound}
-use Rattle.krs_model.proofs.Tables.Changes.{at_kept, at_map}
-use Rattle.krs_model.proofs.Tables.Counts.{part_in}
-use Rattle.krs_laws.specs.Integrity.{HasRight, Kept, Emptied, Unlinked, IsByRight, AsksAs, IsMadeBy}
-use Rattle.krs_laws.specs.Integrity.{ChangesByRight, AllChangesAreByRight}
-use Rattle.krs_laws.proofs.Rightly.{Rightly, rightly_same, rightly_put, rightly_changed, rightly_written}
-use Rattle.krs_laws.proofs.Rightly.{right_made, right_found, linkable_made, mapped_is}
-use Rattle.krs_laws.proofs.RightlyAsked.{ring_made, made_own, links_nothing, made_rightly, linked_rightly, unlinked_rightly}
-use Rattle.krs_laws.proofs.RightlyAsked.{moved_rightly, found_rightly, updated_then, added_rightly}
+use Rattle.krs_model.proofs.Sound.{Changes.{LinksTo, not_there, Stands}, KeyChanges.unlinked_lessens}
+use Rattle.krs_model.proofs.Sound.{NewContexts.own_process_there, Steps.{legal_sound, raised_sound, sound_stands}}
+use Rattle.krs_model.proofs.Tables.{Changes.{at_kept, at_map}, Counts.part_in}
+use Rattle.krs_laws.specs.Integrity.{AllChangesAreByRight, AsksAs, ChangesByRight, Emptied, HasRight, IsByRight}
+use Rattle.krs_laws.specs.Integrity.{IsMadeBy, Kept, Unlinked}
+use Rattle.krs_laws.proofs.Rightly.{linkable_made, mapped_is, right_found, right_made, Rightly, rightly_changed}
+use Rattle.krs_laws.proofs.Rightly.{rightly_put, rightly_same, rightly_written}
+use Rattle.krs_laws.proofs.RightlyAsked.{added_rightly, found_rightly, linked_rightly, links_nothing, made_own}
+use Rattle.krs_laws.proofs.RightlyAsked.{made_rightly, moved_rightly, ring_made, unlinked_rightly, updated_then}
+use Rattle.krs_model.specs.Asks.Reading as reading
 
 -- by right, where the store stands
 abbrev ByRight : State → ℕ → ℕ → Op → State → Type 0

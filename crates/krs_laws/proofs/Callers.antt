@@ -1,37 +1,20 @@
 -- Each record that a step calls for is called for by a watch.
-use Rattle.std.proofs.Common.{◌≡◌, ℕ, ◌==◌, ◌++◌, not, List, [], ◌∷◌, Some, Bool, true, false, cond, filter, map}
-use Rattle.std.proofs.Common.{flat_map, Result, Ok, Err, refl, ap, ◌∙◌, sym, subst, ◌⊎◌, inl, inr, ⊎_elim}
-use Rattle.std.specs.List.{AllByRecursion}
-use Rattle.std.specs.Prelude.{is_some}
-use Rattle.std.specs.Ordering.{is_eq}
-use Rattle.std.specs.declared.cmp.Ordering.TheVariants.{Less, Equal, Greater}
-use Rattle.std.proofs.lemmas.Bool.{eqb-true}
+use Rattle.std.proofs.Common.{[], ⊎_elim, ◌++◌, ◌==◌, ◌∙◌, ◌∷◌, ◌≡◌, ◌⊎◌, ap, Bool, cond, eqb-true, Err, false, filter}
+use Rattle.std.proofs.Common.{flat_map, inl, inr, is_eq, is_some, List, map, not, Ok, refl, Result, Some, subst, sym}
+use Rattle.std.proofs.Common.{true, ℕ}
+use Rattle.std.specs.{List.AllByRecursion, declared.cmp.Ordering.TheVariants.{Equal, Greater, Less}}
 use Rattle.std.proofs.lemmas.Option.{none-some, same_Some}
-use Rattle.krs_types.specs.declared.errno.Errno.{Errno}
-use Rattle.krs_types.specs.declared.ask.Answer.{Answer}
-use Rattle.krs_types.specs.declared.ask.Op.{Op}
-use Rattle.krs_model.specs.Table.{Table, at}
-use Rattle.krs_model.specs.State.{State, Key, raised}
-use Rattle.krs_model.specs.Queues.{Queues, Watch, queues_of, watch_at, place_cmp}
-use Rattle.krs_model.specs.Orderly.{Each}
-use Rattle.krs_model.specs.Sound.{IsSound}
-use Rattle.krs_model.specs.Sweep.{IsSwept}
-use Rattle.krs_model.specs.Step.{Step, Ends, Serves, posts_by, watches_left}
-use Rattle.krs_model.specs.Outcome.{Outcome}
-use Rattle.krs_model.specs.Asks.Leaving.{left}
-use Rattle.krs_model.specs.Notes.Posting.{Note, Post, watches_at, note_for, removal_for, posts_of, posts, dropped_watches}
-use Rattle.krs_model.specs.Notes.Posting.{records_for}
-use Rattle.krs_model.specs.Notes.Telling.{named, notes_of, ended_by}
-use Rattle.krs_model.specs.Receiving.{called}
-use Rattle.krs_model.proofs.Asks.Effects.{Effect, OfKeys, Opens, Filters, Reads, Closes, Watches, Unwatches, Leaves}
-use Rattle.krs_model.proofs.Asks.Effects.{effect_of}
-use Rattle.krs_model.proofs.Notes.Called.{swept_drops_none}
-use Rattle.krs_model.proofs.Notes.Fitting.{each_filter}
-use Rattle.krs_model.proofs.Sound.Queues.{ended_set}
-use Rattle.krs_model.proofs.Sound.Steps.{legal_sound, raised_sound}
-use Rattle.krs_model.proofs.Sound.Watches.{each_without}
-use Rattle.krs_model.proofs.Sweep.QueueAsks.{effect_swept}
-use Rattle.krs_laws.specs.Noting.{IsWatched, IsCalledFor, AllNotesAreCalledFor}
+use Rattle.krs_types.specs.declared.{ask.{Answer.Answer, Op.Op}, errno.Errno.Errno}
+use Rattle.krs_model.specs.{Asks.Leaving.left, Notes.Posting.{dropped_watches, Note, note_for, Post, posts, posts_of}}
+use Rattle.krs_model.specs.Notes.{Posting.{records_for, removal_for, watches_at}, Telling.{ended_by, named, notes_of}}
+use Rattle.krs_model.specs.{Orderly.Each, Outcome.Outcome, Queues.{place_cmp, Queues, queues_of, Watch, watch_at}}
+use Rattle.krs_model.specs.{Receiving.called, Sound.IsSound, State.{Key, raised, State}}
+use Rattle.krs_model.specs.{Step.{Ends, posts_by, Serves, Step, watches_left}, Sweep.IsSwept, Table.{at, Table}}
+use Rattle.krs_model.proofs.Asks.Effects.{Closes, Effect, effect_of, Filters, Leaves, OfKeys, Opens, Reads, Unwatches}
+use Rattle.krs_model.proofs.{Asks.Effects.Watches, Notes.Called.swept_drops_none}
+use Rattle.krs_model.proofs.{Notes.Fitting.each_filter, Sound.{Queues.ended_set, Steps.{legal_sound, raised_sound}}}
+use Rattle.krs_model.proofs.{Sound.Watches.each_without, Sweep.QueueAsks.effect_swept}
+use Rattle.krs_laws.specs.Noting.{AllNotesAreCalledFor, IsCalledFor, IsWatched}
 use Rattle.krs_laws.proofs.Watchers.{all_watched, same_place}
 
 -- ---- posts

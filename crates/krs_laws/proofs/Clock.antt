@@ -1,58 +1,30 @@
 -- No ask sets the clock.
-use Rattle.std.proofs.Common.{◌≡◌, ℕ, ℤ, ◌≤◌, ◌==◌, nat_lt, List, [], ◌∷◌, Option, Some, None, Bool, true, false, cond, Result, Ok, Err}
-use Rattle.std.proofs.Common.{refl, ap, ◌∙◌, sym, subst, max, arith}
-use Rattle.krs_types.specs.declared.errno.Errno.{Errno}
+use Rattle.std.proofs.Common.{[], ◌==◌, ◌∙◌, ◌∷◌, ◌≡◌, ◌≤◌, ap, arith, Bool, cond, Err, false, List, max, nat_lt, None}
+use Rattle.std.proofs.Common.{Ok, Option, refl, Result, Some, sym, true, ℕ, ℤ}
+use Rattle.krs_types.specs.{Caller.caller_check, Growth.has_destination, KeyId.key_id_of, Refusing.{◌>>=◌, or_refuse}}
+use Rattle.krs_types.specs.{Rights.{LINK, SEARCH, WRITE}, declared.ask.Answer.{Answer, TheVariants.{Nothing, Number}}}
+use Rattle.krs_types.specs.declared.ask.Op.{Op, TheVariants.{Add, Chown, Clear, CloseQueue, Describe, Exec, Exit, Fork}}
+use Rattle.krs_types.specs.declared.ask.Op.TheVariants.{GetId, Hello, Invalidate, Join, Leave, Link, Move, OpenQueue}
+use Rattle.krs_types.specs.declared.ask.Op.TheVariants.{Read, ReadQueue, Request, RestrictKeyring, Revoke, Search}
+use Rattle.krs_types.specs.declared.ask.Op.TheVariants.{SetFilter, SetPerm, SetTimeout, Thread, Unlink, Update, Watch}
 use Rattle.krs_types.specs.declared.caller.Caller.{Caller}
-use Rattle.krs_types.specs.declared.context.Context.{Context}
-use Rattle.krs_types.specs.declared.context.UidRings.{UidRings}
-use Rattle.krs_types.specs.declared.key_id.KeyId.{KeyId}
-use Rattle.krs_types.specs.declared.name.Name.{Name}
-use Rattle.krs_types.specs.declared.ask.Answer.{Answer}
-use Rattle.krs_types.specs.declared.ask.Op.{Op}
-use Rattle.krs_types.specs.declared.ask.Op.TheVariants.{Hello, Thread, Fork, Exec, GetId, Join, Search, Request, Add}
-use Rattle.krs_types.specs.declared.ask.Op.TheVariants.{Update, Revoke, Invalidate, Chown, SetPerm, SetTimeout, Link}
-use Rattle.krs_types.specs.declared.ask.Op.TheVariants.{Unlink, Clear, Read, Describe, Watch, OpenQueue, SetFilter}
-use Rattle.krs_types.specs.declared.ask.Op.TheVariants.{ReadQueue, CloseQueue, Exit, Leave}
-use Rattle.krs_types.specs.declared.ask.Op.TheVariants.{Move, RestrictKeyring}
-use Rattle.krs_types.specs.declared.event.Event.{Event}
-use Rattle.krs_types.specs.KeyId.{key_id_of}
-use Rattle.krs_types.specs.Refusing.{◌>>=◌, or_refuse}
-use Rattle.krs_types.specs.declared.errno.Errno.TheVariants.{EINVAL, ENOKEY}
-use Rattle.krs_types.specs.declared.ask.Answer.TheVariants.{Nothing, Number}
-use Rattle.krs_types.specs.declared.note.FilterEntry.{FilterEntry}
-use Rattle.krs_types.specs.declared.rights.Want.TheVariants.{Granted}
-use Rattle.krs_types.specs.Caller.{caller_check}
-use Rattle.krs_types.specs.Growth.{has_destination}
-use Rattle.krs_types.specs.Rights.{WRITE, SEARCH, LINK}
-use Rattle.krs_model.specs.Lookup.{context_of, look_up}
-use Rattle.krs_model.specs.Linking.{ring_links}
-use Rattle.krs_model.specs.Search.{found, requested}
-use Rattle.krs_model.specs.Asks.Adding.{admitted, place_of}
-use Rattle.krs_model.specs.Asks.Finding.{sought_name, if_linkable}
-use Rattle.krs_model.specs.Asks.Hello.{has_context_left, has_numbers}
-use Rattle.krs_model.specs.Asks.Joining.{session_named, joinable}
-use Rattle.krs_model.specs.Asks.Linked.{unless}
-use Rattle.krs_model.specs.Table.{at}
-use Rattle.krs_model.specs.State.{State, Key, raised}
-use Rattle.krs_model.specs.Making.{made_for, within_serials}
-use Rattle.krs_model.specs.Outcome.{Outcome}
-use Rattle.krs_model.specs.Step.{Step, Ends, outcome_of}
-use Rattle.krs_model.specs.Asks.Adding.{Place, Updated, Made, add, added}
-use Rattle.krs_model.specs.Asks.Changing.{update, set_perm, chown, set_timeout, revoke}
-use Rattle.krs_model.specs.Asks.Entering.{thread, fork, exec}
-use Rattle.krs_model.specs.Asks.Finding.{get_id, made_where, search_from, request, found_into}
-use Rattle.krs_model.specs.Asks.Hello.{hello, with_uid}
-use Rattle.krs_model.specs.Asks.Invalidating.{invalidate}
-use Rattle.krs_model.specs.Asks.Joining.{join, session_joined}
-use Rattle.krs_model.specs.Asks.Leaving.{left, exit}
-use Rattle.krs_model.specs.Asks.Linked.{link, unlink, linked_into, clear}
-use Rattle.krs_model.specs.Asks.Moving.{move_link, moved}
-use Rattle.krs_model.specs.Asks.Reading.{read, describe}
-use Rattle.krs_model.specs.Asks.Restricting.{restrict_keyring}
-use Rattle.krs_model.specs.Asks.Watching.{watch, open_queue, set_filter, read_queue, close_queue}
+use Rattle.krs_types.specs.declared.{context.{Context.Context, UidRings.UidRings}, errno.Errno.Errno}
+use Rattle.krs_types.specs.declared.{errno.Errno.TheVariants.{EINVAL, ENOKEY}, event.Event.Event, key_id.KeyId.KeyId}
+use Rattle.krs_types.specs.declared.{name.Name.Name, note.FilterEntry.FilterEntry, rights.Want.TheVariants.Granted}
+use Rattle.krs_model.specs.Asks.Adding.{add, added, admitted, Made, Place, place_of, Updated}
+use Rattle.krs_model.specs.Asks.{Changing.{chown, revoke, set_perm, set_timeout, update}, Entering.{exec, fork, thread}}
+use Rattle.krs_model.specs.Asks.Finding.{found_into, get_id, if_linkable, made_where, request, search_from, sought_name}
+use Rattle.krs_model.specs.Asks.Hello.{has_context_left, has_numbers, hello, with_uid}
+use Rattle.krs_model.specs.Asks.{Invalidating.invalidate, Joining.{join, joinable, session_joined, session_named}}
+use Rattle.krs_model.specs.Asks.{Leaving.{exit, left}, Linked.{clear, link, linked_into, unless, unlink}}
+use Rattle.krs_model.specs.Asks.{Moving.{move_link, moved}, Reading.{describe, read}, Restricting.restrict_keyring}
+use Rattle.krs_model.specs.Asks.Watching.{close_queue, open_queue, read_queue, set_filter, watch}
+use Rattle.krs_model.specs.{Linking.ring_links, Lookup.{context_of, look_up}, Making.{made_for, within_serials}}
+use Rattle.krs_model.specs.{Outcome.Outcome, Search.{found, requested}, State.{Key, raised, State}}
+use Rattle.krs_model.specs.{Step.{Ends, outcome_of, Step}, Table.at}
 use Rattle.krs_model.proofs.Asks.Later.{same_state, within_ok}
-use Rattle.krs_model.proofs.Asks.LaterByAsk.{linked_into_is, IsMoved, Moves, Stays, moved_is}
-use Rattle.krs_model.proofs.MadeKeyring.Which.{IsMade, NoneMade, ThreadMade, ProcessMade, made_for_is}
+use Rattle.krs_model.proofs.Asks.LaterByAsk.{IsMoved, linked_into_is, moved_is, Moves, Stays}
+use Rattle.krs_model.proofs.MadeKeyring.Which.{IsMade, made_for_is, NoneMade, ProcessMade, ThreadMade}
 
 -- where it is accepted, the clock is this
 pub record Timed (clock : ℕ) (meant : Outcome) : Type 0 where

@@ -1,30 +1,17 @@
 -- A client has at most 64 contexts.
-use Rattle.std.proofs.Common.{◌≡◌, ℕ, ◌+◌, ◌≤◌, ◌<◌, ◌==◌, ◌||◌, not, [], ◌∷◌, Option, Bool, true, false, cond}
-use Rattle.std.proofs.Common.{filter, nat_le, Ok, Err, refl, ap, ◌∙◌, sym, subst, arith}
-use Rattle.std.specs.Map.{values_of}
-use Rattle.std.specs.Ordering.{nat_cmp, match_ordering}
-use Rattle.std.specs.declared.cmp.Ordering.TheVariants.{Less, Equal, Greater}
+use Rattle.std.proofs.Common.{[], ◌+◌, ◌<◌, ◌==◌, ◌||◌, ◌∙◌, ◌∷◌, ◌≡◌, ◌≤◌, ap, arith, Bool, cond, Err, false, filter}
+use Rattle.std.proofs.Common.{nat_cmp, nat_le, not, Ok, Option, refl, subst, sym, true, ℕ}
 use Rattle.std.specs.BTreeMap.{is_at}
-use Rattle.std.proofs.lemmas.List.Sums.{sum_by-cons}
-use Rattle.std.proofs.lemmas.Bool.Decides.{nat_tests}
-use Rattle.krs_types.specs.declared.errno.Errno.TheVariants.{EINVAL}
-use Rattle.krs_types.specs.declared.caller.Caller.{Caller}
-use Rattle.krs_types.specs.declared.context.Context.{Context}
-use Rattle.krs_types.specs.declared.context.UidRings.{UidRings}
-use Rattle.krs_types.specs.declared.ask.Answer.{Answer}
-use Rattle.krs_types.specs.declared.ask.Op.{Op}
-use Rattle.krs_types.specs.Caller.{caller_check}
-use Rattle.krs_model.specs.Table.{Table, put, alter, without, map_values}
-use Rattle.krs_model.specs.State.{State}
-use Rattle.krs_model.specs.Lookup.{context_of}
-use Rattle.krs_model.specs.Step.{outcome_of}
-use Rattle.krs_model.specs.Asks.Entering.{thread, fork, without_thread}
-use Rattle.krs_model.specs.Asks.Hello.{hello, context_count, has_context_left}
-use Rattle.krs_model.specs.Asks.Invalidating.{context_without}
-use Rattle.krs_model.specs.Asks.Leaving.{left}
-use Rattle.krs_model.proofs.Asks.Houses.{Houses, Same, Begins, Enters, Threads, Alters, Rings, Execs, Detaches, Exits, Departs}
-use Rattle.krs_model.proofs.Asks.Houses.{entering, EntersAs, Named, Forked}
-use Rattle.krs_model.proofs.Asks.Later.{bind_ok}
+use Rattle.std.specs.{Map.values_of, Ordering.match_ordering, declared.cmp.Ordering.TheVariants.{Equal, Greater, Less}}
+use Rattle.std.proofs.lemmas.{Bool.Decides.nat_tests, List.Sums.sum_by-cons}
+use Rattle.krs_types.specs.{Caller.caller_check, declared.{ask.{Answer.Answer, Op.Op}, caller.Caller.Caller}}
+use Rattle.krs_types.specs.declared.{context.{Context.Context, UidRings.UidRings}, errno.Errno.TheVariants.EINVAL}
+use Rattle.krs_model.specs.Asks.Entering.{fork, thread, without_thread}
+use Rattle.krs_model.specs.Asks.Hello.{context_count, has_context_left, hello}
+use Rattle.krs_model.specs.{Asks.{Invalidating.context_without, Leaving.left}, Lookup.context_of, State.State}
+use Rattle.krs_model.specs.{Step.outcome_of, Table.{alter, map_values, put, Table, without}}
+use Rattle.krs_model.proofs.Asks.Houses.{Alters, Begins, Departs, Detaches, entering, Enters, EntersAs, Execs, Exits}
+use Rattle.krs_model.proofs.Asks.{Houses.{Forked, Houses, Named, Rings, Same, Threads}, Later.bind_ok}
 use Rattle.krs_laws.proofs.Owners.{own_client}
 
 -- 1 where the context is the client's

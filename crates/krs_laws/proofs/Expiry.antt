@@ -1,27 +1,15 @@
 -- An expired key stays so.
-use Rattle.std.proofs.Common.{◌≡◌, ℕ, ◌≤◌, ◌<◌, List, [], ◌∷◌, Option, Some, None, true, refl, ap, ◌∙◌, sym, subst}
-use Rattle.std.proofs.Common.{⊎_elim, arith}
-use Rattle.std.proofs.lemmas.Bool.{true≢false}
-use Rattle.std.proofs.lemmas.Bool.Decides.{nat_tests}
-use Rattle.std.proofs.lemmas.Option.{none-some, same_Some}
-use Rattle.krs_types.specs.declared.rights.Want.{Want}
-use Rattle.krs_types.specs.declared.rights.Want.TheVariants.{Granted}
-use Rattle.krs_types.specs.Rights.{WRITE, SETATTR}
-use Rattle.krs_types.specs.declared.event.Event.{Event}
-use Rattle.krs_model.specs.Table.{at}
-use Rattle.krs_model.specs.State.{State, Key, raised}
+use Rattle.std.proofs.Common.{[], ⊎_elim, ◌<◌, ◌∙◌, ◌∷◌, ◌≡◌, ◌≤◌, ap, arith, List, None, Option, refl, Some, subst}
+use Rattle.std.proofs.Common.{sym, true, true≢false, ℕ}
+use Rattle.std.proofs.lemmas.{Bool.Decides.nat_tests, Option.{none-some, same_Some}}
+use Rattle.krs_types.specs.Rights.{SETATTR, WRITE}
+use Rattle.krs_types.specs.declared.{event.Event.Event, rights.Want.{Want, TheVariants.Granted}}
 use Rattle.krs_model.specs.Access.{is_over}
-use Rattle.krs_model.specs.Sound.{IsSound}
-use Rattle.krs_model.specs.Step.{Step}
-use Rattle.krs_model.specs.History.{IsLegal}
-use Rattle.krs_model.proofs.Asks.LaterByStep.{step_follows}
-use Rattle.krs_model.proofs.Hiding.Readers.{reads_by_right}
-use Rattle.krs_model.proofs.History.Revocations.{given_serial}
-use Rattle.krs_model.proofs.Sound.Steps.{legal_sound, step_sound}
-use Rattle.krs_laws.specs.Integrity.{HasRight}
-use Rattle.krs_laws.specs.Expired.{ExpiredStaysUnread}
-use Rattle.krs_laws.proofs.ByRight.{step_by_right}
-use Rattle.krs_laws.proofs.Clock.{step_clock}
+use Rattle.krs_model.specs.{History.IsLegal, Sound.IsSound, State.{Key, raised, State}, Step.Step, Table.at}
+use Rattle.krs_model.proofs.{Asks.LaterByStep.step_follows, Hiding.Readers.reads_by_right}
+use Rattle.krs_model.proofs.{History.Revocations.given_serial, Sound.Steps.{legal_sound, step_sound}}
+use Rattle.krs_laws.specs.{Expired.ExpiredStaysUnread, Integrity.HasRight}
+use Rattle.krs_laws.proofs.{ByRight.step_by_right, Clock.step_clock}
 
 over_later : (a b : ℕ) (o : Option ℕ) → a ≤ b → is_over a o ≡ true → is_over b o ≡ true
 over_later a b None le h = h

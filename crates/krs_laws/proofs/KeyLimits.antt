@@ -1,43 +1,25 @@
 -- Payloads and links stay within their limits.
-use Rattle.std.proofs.Common.{◌≡◌, ℕ, ℤ, ◌+◌, ◌≤◌, ◌<◌, ◌==◌, ◌&&◌, not, List, [], ◌∷◌, Option, Some, None, Bool, true, false}
-use Rattle.std.proofs.Common.{cond, filter, length, nat_le, Result, Ok, Err, refl, ap, ◌∙◌, sym, subst}
-use Rattle.std.proofs.Common.{⊎_elim, arith}
-use Rattle.std.specs.Prelude.{codes, find}
-use Rattle.std.proofs.lemmas.Bool.{true≢false}
-use Rattle.std.proofs.lemmas.Bool.Decides.{nat_tests}
-use Rattle.std.proofs.lemmas.Option.{none-some, same_Some}
-use Rattle.krs_types.specs.declared.errno.Errno.{Errno}
-use Rattle.krs_types.specs.declared.errno.Errno.TheVariants.{EACCES, EINVAL, ENFILE, ENOKEY, EPERM}
-use Rattle.krs_types.specs.declared.context.Context.{Context}
-use Rattle.krs_types.specs.declared.kind.Kind.{Kind}
-use Rattle.krs_types.specs.declared.kind.Kind.TheVariants.{User, Logon, Keyring}
-use Rattle.krs_types.specs.declared.key_id.KeyId.{KeyId}
-use Rattle.krs_types.specs.declared.name.Name.{Name}
-use Rattle.krs_types.specs.Kind.{paid, checked, described, described_as, kind_named}
-use Rattle.krs_types.specs.KeyId.{key_id_of}
-use Rattle.krs_types.specs.Refusing.{◌>>=◌, or_refuse}
-use Rattle.krs_types.specs.declared.rights.Want.TheVariants.{Granted}
-use Rattle.krs_types.specs.Rights.{WRITE, has_all}
-use Rattle.krs_model.specs.Table.{Table, at, put, alter, map_values}
-use Rattle.krs_model.specs.State.{State, Key, Content, Payload, Links}
-use Rattle.krs_model.specs.Access.{is_alive, rights_on}
-use Rattle.krs_model.specs.Possession.{possessed}
-use Rattle.krs_model.specs.Lookup.{look_up}
-use Rattle.krs_model.specs.Linking.{is_named, ring_links, link_named, with_link, linked_content, linking, has_room}
-use Rattle.krs_model.specs.Making.{made_for, special_ring}
-use Rattle.krs_model.specs.Asks.Adding.{Place, Updated, Made, added, admitted, place_of, over_match, by_match, if_room}
-use Rattle.krs_model.specs.Asks.Adding.{new_key, first_content}
-use Rattle.krs_model.specs.Asks.Changing.{changed, updated, paid_with, emptied, is_updatable}
-use Rattle.krs_model.specs.Asks.Finding.{found_into, if_linkable}
-use Rattle.krs_model.specs.Asks.Linked.{linked_into, link_check, nestable, name_of, unless, without_link, unlinked_content}
-use Rattle.krs_model.specs.Asks.Linked.{cleared_content}
-use Rattle.krs_model.proofs.Asks.Later.{bind_ok, same_ok}
-use Rattle.krs_model.proofs.Asks.LaterByAsk.{IsMoved, Moves, Stays}
-use Rattle.krs_model.proofs.Asks.Outcomes.{Meets, meets_after, meets_ok}
-use Rattle.krs_model.proofs.Lookups.Laws.{look_up_usable, in_by_match}
-use Rattle.krs_model.proofs.MadeKeyring.Which.{IsMade, NoneMade, ThreadMade, ProcessMade, made_for_is}
-use Rattle.krs_model.proofs.Sound.Changes.{IsChanged, at_change, IsPut, at_put}
-use Rattle.krs_model.proofs.Tables.Changes.{at_map}
+use Rattle.std.proofs.Common.{[], ⊎_elim, ◌&&◌, ◌+◌, ◌<◌, ◌==◌, ◌∙◌, ◌∷◌, ◌≡◌, ◌≤◌, ap, arith, Bool, codes, cond, Err}
+use Rattle.std.proofs.Common.{false, filter, find, length, List, nat_le, None, not, Ok, Option, refl, Result, Some}
+use Rattle.std.proofs.Common.{subst, sym, true, true≢false, ℕ, ℤ}
+use Rattle.std.proofs.lemmas.{Bool.Decides.nat_tests, Option.{none-some, same_Some}}
+use Rattle.krs_types.specs.{KeyId.key_id_of, Kind.{checked, described, described_as, kind_named, paid}}
+use Rattle.krs_types.specs.{Refusing.{◌>>=◌, or_refuse}, Rights.{has_all, WRITE}, declared.context.Context.Context}
+use Rattle.krs_types.specs.declared.errno.Errno.{Errno, TheVariants.{EACCES, EINVAL, ENFILE, ENOKEY, EPERM}}
+use Rattle.krs_types.specs.declared.{key_id.KeyId.KeyId, kind.Kind.{Kind, TheVariants.{Keyring, Logon, User}}}
+use Rattle.krs_types.specs.declared.{name.Name.Name, rights.Want.TheVariants.Granted}
+use Rattle.krs_model.specs.{Access.{is_alive, rights_on}, Asks.Adding.{added, admitted, by_match, first_content}}
+use Rattle.krs_model.specs.Asks.Adding.{if_room, Made, new_key, over_match, Place, place_of, Updated}
+use Rattle.krs_model.specs.Asks.Changing.{changed, emptied, is_updatable, paid_with, updated}
+use Rattle.krs_model.specs.Asks.{Finding.{found_into, if_linkable}, Linked.{cleared_content, link_check, linked_into}}
+use Rattle.krs_model.specs.Asks.Linked.{name_of, nestable, unless, unlinked_content, without_link}
+use Rattle.krs_model.specs.Linking.{has_room, is_named, link_named, linked_content, linking, ring_links, with_link}
+use Rattle.krs_model.specs.{Lookup.look_up, Making.{made_for, special_ring}, Possession.possessed}
+use Rattle.krs_model.specs.{State.{Content, Key, Links, Payload, State}, Table.{alter, at, map_values, put, Table}}
+use Rattle.krs_model.proofs.Asks.{Later.{bind_ok, same_ok}, LaterByAsk.{IsMoved, Moves, Stays}}
+use Rattle.krs_model.proofs.{Asks.Outcomes.{Meets, meets_after, meets_ok}, Lookups.Laws.{in_by_match, look_up_usable}}
+use Rattle.krs_model.proofs.MadeKeyring.Which.{IsMade, made_for_is, NoneMade, ProcessMade, ThreadMade}
+use Rattle.krs_model.proofs.{Sound.Changes.{at_change, at_put, IsChanged, IsPut}, Tables.Changes.at_map}
 use Rattle.krs_laws.specs.Limits.{IsShort}
 use Rattle.krs_laws.proofs.Rightly.{mapped_is}
 

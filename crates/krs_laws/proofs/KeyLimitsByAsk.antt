@@ -1,59 +1,39 @@
 -- Payloads and links stay within their limits, ask by ask.
-use Rattle.std.proofs.Common.{◌≡◌, ℕ, ℤ, ◌+◌, ◌==◌, List, [], ◌∷◌, Option, Some, None, Bool, true, false, cond, length}
-use Rattle.std.proofs.Common.{nat_lt, arith}
-use Rattle.std.specs.Prelude.{codes}
-use Rattle.krs_types.specs.declared.errno.Errno.TheVariants.{EINVAL, ENOKEY, EEXIST}
-use Rattle.krs_types.specs.declared.caller.Caller.{Caller}
-use Rattle.krs_types.specs.declared.context.Context.{Context}
-use Rattle.krs_types.specs.declared.context.UidRings.{UidRings}
-use Rattle.krs_types.specs.declared.note.FilterEntry.{FilterEntry}
-use Rattle.krs_types.specs.declared.ask.Op.{Op}
-use Rattle.krs_types.specs.declared.ask.Op.TheVariants.{Hello, Thread, Fork, Exec, GetId, Join, Search, Request, Add}
-use Rattle.krs_types.specs.declared.ask.Op.TheVariants.{Update, Revoke, Invalidate, Chown, SetPerm, SetTimeout, Link}
-use Rattle.krs_types.specs.declared.ask.Op.TheVariants.{Unlink, Clear, Read, Describe, Watch, OpenQueue, SetFilter}
-use Rattle.krs_types.specs.declared.ask.Op.TheVariants.{ReadQueue, CloseQueue, Exit, Leave}
-use Rattle.krs_types.specs.declared.ask.Op.TheVariants.{Move, RestrictKeyring}
-use Rattle.krs_types.specs.declared.rights.Want.TheVariants.{Granted, Either, ToRead}
-use Rattle.krs_types.specs.Caller.{caller_check}
-use Rattle.krs_types.specs.Growth.{has_destination}
-use Rattle.krs_types.specs.Kind.{paid}
-use Rattle.krs_types.specs.Perm.{perm_of}
-use Rattle.krs_types.specs.Refusing.{or_refuse}
-use Rattle.krs_types.specs.Rights.{WRITE, SEARCH, LINK, SETATTR, VIEW}
-use Rattle.krs_model.specs.Table.{at, put}
-use Rattle.krs_model.specs.State.{State, Key}
-use Rattle.krs_model.specs.Lookup.{context_of, look_up, serial_of}
-use Rattle.krs_model.specs.Linking.{ring_links}
-use Rattle.krs_model.specs.Making.{made_for, own_ring}
-use Rattle.krs_model.specs.Queues.{queues_of}
-use Rattle.krs_model.specs.Search.{found, requested}
-use Rattle.krs_model.specs.Step.{outcome_of}
+use Rattle.std.proofs.Common.{[], ◌+◌, ◌==◌, ◌∷◌, ◌≡◌, arith, Bool, codes, cond, false, length, List, nat_lt, None}
+use Rattle.std.proofs.Common.{Option, Some, true, ℕ, ℤ}
+use Rattle.krs_types.specs.{Caller.caller_check, Growth.has_destination, Kind.paid, Perm.perm_of, Refusing.or_refuse}
+use Rattle.krs_types.specs.Rights.{LINK, SEARCH, SETATTR, VIEW, WRITE}
+use Rattle.krs_types.specs.declared.ask.Op.{Op, TheVariants.{Add, Chown, Clear, CloseQueue, Describe, Exec, Exit, Fork}}
+use Rattle.krs_types.specs.declared.ask.Op.TheVariants.{GetId, Hello, Invalidate, Join, Leave, Link, Move, OpenQueue}
+use Rattle.krs_types.specs.declared.ask.Op.TheVariants.{Read, ReadQueue, Request, RestrictKeyring, Revoke, Search}
+use Rattle.krs_types.specs.declared.ask.Op.TheVariants.{SetFilter, SetPerm, SetTimeout, Thread, Unlink, Update, Watch}
+use Rattle.krs_types.specs.declared.{caller.Caller.Caller, context.Context.Context}
+use Rattle.krs_types.specs.declared.{context.UidRings.UidRings, errno.Errno.TheVariants.{EEXIST, EINVAL, ENOKEY}}
+use Rattle.krs_types.specs.declared.{note.FilterEntry.FilterEntry, rights.Want.TheVariants.{Either, Granted, ToRead}}
 use Rattle.krs_model.specs.Asks.Adding.{add, admitted, place_of}
-use Rattle.krs_model.specs.Asks.Changing.{update, updated, updatable, set_perm, with_perm, if_owner, chown, with_owner}
-use Rattle.krs_model.specs.Asks.Changing.{if_may_own, set_timeout, with_expiry, expiry_after, revoke, revoked}
-use Rattle.krs_model.specs.Asks.Entering.{thread, fork, exec, if_context_number}
-use Rattle.krs_model.specs.Asks.Finding.{get_id, made_where, search_from, sought_name, request}
-use Rattle.krs_model.specs.Asks.Hello.{hello, has_context_left, has_numbers, with_uid, uid_ring}
+use Rattle.krs_model.specs.Asks.Changing.{chown, expiry_after, if_may_own, if_owner, revoke, revoked, set_perm}
+use Rattle.krs_model.specs.Asks.Changing.{set_timeout, updatable, update, updated, with_expiry, with_owner, with_perm}
+use Rattle.krs_model.specs.Asks.Entering.{exec, fork, if_context_number, thread}
+use Rattle.krs_model.specs.Asks.Finding.{get_id, made_where, request, search_from, sought_name}
+use Rattle.krs_model.specs.Asks.Hello.{has_context_left, has_numbers, hello, uid_ring, with_uid}
 use Rattle.krs_model.specs.Asks.Invalidating.{invalidate}
 use Rattle.krs_model.specs.Asks.Joining.{join, joinable, session_joined, session_named, session_ring}
-use Rattle.krs_model.specs.Asks.Leaving.{left, exit}
-use Rattle.krs_model.specs.Asks.Linked.{link, unlink, unless, if_linked, without_link, linked_into, clear, cleared}
+use Rattle.krs_model.specs.Asks.Leaving.{exit, left}
+use Rattle.krs_model.specs.Asks.Linked.{clear, cleared, if_linked, link, linked_into, unless, unlink, without_link}
 use Rattle.krs_model.specs.Asks.Moving.{move_link, moved}
-use Rattle.krs_model.specs.Asks.Reading.{read, describe}
-use Rattle.krs_model.specs.Asks.Reading as reading
-use Rattle.krs_model.specs.Asks.Restricting.{restrict_keyring, no_type, restricted}
-use Rattle.krs_model.specs.Asks.Watching.{watch, open_queue, set_filter, read_queue, close_queue, with_watching, watch_id_of}
-use Rattle.krs_model.specs.Asks.Watching.{opened, filtered, read_out, closed}
+use Rattle.krs_model.specs.Asks.{Reading.{describe, read}, Restricting.{no_type, restrict_keyring, restricted}}
+use Rattle.krs_model.specs.Asks.Watching.{close_queue, closed, filtered, open_queue, opened, read_out, read_queue}
+use Rattle.krs_model.specs.{Asks.Watching.{set_filter, watch, watch_id_of, with_watching}, Linking.ring_links}
+use Rattle.krs_model.specs.{Lookup.{context_of, look_up, serial_of}, Making.{made_for, own_ring}, Queues.queues_of}
+use Rattle.krs_model.specs.{Search.{found, requested}, State.{Key, State}, Step.outcome_of, Table.{at, put}}
 use Rattle.krs_model.proofs.Asks.Fares.{meets_by}
-use Rattle.krs_model.proofs.Asks.LaterByAsk.{moved_is}
-use Rattle.krs_model.proofs.Asks.Outcomes.{Meets, meets_after, meets_ok, meets_within}
-use Rattle.krs_model.proofs.Lookups.Laws.{look_up_usable}
-use Rattle.krs_model.proofs.Sound.Changes.{Stands}
-use Rattle.krs_model.proofs.Sound.NewContexts.{made_for_stands}
+use Rattle.krs_model.proofs.Asks.{LaterByAsk.moved_is, Outcomes.{Meets, meets_after, meets_ok, meets_within}}
+use Rattle.krs_model.proofs.{Lookups.Laws.look_up_usable, Sound.{Changes.Stands, NewContexts.made_for_stands}}
 use Rattle.krs_laws.specs.Limits.{IsShort}
-use Rattle.krs_laws.proofs.KeyLimits.{AllShort, short_put, short_alter, short_map, unlinked_short, cleared_short}
-use Rattle.krs_laws.proofs.KeyLimits.{emptied_short, paid_short, updated_short, linked_short, moved_short, made_short}
-use Rattle.krs_laws.proofs.KeyLimits.{found_short, admitted_short, added_short}
+use Rattle.krs_laws.proofs.KeyLimits.{added_short, admitted_short, AllShort, cleared_short, emptied_short, found_short}
+use Rattle.krs_laws.proofs.KeyLimits.{linked_short, made_short, moved_short, paid_short, short_alter, short_map}
+use Rattle.krs_laws.proofs.KeyLimits.{short_put, unlinked_short, updated_short}
+use Rattle.krs_model.specs.Asks.Reading as reading
 
 abbrev Shortly : State → ℕ → ℕ → Op → Type 0
 Shortly s client context op = Meets (λ (new : State). AllShort new.keys) (outcome_of s client context op)

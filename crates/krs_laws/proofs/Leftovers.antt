@@ -1,20 +1,13 @@
 -- Nothing is left where nothing is attached.
-use Rattle.std.proofs.Common.{◌≡◌, ℕ, List, [], ◌∷◌, ◌++◌, Option, Some, Bool, cond, refl, ap, ◌∙◌, sym}
-use Rattle.std.proofs.Common.{subst}
-use Rattle.std.specs.Option.{IsSome}
-use Rattle.std.specs.Prelude.{is_some}
-use Rattle.std.proofs.lemmas.Bool.{true≢false}
+use Rattle.std.proofs.Common.{[], ◌++◌, ◌∙◌, ◌∷◌, ◌≡◌, ap, Bool, cond, is_some, IsSome, List, Option, refl, Some, subst}
+use Rattle.std.proofs.Common.{sym, true≢false, ℕ}
 use Rattle.krs_types.specs.declared.context.Context.{Context}
-use Rattle.krs_model.specs.Table.{Table, at}
-use Rattle.krs_model.specs.State.{State, Key, Queue}
-use Rattle.krs_model.specs.Queues.{Watch}
-use Rattle.krs_model.specs.Orderly.{Each, IsWatch}
-use Rattle.krs_model.specs.Sound.{IsSound}
-use Rattle.krs_model.specs.Sweep.{IsHeld, Attached, Linked, roots, context_roots, process_roots, uid_roots}
 use Rattle.krs_model.specs.Belonging.{HasNothing}
-use Rattle.krs_model.proofs.Sound.Steps.{legal_sound}
-use Rattle.krs_model.proofs.Tables.Changes.{is_at_same}
-use Rattle.krs_laws.specs.Emptied.{IsEmpty, AreEmptiedInTheEnd}
+use Rattle.krs_model.specs.{Orderly.{Each, IsWatch}, Queues.Watch, Sound.IsSound, State.{Key, Queue, State}}
+use Rattle.krs_model.specs.Sweep.{Attached, context_roots, IsHeld, Linked, process_roots, roots, uid_roots}
+use Rattle.krs_model.specs.Table.{at, Table}
+use Rattle.krs_model.proofs.{Sound.Steps.legal_sound, Tables.Changes.is_at_same}
+use Rattle.krs_laws.specs.Emptied.{AreEmptiedInTheEnd, IsEmpty}
 
 -- a table with nothing at any number is empty
 none_there : {X : Type 0} (es : Table X) → ((k : ℕ) (v : X) → at es k ≡ Some v → ⊥) → es ≡ []

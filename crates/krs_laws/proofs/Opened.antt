@@ -1,38 +1,22 @@
 -- Whose queues are, and that nothing is left where all clients have left.
-use Rattle.std.proofs.Common.{◌≡◌, ℕ, ◌==◌, ◌++◌, not, List, [], ◌∷◌, Option, Some, None}
-use Rattle.std.proofs.Common.{Result, Ok, Err, refl, ap, ◌∙◌, sym, subst, ◌⊎◌, inl, inr, ⊎_elim, append_assoc}
-use Rattle.std.specs.Option.{option_map}
-use Rattle.std.proofs.lemmas.List.{append-nil}
+use Rattle.std.proofs.Common.{[], ⊎_elim, ◌++◌, ◌==◌, ◌∙◌, ◌∷◌, ◌≡◌, ◌⊎◌, ap, append-nil, append_assoc, Err, inl, inr}
+use Rattle.std.proofs.Common.{List, None, not, Ok, Option, option_map, refl, Result, Some, subst, sym, ℕ}
 use Rattle.std.proofs.lemmas.Option.{none-some, same_Some}
-use Rattle.krs_types.specs.declared.errno.Errno.{Errno}
-use Rattle.krs_types.specs.declared.note.Record.{Record}
-use Rattle.krs_types.specs.declared.caller.Caller.{Caller}
-use Rattle.krs_types.specs.declared.context.Context.{Context}
-use Rattle.krs_types.specs.declared.ask.Answer.{Answer}
-use Rattle.krs_types.specs.declared.ask.Answer.TheVariants.{Number}
-use Rattle.krs_types.specs.declared.ask.Op.{Op}
-use Rattle.krs_types.specs.declared.ask.Op.TheVariants.{Hello, OpenQueue, Leave}
-use Rattle.krs_types.specs.declared.event.Event.{Event}
-use Rattle.krs_model.specs.Table.{Table, at, alter, IsDistinct}
-use Rattle.krs_model.specs.State.{State, Queue, starting_at, raised}
-use Rattle.krs_model.specs.Queues.{Queues}
-use Rattle.krs_model.specs.Sound.{IsSound}
-use Rattle.krs_model.specs.Step.{Step, Ends, posts_by}
-use Rattle.krs_model.specs.History.{IsLegal}
-use Rattle.krs_model.specs.Notes.Posting.{after_note, after_notes, records_for}
+use Rattle.krs_types.specs.declared.ask.Answer.{Answer, TheVariants.Number}
+use Rattle.krs_types.specs.declared.{ask.Op.{Op, TheVariants.{Hello, Leave, OpenQueue}}, caller.Caller.Caller}
+use Rattle.krs_types.specs.declared.{context.Context.Context, errno.Errno.Errno, event.Event.Event, note.Record.Record}
 use Rattle.krs_model.specs.Asks.Leaving.{left}
-use Rattle.krs_model.specs.Asks.Watching.{new_queue, with_filter, after_read}
-use Rattle.krs_model.specs.Belonging.{HasStayed, HasGreeted}
-use Rattle.krs_model.proofs.Asks.Effects.{Effect, OfKeys, Opens, Filters, Reads, Closes, Watches, Unwatches, Leaves}
-use Rattle.krs_model.proofs.Asks.Effects.{effect_of}
-use Rattle.krs_model.proofs.History.Belongings.{step_leaves, contexts_greeted}
-use Rattle.krs_model.proofs.Notes.Called.{served_at}
-use Rattle.krs_model.proofs.Sound.Changes.{IsChanged, at_change, IsPut, at_put}
-use Rattle.krs_model.proofs.Sound.Steps.{start_sound, step_sound, legal_sound}
-use Rattle.krs_model.proofs.Tables.Distinct.{at_filter_some}
-use Rattle.krs_model.proofs.Tables.Entries.{without_was}
+use Rattle.krs_model.specs.{Asks.Watching.{after_read, new_queue, with_filter}, Belonging.{HasGreeted, HasStayed}}
+use Rattle.krs_model.specs.{History.IsLegal, Notes.Posting.{after_note, after_notes, records_for}, Queues.Queues}
+use Rattle.krs_model.specs.{Sound.IsSound, State.{Queue, raised, starting_at, State}, Step.{Ends, posts_by, Step}}
+use Rattle.krs_model.specs.Table.{alter, at, IsDistinct, Table}
+use Rattle.krs_model.proofs.Asks.Effects.{Closes, Effect, effect_of, Filters, Leaves, OfKeys, Opens, Reads, Unwatches}
+use Rattle.krs_model.proofs.{Asks.Effects.Watches, History.Belongings.{contexts_greeted, step_leaves}}
+use Rattle.krs_model.proofs.{Notes.Called.served_at, Sound.Changes.{at_change, at_put, IsChanged, IsPut}}
+use Rattle.krs_model.proofs.Sound.Steps.{legal_sound, start_sound, step_sound}
+use Rattle.krs_model.proofs.Tables.{Distinct.at_filter_some, Entries.without_was}
 use Rattle.krs_laws.specs.Belonging.{HasOpened, QueuesAreTheirClients}
-use Rattle.krs_laws.specs.Emptied.{IsEmpty, IsLeft, HaveLeft, AreEmptiedByLeaving}
+use Rattle.krs_laws.specs.Emptied.{AreEmptiedByLeaving, HaveLeft, IsEmpty, IsLeft}
 use Rattle.krs_laws.proofs.Leftovers.{all_gone}
 
 -- ---- whence a queue is

@@ -1,37 +1,22 @@
 -- What UPDATE overwrote leaves no trace.
-use Rattle.std.proofs.Common.{◌≡◌, ◌≢◌, ℕ, ℤ, List, [], ◌∷◌, ◌++◌, Some, None, true, false, cond, Result, Ok, Err}
-use Rattle.std.proofs.Common.{refl, ap, ◌∙◌, sym, subst}
-use Rattle.std.specs.Prelude.{IsOk}
-use Rattle.std.specs.Ordering.{nat_cmp}
+use Rattle.std.proofs.Common.{[], ◌++◌, ◌∙◌, ◌∷◌, ◌≡◌, ◌≢◌, ap, cond, Err, false, IsOk, List, nat_cmp, None, Ok, refl}
+use Rattle.std.proofs.Common.{Result, Some, subst, sym, true, true≢false, ℕ, ℤ}
 use Rattle.std.specs.BTreeMap.{is_at}
-use Rattle.std.proofs.lemmas.Bool.{true≢false}
 use Rattle.std.proofs.lemmas.Option.{none-some}
-use Rattle.krs_types.specs.declared.errno.Errno.{Errno}
-use Rattle.krs_types.specs.declared.context.Context.{Context}
-use Rattle.krs_types.specs.declared.ask.Answer.{Answer}
-use Rattle.krs_types.specs.declared.ask.Answer.TheVariants.{Nothing}
-use Rattle.krs_types.specs.declared.ask.Op.{Op}
-use Rattle.krs_types.specs.declared.ask.Op.TheVariants.{Update}
-use Rattle.krs_types.specs.declared.rights.Want.TheVariants.{Granted}
-use Rattle.krs_types.specs.Kind.{paid}
-use Rattle.krs_types.specs.Refusing.{◌>>=◌}
-use Rattle.krs_types.specs.Rights.{WRITE}
-use Rattle.krs_model.specs.Table.{Table, at, alter, IsDistinct}
-use Rattle.krs_model.specs.State.{State, Key, Content, Payload, Links, raised}
-use Rattle.krs_model.specs.Lookup.{context_of, serial_of, look_up}
-use Rattle.krs_model.specs.Outcome.{Outcome}
-use Rattle.krs_model.specs.Queues.{queues_of}
-use Rattle.krs_model.specs.Step.{Step, Serves, Ends, outcome_of, posts_by, watches_left}
-use Rattle.krs_model.specs.Asks.Changing.{update, updated, updatable, paid_with}
-use Rattle.krs_model.specs.Hiding.{Hiding, blind, blind_content, blind_key, blind_keys, over}
-use Rattle.krs_model.specs.Secrecy.{HidesOnly}
-use Rattle.krs_model.specs.Notes.Posting.{Post, posts, dropped_watches, posted_in}
-use Rattle.krs_model.specs.Notes.Telling.{notes_of, ended_by}
+use Rattle.krs_types.specs.{Kind.paid, Refusing.◌>>=◌, Rights.WRITE, declared.ask.Answer.Answer}
+use Rattle.krs_types.specs.declared.ask.{Answer.TheVariants.Nothing, Op.{Op, TheVariants.Update}}
+use Rattle.krs_types.specs.declared.{context.Context.Context, errno.Errno.Errno, rights.Want.TheVariants.Granted}
+use Rattle.krs_model.specs.Asks.Changing.{paid_with, updatable, update, updated}
+use Rattle.krs_model.specs.Hiding.{blind, blind_content, blind_key, blind_keys, Hiding, over}
+use Rattle.krs_model.specs.Lookup.{context_of, look_up, serial_of}
+use Rattle.krs_model.specs.Notes.Posting.{dropped_watches, Post, posted_in, posts}
+use Rattle.krs_model.specs.{Notes.Telling.{ended_by, notes_of}, Outcome.Outcome, Queues.queues_of, Secrecy.HidesOnly}
+use Rattle.krs_model.specs.State.{Content, Key, Links, Payload, raised, State}
+use Rattle.krs_model.specs.Step.{Ends, outcome_of, posts_by, Serves, Step, watches_left}
+use Rattle.krs_model.specs.Table.{alter, at, IsDistinct, Table}
 use Rattle.krs_model.proofs.Asks.Later.{bind_ok, same_ok}
-use Rattle.krs_model.proofs.Hiding.Lookups.{blind_found, look_up_blind}
-use Rattle.krs_model.proofs.Lookups.Serials.{found_serial}
-use Rattle.krs_model.proofs.Tables.Changes.{same_at, is_at_same}
-use Rattle.krs_model.proofs.Tables.Entries.{rises_distinct}
+use Rattle.krs_model.proofs.{Hiding.Lookups.{blind_found, look_up_blind}, Lookups.Serials.found_serial}
+use Rattle.krs_model.proofs.Tables.{Changes.{is_at_same, same_at}, Entries.rises_distinct}
 use Rattle.krs_laws.specs.Overwritten.{UpdatesForget}
 
 shown_content : (h : List ℕ → List ℕ) (content : Content) → ((bytes : List ℕ) → h bytes ≡ bytes)

@@ -1,12 +1,8 @@
 -- A context that a client may ask in is its own.
-use Rattle.std.proofs.Common.{◌≡◌, ℕ, ◌==◌, true, false, cond, Ok, Err, refl, ap, ◌∙◌, sym, arith}
+use Rattle.std.proofs.Common.{◌==◌, ◌∙◌, ◌≡◌, ap, arith, cond, Err, false, Ok, refl, sym, true, ℕ}
 use Rattle.std.proofs.lemmas.Bool.Decides.{nat_tests}
-use Rattle.krs_types.specs.declared.errno.Errno.TheVariants.{ESRCH}
-use Rattle.krs_types.specs.declared.context.Context.{Context}
-use Rattle.krs_types.specs.Refusing.{or_refuse}
-use Rattle.krs_model.specs.Table.{at}
-use Rattle.krs_model.specs.State.{State}
-use Rattle.krs_model.specs.Lookup.{context_of, if_own}
+use Rattle.krs_types.specs.{Refusing.or_refuse, declared.{context.Context.Context, errno.Errno.TheVariants.ESRCH}}
+use Rattle.krs_model.specs.{Lookup.{context_of, if_own}, State.State, Table.at}
 use Rattle.krs_model.proofs.Asks.Later.{bind_ok, same_ok}
 
 own_is_client : (client : ℕ) (found c : Context) → if_own client found ≡ Ok c → c.client ≡ client

@@ -1,38 +1,22 @@
 -- Queues and what waits in them stay within their limits.
-use Rattle.std.proofs.Common.{◌≡◌, ℕ, ◌+◌, ◌≤◌, ◌<◌, ◌-◌, ◌==◌, ◌++◌, not, List, [], ◌∷◌, Option, Some, None, Bool, true}
-use Rattle.std.proofs.Common.{false, cond, filter, length, nat_le, nat_lt, Ok, refl, ap, ◌∙◌, sym, subst}
-use Rattle.std.proofs.Common.{⊎_elim, arith}
-use Rattle.std.specs.Option.{option_map}
-use Rattle.std.specs.Ordering.{nat_cmp, match_ordering}
-use Rattle.std.specs.declared.cmp.Ordering.TheVariants.{Less, Equal, Greater}
-use Rattle.std.specs.BTreeMap.{is_at}
-use Rattle.std.proofs.lemmas.Bool.Decides.{nat_tests}
-use Rattle.std.proofs.lemmas.Option.{none-some, same_Some}
-use Rattle.krs_types.specs.declared.errno.Errno.TheVariants.{EINVAL, ENFILE}
-use Rattle.krs_types.specs.declared.note.Record.{Record}
-use Rattle.krs_types.specs.declared.note.Record.TheVariants.{Loss}
-use Rattle.krs_types.specs.declared.ask.Answer.{Answer}
-use Rattle.krs_types.specs.declared.ask.Op.{Op}
-use Rattle.krs_types.specs.declared.ask.Op.TheVariants.{OpenQueue}
-use Rattle.krs_model.specs.Table.{Table, at, put, alter, without}
-use Rattle.krs_model.specs.State.{State, Queue}
-use Rattle.krs_model.specs.Queues.{Queues, queues_of}
-use Rattle.krs_model.specs.Orderly.{AreOrderly}
-use Rattle.krs_model.specs.Notes.Bytes.{bytes_of, is_loss}
-use Rattle.krs_model.specs.Notes.Front.{behind}
-use Rattle.krs_model.specs.Notes.Posting.{Post, after_note, after_notes, post_all, records_for}
-use Rattle.krs_model.specs.Notes.Stream.{room_of}
-use Rattle.krs_model.specs.Notes.Waiting.{is_capacity, total_room, after_post, with_loss, ends_with_loss}
-use Rattle.krs_model.specs.Step.{Serves, outcome_of, posts_by}
+use Rattle.std.proofs.Common.{[], ⊎_elim, ◌++◌, ◌+◌, ◌-◌, ◌<◌, ◌==◌, ◌∙◌, ◌∷◌, ◌≡◌, ◌≤◌, ap, arith, Bool, cond, false}
+use Rattle.std.proofs.Common.{filter, length, List, nat_cmp, nat_le, nat_lt, None, not, Ok, Option, option_map, refl}
+use Rattle.std.proofs.Common.{Some, subst, sym, true, ℕ}
+use Rattle.std.specs.{BTreeMap.is_at, Ordering.match_ordering, declared.cmp.Ordering.TheVariants.{Equal, Greater, Less}}
+use Rattle.std.proofs.lemmas.{Bool.Decides.nat_tests, Option.{none-some, same_Some}}
+use Rattle.krs_types.specs.declared.ask.{Answer.Answer, Op.{Op, TheVariants.OpenQueue}}
+use Rattle.krs_types.specs.declared.{errno.Errno.TheVariants.{EINVAL, ENFILE}, note.Record.{Record, TheVariants.Loss}}
 use Rattle.krs_model.specs.Asks.Leaving.{left}
-use Rattle.krs_model.specs.Asks.Linked.{unless}
-use Rattle.krs_model.specs.Asks.Watching.{opened, open_queue, new_queue, with_filter, after_read}
-use Rattle.krs_model.proofs.Asks.Done.{Effect, OfKeys, Opens, Filters, Reads, Closes, Watches, Unwatches, Leaves}
+use Rattle.krs_model.specs.Asks.{Linked.unless, Watching.{after_read, new_queue, open_queue, opened, with_filter}}
+use Rattle.krs_model.specs.Notes.{Bytes.{bytes_of, is_loss}, Front.behind}
+use Rattle.krs_model.specs.Notes.{Posting.{after_note, after_notes, Post, post_all, records_for}, Stream.room_of}
+use Rattle.krs_model.specs.Notes.Waiting.{after_post, ends_with_loss, is_capacity, total_room, with_loss}
+use Rattle.krs_model.specs.{Orderly.AreOrderly, Queues.{Queues, queues_of}, State.{Queue, State}}
+use Rattle.krs_model.specs.{Step.{outcome_of, posts_by, Serves}, Table.{alter, at, put, Table, without}}
+use Rattle.krs_model.proofs.Asks.Done.{Closes, Effect, Filters, Leaves, OfKeys, Opens, Reads, Unwatches, Watches}
 use Rattle.krs_model.proofs.Asks.Later.{bind_ok}
-use Rattle.krs_model.proofs.Notes.Called.{served_at}
-use Rattle.krs_model.proofs.Sound.Changes.{IsChanged, at_change, IsPut, at_put}
-use Rattle.krs_model.proofs.Tables.Distinct.{at_filter_some}
-use Rattle.krs_model.proofs.Tables.Entries.{without_was}
+use Rattle.krs_model.proofs.{Notes.Called.served_at, Sound.Changes.{at_change, at_put, IsChanged, IsPut}}
+use Rattle.krs_model.proofs.Tables.{Distinct.at_filter_some, Entries.without_was}
 
 -- ---- what waits
 

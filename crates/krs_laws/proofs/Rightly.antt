@@ -1,29 +1,16 @@
 -- What is proved of the keys of an accepted ask before the sweep: they change by right. How it comes about: nothing is done,
 -- a key is put, what one holds is written, another part of it is changed.
-use Rattle.std.proofs.Common.{◌≡◌, ◌≢◌, ℕ, ℤ, List, Option, Some, None, Bool, true, false, Ok}
-use Rattle.std.proofs.Common.{refl, ap, ◌∙◌, sym, subst, ◌⊎◌, inl, inr, ⊎_elim}
-use Rattle.std.specs.Option.{option_map}
-use Rattle.std.proofs.lemmas.Option.{none-some, same_Some}
-use Rattle.krs_types.specs.declared.context.Context.{Context}
-use Rattle.krs_types.specs.declared.caller.Caller.{Caller}
-use Rattle.krs_types.specs.declared.ask.Op.{Op}
-use Rattle.krs_types.specs.declared.rights.Want.{Want}
-use Rattle.krs_types.specs.declared.rights.Want.TheVariants.{Granted}
-use Rattle.krs_types.specs.Rights.{WRITE, LINK, allows}
-use Rattle.krs_model.specs.Table.{Table, at, put, alter}
-use Rattle.krs_model.specs.State.{State, Key, Content}
-use Rattle.krs_model.specs.Levels.{is_in}
-use Rattle.krs_model.specs.Access.{is_over, rights_on}
-use Rattle.krs_model.specs.Possession.{possessed, links_of_content}
-use Rattle.krs_model.specs.Lookup.{context_of, look_up}
-use Rattle.krs_model.specs.Reach.{links_of_key_at}
-use Rattle.krs_model.specs.Usable.{IsUsable}
-use Rattle.krs_model.specs.Making.{special_ring}
-use Rattle.krs_model.proofs.Lookups.Laws.{look_up_usable}
-use Rattle.krs_model.proofs.MadeKeyring.State.{HasMade, HasMadeFor, MadeNone, MadeOne, at_other}
-use Rattle.krs_model.proofs.MadeKeyring.Lookups.{possessed_other}
-use Rattle.krs_model.proofs.Sound.Changes.{IsChanged, at_change, IsPut, at_put, LinksTo}
-use Rattle.krs_laws.specs.Integrity.{HasRight, Kept, Written, IsByRight, IsMadeBy, MayLink}
+use Rattle.std.proofs.Common.{⊎_elim, ◌∙◌, ◌≡◌, ◌≢◌, ◌⊎◌, ap, Bool, false, inl, inr, List, None, Ok, Option, option_map}
+use Rattle.std.proofs.{Common.{refl, Some, subst, sym, true, ℕ, ℤ}, lemmas.Option.{none-some, same_Some}}
+use Rattle.krs_types.specs.{Rights.{allows, LINK, WRITE}, declared.{ask.Op.Op, caller.Caller.Caller}}
+use Rattle.krs_types.specs.declared.{context.Context.Context, rights.Want.{Want, TheVariants.Granted}}
+use Rattle.krs_model.specs.{Access.{is_over, rights_on}, Levels.is_in, Lookup.{context_of, look_up}}
+use Rattle.krs_model.specs.{Making.special_ring, Possession.{links_of_content, possessed}, Reach.links_of_key_at}
+use Rattle.krs_model.specs.{State.{Content, Key, State}, Table.{alter, at, put, Table}, Usable.IsUsable}
+use Rattle.krs_model.proofs.{Lookups.Laws.look_up_usable, MadeKeyring.Lookups.possessed_other}
+use Rattle.krs_model.proofs.MadeKeyring.State.{at_other, HasMade, HasMadeFor, MadeNone, MadeOne}
+use Rattle.krs_model.proofs.Sound.Changes.{at_change, at_put, IsChanged, IsPut, LinksTo}
+use Rattle.krs_laws.specs.Integrity.{HasRight, IsByRight, IsMadeBy, Kept, MayLink, Written}
 
 -- a key that may be linked, or that the ask made
 abbrev pub LinkedByRight : State → ℕ → ℕ → ℕ → Type 0

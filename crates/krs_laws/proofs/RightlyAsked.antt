@@ -1,52 +1,31 @@
 -- What asks share, by right: keyrings that are made, links, moved links, keys that are found, keys that are added.
-use Rattle.std.proofs.Common.{◌≡◌, ℕ, ℤ, ◌&&◌, not, List, [], Option, Some, None, Bool, true, false, cond}
-use Rattle.std.proofs.Common.{Result, Ok, Err, refl, ap, ◌∙◌, sym, subst, inl, inr, ⊎_elim, arith}
-use Rattle.std.specs.Prelude.{codes, nat_lt}
-use Rattle.std.proofs.lemmas.Bool.{true≢false}
+use Rattle.std.proofs.Common.{[], ⊎_elim, ◌&&◌, ◌∙◌, ◌≡◌, ap, arith, Bool, codes, cond, Err, false, inl, inr, List}
+use Rattle.std.proofs.Common.{nat_lt, None, not, Ok, Option, refl, Result, Some, subst, sym, true, true≢false, ℕ, ℤ}
 use Rattle.std.proofs.lemmas.Bool.Decides.{nat_tests}
-use Rattle.krs_types.specs.declared.errno.Errno.{Errno}
-use Rattle.krs_types.specs.declared.errno.Errno.TheVariants.{EACCES, ENOKEY, ENOSPC, EPERM}
-use Rattle.krs_types.specs.declared.caller.Caller.{Caller}
-use Rattle.krs_types.specs.declared.context.Context.{Context}
-use Rattle.krs_types.specs.declared.kind.Kind.{Kind}
-use Rattle.krs_types.specs.declared.kind.Kind.TheVariants.{User, Logon, Keyring}
-use Rattle.krs_types.specs.declared.key_id.KeyId.{KeyId}
-use Rattle.krs_types.specs.declared.name.Name.{Name}
-use Rattle.krs_types.specs.declared.ask.Op.{Op}
-use Rattle.krs_types.specs.declared.rights.Want.TheVariants.{Granted}
-use Rattle.krs_types.specs.Refusing.{or_refuse}
-use Rattle.krs_types.specs.Rights.{WRITE, LINK, has_all}
 use Rattle.krs_types.specs.KeyId.{key_id_of}
-use Rattle.krs_types.specs.Perm.{group_byte, other_byte}
-use Rattle.krs_model.specs.Table.{Table, at, put, alter}
-use Rattle.krs_model.specs.State.{State, Key}
-use Rattle.krs_model.specs.Levels.{is_in}
-use Rattle.krs_model.specs.Access.{is_alive, is_over, rights_on}
-use Rattle.krs_model.specs.Possession.{possessed, links_of_content}
-use Rattle.krs_model.specs.Lookup.{context_of, look_up}
-use Rattle.krs_model.specs.Linking.{is_named, link_named, ring_links, linked_content, has_room}
-use Rattle.krs_model.specs.Making.{made_for, own_ring, special_ring}
-use Rattle.krs_model.specs.Usable.{IsUsable}
-use Rattle.krs_model.specs.Asks.Adding.{Place, Updated, Made, added, place_of, over_match, by_match, if_room, new_key}
-use Rattle.krs_model.specs.Asks.Adding.{first_perm, first_content}
-use Rattle.krs_model.specs.Asks.Changing.{updated, is_updatable}
-use Rattle.krs_model.specs.Asks.Finding.{found_into, if_linkable}
-use Rattle.krs_model.specs.Asks.Linked.{linked_into, name_of, without_link, unlinked_content, unless}
+use Rattle.krs_types.specs.{Perm.{group_byte, other_byte}, Refusing.or_refuse, Rights.{has_all, LINK, WRITE}}
+use Rattle.krs_types.specs.declared.{ask.Op.Op, caller.Caller.Caller, context.Context.Context, errno.Errno.Errno}
+use Rattle.krs_types.specs.declared.errno.Errno.TheVariants.{EACCES, ENOKEY, ENOSPC, EPERM}
+use Rattle.krs_types.specs.declared.{key_id.KeyId.KeyId, kind.Kind.{Kind, TheVariants.{Keyring, Logon, User}}}
+use Rattle.krs_types.specs.declared.{name.Name.Name, rights.Want.TheVariants.Granted}
+use Rattle.krs_model.specs.{Access.{is_alive, is_over, rights_on}, Asks.Adding.{added, by_match, first_content}}
+use Rattle.krs_model.specs.Asks.Adding.{first_perm, if_room, Made, new_key, over_match, Place, place_of, Updated}
+use Rattle.krs_model.specs.Asks.{Changing.{is_updatable, updated}, Finding.{found_into, if_linkable}}
+use Rattle.krs_model.specs.Asks.Linked.{linked_into, name_of, unless, unlinked_content, without_link}
 use Rattle.krs_model.specs.Confidentiality.{is_own}
-use Rattle.krs_model.proofs.Asks.Later.{bind_ok}
-use Rattle.krs_model.proofs.Asks.LaterByAsk.{linked_into_is, IsMoved, Moves, Stays}
-use Rattle.krs_model.proofs.Asks.Outcomes.{Meets, meets_after, meets_ok}
-use Rattle.krs_model.proofs.Lookups.Laws.{look_up_usable, in_by_match}
-use Rattle.krs_model.proofs.Lookups.Serials.{refused_is}
-use Rattle.krs_model.proofs.MadeKeyring.State.{HasMadeFor}
-use Rattle.krs_model.proofs.MadeKeyring.Which.{IsMade, NoneMade, ThreadMade, ProcessMade, made_for_is}
-use Rattle.krs_model.proofs.Sound.Changes.{in_linked_content}
-use Rattle.krs_model.proofs.Sound.KeyChanges.{unlinked_lessens, updated_lessens}
-use Rattle.krs_model.proofs.Sound.Links.{linkable_is}
-use Rattle.krs_model.proofs.Tables.Counts.{part_in}
-use Rattle.krs_laws.specs.Integrity.{HasRight, Written, AsksAs, IsMadeBy}
-use Rattle.krs_laws.proofs.Rightly.{Rightly, LinkedByRight, rightly_same, rightly_put, rightly_then, rightly_written}
-use Rattle.krs_laws.proofs.Rightly.{right_made, linkable_made}
+use Rattle.krs_model.specs.{Levels.is_in, Linking.{has_room, is_named, link_named, linked_content, ring_links}}
+use Rattle.krs_model.specs.Lookup.{context_of, look_up}
+use Rattle.krs_model.specs.{Making.{made_for, own_ring, special_ring}, Possession.{links_of_content, possessed}}
+use Rattle.krs_model.specs.{State.{Key, State}, Table.{alter, at, put, Table}, Usable.IsUsable}
+use Rattle.krs_model.proofs.Asks.{Later.bind_ok, LaterByAsk.{IsMoved, linked_into_is, Moves, Stays}}
+use Rattle.krs_model.proofs.{Asks.Outcomes.{Meets, meets_after, meets_ok}, Lookups.Laws.{in_by_match, look_up_usable}}
+use Rattle.krs_model.proofs.{Lookups.Serials.refused_is, MadeKeyring.State.HasMadeFor}
+use Rattle.krs_model.proofs.MadeKeyring.Which.{IsMade, made_for_is, NoneMade, ProcessMade, ThreadMade}
+use Rattle.krs_model.proofs.Sound.{Changes.in_linked_content, KeyChanges.{unlinked_lessens, updated_lessens}}
+use Rattle.krs_model.proofs.{Sound.Links.linkable_is, Tables.Counts.part_in}
+use Rattle.krs_laws.specs.Integrity.{AsksAs, HasRight, IsMadeBy, Written}
+use Rattle.krs_laws.proofs.Rightly.{linkable_made, LinkedByRight, right_made, Rightly, rightly_put, rightly_same}
+use Rattle.krs_laws.proofs.Rightly.{rightly_then, rightly_written}
 
 pub made_own :
     (uid : ℕ) (key : Key) → key.uid ≡ uid → group_byte key.perm ≡ 0 → other_byte key.perm ≡ 0 → is_own uid key ≡ true

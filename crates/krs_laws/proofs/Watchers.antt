@@ -1,50 +1,28 @@
 -- Queues are their owners', and watches are set by right.
-use Rattle.std.proofs.Common.{◌≡◌, ℕ, zero, suc, ℤ, ◌==◌, not, List, [], ◌∷◌, Option, Some, None, true, false, cond}
-use Rattle.std.proofs.Common.{Result, Ok, Err, refl, ap, ◌∙◌, sym, subst, ◌⊎◌, inl, inr, arith, nat_le}
-use Rattle.std.specs.Prelude.{IsOk, is_some, pos, negsuc}
-use Rattle.std.specs.Ordering.{nat_cmp, ordering_then, match_ordering, is_eq}
-use Rattle.std.specs.declared.cmp.Ordering.TheVariants.{Less, Equal, Greater}
-use Rattle.std.proofs.lemmas.Bool.{true≢false}
-use Rattle.std.proofs.lemmas.Bool.Decides.{nat_tests}
-use Rattle.std.proofs.lemmas.Option.{none-some, same_Some}
-use Rattle.krs_types.specs.declared.errno.Errno.{Errno}
-use Rattle.krs_types.specs.declared.errno.Errno.TheVariants.{EINVAL, EBADF, EBUSY}
-use Rattle.krs_types.specs.declared.note.FilterEntry.{FilterEntry}
-use Rattle.krs_types.specs.declared.ask.Answer.{Answer}
-use Rattle.krs_types.specs.declared.ask.Op.{Op}
-use Rattle.krs_types.specs.declared.ask.Op.TheVariants as asks
-use Rattle.krs_types.specs.declared.ask.Op.TheVariants.{OpenQueue, SetFilter, ReadQueue, CloseQueue, Leave}
-use Rattle.krs_types.specs.declared.event.Event.{Event}
-use Rattle.krs_types.specs.declared.rights.Want.TheVariants.{Granted}
-use Rattle.krs_types.specs.Refusing.{or_refuse}
-use Rattle.krs_types.specs.Rights.{VIEW}
-use Rattle.krs_model.specs.Table.{at}
-use Rattle.krs_model.specs.State.{State, Queue, raised}
+use Rattle.std.proofs.Common.{[], ◌==◌, ◌∙◌, ◌∷◌, ◌≡◌, ◌⊎◌, ap, arith, cond, Err, false, inl, inr, is_eq, is_some, IsOk}
+use Rattle.std.proofs.Common.{List, nat_cmp, nat_le, negsuc, None, not, Ok, Option, pos, refl, Result, Some, subst, suc}
+use Rattle.std.proofs.Common.{sym, true, true≢false, zero, ℕ, ℤ}
+use Rattle.std.specs.Ordering.{match_ordering, ordering_then}
+use Rattle.std.specs.declared.cmp.Ordering.TheVariants.{Equal, Greater, Less}
+use Rattle.std.proofs.lemmas.{Bool.Decides.nat_tests, Option.{none-some, same_Some}}
+use Rattle.krs_types.specs.{Refusing.or_refuse, Rights.VIEW, declared.ask.Answer.Answer}
+use Rattle.krs_types.specs.declared.ask.Op.{Op, TheVariants.{CloseQueue, Leave, OpenQueue, ReadQueue, SetFilter}}
+use Rattle.krs_types.specs.declared.errno.Errno.{Errno, TheVariants.{EBADF, EBUSY, EINVAL}}
+use Rattle.krs_types.specs.declared.{event.Event.Event, note.FilterEntry.FilterEntry, rights.Want.TheVariants.Granted}
+use Rattle.krs_model.specs.Asks.{Leaving.left, Linked.unless, Watching.{close_queue, closed, filtered, read_out}}
+use Rattle.krs_model.specs.Asks.Watching.{read_queue, set_filter, unwatched, watch, watch_id_of, watched, with_watching}
 use Rattle.krs_model.specs.Lookup.{context_of, look_up}
-use Rattle.krs_model.specs.Queues.{Queues, Watch, queues_of, if_own_queue, queue_of, watch_at, with_watch}
-use Rattle.krs_model.specs.Queues.{without_watch, place_cmp}
-use Rattle.krs_model.specs.Revocation.{Names}
-use Rattle.krs_model.specs.Orderly.{Each}
-use Rattle.krs_model.specs.Sound.{IsSound}
-use Rattle.krs_model.specs.Sweep.{live_watches}
-use Rattle.krs_model.specs.Step.{Step, Ends, outcome_of}
-use Rattle.krs_model.specs.Asks.Leaving.{left}
-use Rattle.krs_model.specs.Asks.Linked.{unless}
-use Rattle.krs_model.specs.Asks.Watching.{watch, watched, unwatched, with_watching, watch_id_of, set_filter, filtered}
-use Rattle.krs_model.specs.Asks.Watching.{read_queue, read_out, close_queue, closed}
-use Rattle.krs_model.proofs.Asks.Done.{Effect, OfKeys, Opens, Filters, Reads, Closes, Watches, Unwatches, Leaves, queue_there}
-use Rattle.krs_model.proofs.Asks.Done.{unwatched_is}
-use Rattle.krs_model.proofs.Asks.Effects.{effect_of}
-use Rattle.krs_model.proofs.Asks.Later.{bind_ok, same_ok}
-use Rattle.krs_model.proofs.Asks.Outcomes.{Meets, meets_after, meets_ok}
-use Rattle.krs_model.proofs.Notes.Fitting.{each_filter, each_on}
-use Rattle.krs_model.proofs.Sound.Watches.{each_without}
-use Rattle.krs_model.proofs.Lookups.Serials.{found_serial}
-use Rattle.krs_model.proofs.Tables.Changes.{same_at}
-use Rattle.krs_laws.specs.Integrity.{HasRight}
-use Rattle.krs_laws.specs.Noting.{OwnsQueue, queue_asked, QueuesAreTheirOwners, IsWatched, IsSetBy, WatchesByRight}
-use Rattle.krs_laws.specs.Noting.{AllWatchesAreByRight}
+use Rattle.krs_model.specs.{Orderly.Each, Queues.{if_own_queue, place_cmp, queue_of, Queues, queues_of, Watch}}
+use Rattle.krs_model.specs.{Queues.{watch_at, with_watch, without_watch}, Revocation.Names, Sound.IsSound}
+use Rattle.krs_model.specs.{State.{Queue, raised, State}, Step.{Ends, outcome_of, Step}, Sweep.live_watches, Table.at}
+use Rattle.krs_model.proofs.Asks.Done.{Closes, Effect, Filters, Leaves, OfKeys, Opens, queue_there, Reads, unwatched_is}
+use Rattle.krs_model.proofs.Asks.{Done.{Unwatches, Watches}, Effects.effect_of, Later.{bind_ok, same_ok}}
+use Rattle.krs_model.proofs.{Asks.Outcomes.{Meets, meets_after, meets_ok}, Lookups.Serials.found_serial}
+use Rattle.krs_model.proofs.{Notes.Fitting.{each_filter, each_on}, Sound.Watches.each_without, Tables.Changes.same_at}
+use Rattle.krs_laws.specs.{Integrity.HasRight, Noting.AllWatchesAreByRight}
+use Rattle.krs_laws.specs.Noting.{IsSetBy, IsWatched, OwnsQueue, queue_asked, QueuesAreTheirOwners, WatchesByRight}
 use Rattle.krs_laws.proofs.Rightly.{right_found}
+use Rattle.krs_types.specs.declared.ask.Op.TheVariants as asks
 
 -- ---- queues are their owners'
 

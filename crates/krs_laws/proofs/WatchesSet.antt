@@ -1,23 +1,13 @@
 -- Each watch was set by right in a history that began empty.
-use Rattle.std.proofs.Common.{◌≡◌, ℕ, List, [], ◌∷◌, ◌++◌, refl, ap, ◌∙◌, sym, subst, ◌⊎◌, ⊎_elim, append_assoc}
+use Rattle.std.proofs.Common.{[], ⊎_elim, ◌++◌, ◌∙◌, ◌∷◌, ◌≡◌, ◌⊎◌, ap, append-nil, append_assoc, List, refl, subst}
+use Rattle.std.proofs.Common.{sym, ℕ}
 use Rattle.std.specs.List.{AllByRecursion}
-use Rattle.std.proofs.lemmas.List.{append-nil}
-use Rattle.krs_types.specs.declared.note.Record.{Record}
-use Rattle.krs_types.specs.declared.note.Record.TheVariants.{Key, Removal, Loss}
-use Rattle.krs_types.specs.declared.event.Event.{Event}
-use Rattle.krs_model.specs.State.{State, raised}
-use Rattle.krs_model.specs.Queues.{Watch}
-use Rattle.krs_model.specs.Orderly.{Each}
-use Rattle.krs_model.specs.Sound.{IsSound}
-use Rattle.krs_model.specs.Step.{Step}
-use Rattle.krs_model.specs.History.{IsLegal}
-use Rattle.krs_model.specs.Receiving.{called_for}
-use Rattle.krs_model.proofs.History.Legal.{legal_none, legal_more}
-use Rattle.krs_model.proofs.Notes.Fitting.{each_on}
-use Rattle.krs_model.proofs.Sound.Steps.{start_sound}
-use Rattle.krs_laws.specs.Noting.{IsWatched, IsSetBy, IsCalledFor, WasSet, IsToldByRight, AllNotesAreByRight}
-use Rattle.krs_laws.proofs.Callers.{all_called}
-use Rattle.krs_laws.proofs.Watchers.{step_set}
+use Rattle.krs_types.specs.declared.{event.Event.Event, note.Record.{Record, TheVariants.{Key, Loss, Removal}}}
+use Rattle.krs_model.specs.{History.IsLegal, Orderly.Each, Queues.Watch, Receiving.called_for, Sound.IsSound}
+use Rattle.krs_model.specs.{State.{raised, State}, Step.Step}
+use Rattle.krs_model.proofs.{History.Legal.{legal_more, legal_none}, Notes.Fitting.each_on, Sound.Steps.start_sound}
+use Rattle.krs_laws.specs.Noting.{AllNotesAreByRight, IsCalledFor, IsSetBy, IsToldByRight, IsWatched, WasSet}
+use Rattle.krs_laws.proofs.{Callers.all_called, Watchers.step_set}
 
 -- what holds of each watch holds of one of them
 of_watched : (P : Watch → Type 0) (ws : List Watch) (w : Watch) → Each P ws → IsWatched w ws → P w

@@ -1,28 +1,15 @@
 -- Each step leaves a store within its limits.
-use Rattle.std.proofs.Common.{◌≡◌, ℕ, ◌≤◌, List, [], ◌∷◌, Option, Some, None, Bool, true, false, cond, filter, nat_le}
-use Rattle.std.proofs.Common.{Result, Ok, Err, ap, ◌∙◌, sym, subst, arith}
-use Rattle.std.proofs.lemmas.Bool.Decides.{nat_tests}
-use Rattle.std.proofs.lemmas.Option.{none-some}
-use Rattle.krs_types.specs.declared.errno.Errno.{Errno}
-use Rattle.krs_types.specs.declared.context.Context.{Context}
+use Rattle.std.proofs.Common.{[], ◌∙◌, ◌∷◌, ◌≡◌, ◌≤◌, ap, arith, Bool, cond, Err, false, filter, List, nat_le, None, Ok}
+use Rattle.std.proofs.Common.{Option, Result, Some, subst, sym, true, ℕ}
+use Rattle.std.proofs.lemmas.{Bool.Decides.nat_tests, Option.none-some}
 use Rattle.krs_types.specs.declared.ask.Answer.{Answer}
-use Rattle.krs_types.specs.declared.ask.Op.{Op}
-use Rattle.krs_types.specs.declared.event.Event.{Event}
-use Rattle.krs_model.specs.Table.{Table, at}
-use Rattle.krs_model.specs.State.{State, Key, starting_at, raised}
-use Rattle.krs_model.specs.Notes.Waiting.{is_capacity}
-use Rattle.krs_model.specs.Asks.Hello.{context_count}
-use Rattle.krs_model.specs.Sound.{IsSound}
-use Rattle.krs_model.specs.Step.{Step, Ends}
-use Rattle.krs_model.specs.History.{IsLegal}
-use Rattle.krs_model.proofs.Asks.Effects.{effect_of}
-use Rattle.krs_model.proofs.Asks.Laws.{law_of}
-use Rattle.krs_model.proofs.Sound.Steps.{sound_stands, raised_sound, step_sound}
-use Rattle.krs_model.proofs.Tables.Changes.{at_kept}
+use Rattle.krs_types.specs.declared.{ask.Op.Op, context.Context.Context, errno.Errno.Errno, event.Event.Event}
+use Rattle.krs_model.specs.{Asks.Hello.context_count, History.IsLegal, Notes.Waiting.is_capacity, Sound.IsSound}
+use Rattle.krs_model.specs.{State.{Key, raised, starting_at, State}, Step.{Ends, Step}, Table.{at, Table}}
+use Rattle.krs_model.proofs.Asks.{Effects.effect_of, Laws.law_of}
+use Rattle.krs_model.proofs.{Sound.Steps.{raised_sound, sound_stands, step_sound}, Tables.Changes.at_kept}
 use Rattle.krs_laws.specs.Limits.{IsWithinLimits, StaysWithinLimits}
-use Rattle.krs_laws.proofs.ContextLimits.{houses_few}
-use Rattle.krs_laws.proofs.KeyLimits.{AllShort, both}
-use Rattle.krs_laws.proofs.KeyLimitsByAsk.{all_short}
+use Rattle.krs_laws.proofs.{ContextLimits.houses_few, KeyLimits.{AllShort, both}, KeyLimitsByAsk.all_short}
 use Rattle.krs_laws.proofs.QueueLimits.{QueuesWithin, served_within}
 
 -- but for capacities, which IsSound has

@@ -1,18 +1,10 @@
 -- Whose contexts and queues are in each history of a store that began empty: profile, believed caller; profile,
 -- leaving; profile, queues by number. The laws of contexts are krs_model's (specs/Belonging.antt), told of one store.
-use Rattle.std.specs.Prelude.{◌≡◌, ℕ, List, ◌∷◌, ◌++◌, Bool, true, false, Some, Ok}
-use Rattle.krs_types.specs.declared.caller.Caller.{Caller}
-use Rattle.krs_types.specs.declared.context.Context.{Context}
-use Rattle.krs_types.specs.declared.ask.Answer.TheVariants.{Number}
-use Rattle.krs_types.specs.declared.ask.Op.TheVariants.{OpenQueue, Leave}
-use Rattle.krs_types.specs.declared.event.Event.{Event}
-use Rattle.krs_model.specs.Table.{at}
-use Rattle.krs_model.specs.State.{State, Queue, starting_at}
-use Rattle.krs_model.specs.Step.{Step}
-use Rattle.krs_model.specs.History.{IsLegal}
-use Rattle.krs_model.specs.Revocation.{Reads}
-use Rattle.krs_model.specs.Confidentiality.{KeepsPrivate}
-use Rattle.krs_model.specs.Belonging.{HasNothing, HasStayed, HasGreeted}
+use Rattle.std.specs.Prelude.{◌++◌, ◌∷◌, ◌≡◌, Bool, false, List, Ok, Some, true, ℕ}
+use Rattle.krs_types.specs.declared.ask.{Answer.TheVariants.Number, Op.TheVariants.{Leave, OpenQueue}}
+use Rattle.krs_types.specs.declared.{caller.Caller.Caller, context.Context.Context, event.Event.Event}
+use Rattle.krs_model.specs.{Belonging.{HasGreeted, HasNothing, HasStayed}, Confidentiality.KeepsPrivate}
+use Rattle.krs_model.specs.{History.IsLegal, Revocation.Reads, State.{Queue, starting_at, State}, Step.Step, Table.at}
 
 -- once a client has left, no context and no queue is its
 abbrev pub LeavesNothing : Type 0

@@ -1,10 +1,7 @@
 -- What is left in a store when all clients have left: keyrings(7), "Anchoring keys"; profile, leaving.
-use Rattle.std.specs.Prelude.{◌≡◌, ◌⊎◌, ℕ, List, [], ◌∷◌}
-use Rattle.krs_types.specs.declared.ask.Op.TheVariants.{Leave}
-use Rattle.krs_types.specs.declared.event.Event.{Event}
-use Rattle.krs_model.specs.State.{State}
-use Rattle.krs_model.specs.History.{IsLegal}
-use Rattle.krs_model.specs.Belonging.{HasNothing}
+use Rattle.std.specs.Prelude.{[], ◌∷◌, ◌≡◌, ◌⊎◌, List, ℕ}
+use Rattle.krs_types.specs.declared.{ask.Op.TheVariants.Leave, event.Event.Event}
+use Rattle.krs_model.specs.{Belonging.HasNothing, History.IsLegal, State.State}
 use Rattle.krs_laws.specs.Belonging.{BeganEmpty}
 
 -- nothing is kept: what remains are the numbers that come next, and the clock

@@ -1,13 +1,8 @@
 -- A key whose time is over is read by nobody any more: keyctl(2), KEYCTL_SET_TIMEOUT, EKEYEXPIRED; profile, expired
 -- keys stay. The form is that of krs_model, specs/Revocation.antt.
-use Rattle.std.specs.Prelude.{◌≡◌, ℕ, List, true, Some}
+use Rattle.std.specs.Prelude.{◌≡◌, List, Some, true, ℕ}
 use Rattle.krs_types.specs.declared.event.Event.{Event}
-use Rattle.krs_model.specs.Table.{at}
-use Rattle.krs_model.specs.State.{State, Key}
-use Rattle.krs_model.specs.Access.{is_over}
-use Rattle.krs_model.specs.Step.{Step}
-use Rattle.krs_model.specs.History.{IsLegal}
-use Rattle.krs_model.specs.Revocation.{Reads}
+use Rattle.krs_model.specs.{Access.is_over, History.IsLegal, Revocation.Reads, State.{Key, State}, Step.Step, Table.at}
 
 -- Whatever comes before, between and after, no key is read once its time is over: nobody may set its timeout anew, nor
 -- write it, since an expired key grants nobody any right

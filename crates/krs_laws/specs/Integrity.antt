@@ -1,29 +1,13 @@
 -- Each change of a key is by right: keyrings(7), "Access rights"; keyctl(2), "ERRORS", EACCES. The form is this
 -- project's own.
-use Rattle.std.specs.Prelude.{◌≡◌, ℕ, List, ◌⊎◌, true, None, Some, Ok}
-use Rattle.krs_types.specs.declared.caller.Caller.{Caller}
-use Rattle.krs_types.specs.declared.context.Context.{Context}
-use Rattle.krs_types.specs.declared.ask.Answer.{Answer}
-use Rattle.krs_types.specs.declared.ask.Op.{Op}
-use Rattle.krs_types.specs.declared.ask.Op.TheVariants.{Hello}
-use Rattle.krs_types.specs.declared.event.Event.{Event}
-use Rattle.krs_types.specs.declared.rights.Want.{Want}
-use Rattle.krs_types.specs.declared.rights.Want.TheVariants.{Granted, Either}
-use Rattle.krs_types.specs.Rights.{WRITE, SEARCH, LINK, SETATTR}
-use Rattle.krs_types.specs.Caller.{is_of_group}
-use Rattle.krs_model.specs.Table.{at}
-use Rattle.krs_model.specs.State.{State, Key, Content, raised}
-use Rattle.krs_model.specs.Levels.{is_in}
-use Rattle.krs_model.specs.Lookup.{context_of}
-use Rattle.krs_model.specs.Reach.{links_of_key_at}
-use Rattle.krs_model.specs.Sweep.{IsHeld, roots}
-use Rattle.krs_model.specs.Asks.Changing.{emptied}
-use Rattle.krs_model.specs.Asks.Linked.{unlinked_content}
-use Rattle.krs_model.specs.Step.{Step, outcome_of}
-use Rattle.krs_model.specs.History.{IsLegal}
-use Rattle.krs_model.specs.Usable.{IsUsable}
-use Rattle.krs_model.specs.Secrecy.{Grants}
-use Rattle.krs_model.specs.Confidentiality.{is_own}
+use Rattle.std.specs.Prelude.{◌≡◌, ◌⊎◌, List, None, Ok, Some, true, ℕ}
+use Rattle.krs_types.specs.{Caller.is_of_group, Rights.{LINK, SEARCH, SETATTR, WRITE}, declared.ask.Answer.Answer}
+use Rattle.krs_types.specs.declared.{ask.Op.{Op, TheVariants.Hello}, caller.Caller.Caller, context.Context.Context}
+use Rattle.krs_types.specs.declared.{event.Event.Event, rights.Want.{Want, TheVariants.{Either, Granted}}}
+use Rattle.krs_model.specs.Asks.{Changing.emptied, Linked.unlinked_content}
+use Rattle.krs_model.specs.{Confidentiality.is_own, History.IsLegal, Levels.is_in, Lookup.context_of}
+use Rattle.krs_model.specs.{Reach.links_of_key_at, Secrecy.Grants, State.{Content, Key, raised, State}}
+use Rattle.krs_model.specs.{Step.{outcome_of, Step}, Sweep.{IsHeld, roots}, Table.at, Usable.IsUsable}
 
 -- the context that asks has this right on the key: it grants it, and is neither revoked nor expired
 pub record HasRight (s : State) (client context : ℕ) (want : Want) (serial : ℕ) : Type 0 where

@@ -1,11 +1,8 @@
 -- What a store never holds more of: profile, limits. The form is this project's own.
-use Rattle.std.specs.Prelude.{◌≡◌, ◌≤◌, ℕ, List, Some, length}
+use Rattle.std.specs.Prelude.{◌≡◌, ◌≤◌, length, List, Some, ℕ}
 use Rattle.krs_types.specs.declared.event.Event.{Event}
-use Rattle.krs_model.specs.Table.{at}
-use Rattle.krs_model.specs.State.{State, Key, Queue, Content, Payload, Links}
-use Rattle.krs_model.specs.Notes.Waiting.{total_room}
-use Rattle.krs_model.specs.Asks.Hello.{context_count}
-use Rattle.krs_model.specs.History.{IsLegal}
+use Rattle.krs_model.specs.{Asks.Hello.context_count, History.IsLegal, Notes.Waiting.total_room}
+use Rattle.krs_model.specs.{State.{Content, Key, Links, Payload, Queue, State}, Table.at}
 
 -- a payload has at most 32767 bytes, and a keyring links at most 65535 keys: keyrings(7), "Key types"; profile, full
 -- keyrings

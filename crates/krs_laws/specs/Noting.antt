@@ -1,24 +1,13 @@
 -- Who is told of what, by right: core-api/watch_queue.rst; uapi linux/keyctl.h, KEYCTL_WATCH_KEY. The form is this
 -- project's own.
-use Rattle.std.specs.Prelude.{◌≡◌, ◌⊎◌, ℕ, ℤ, pos, List, [], ◌∷◌, ◌++◌, Option, None, Some, IsOk}
-use Rattle.std.specs.List.{AllByRecursion}
-use Rattle.krs_types.specs.declared.ask.Op.{Op}
-use Rattle.krs_types.specs.declared.ask.Op.TheVariants.{SetFilter, ReadQueue, CloseQueue, Watch}
-use Rattle.krs_types.specs.declared.event.Event.{Event}
-use Rattle.krs_types.specs.declared.note.Record.{Record}
-use Rattle.krs_types.specs.declared.note.Record.TheVariants.{Key, Removal, Loss}
-use Rattle.krs_types.specs.declared.rights.Want.TheVariants.{Granted}
-use Rattle.krs_types.specs.Rights.{VIEW}
-use Rattle.krs_model.specs.Table.{at}
-use Rattle.krs_model.specs.State.{State, Queue, raised}
+use Rattle.std.specs.{Prelude.{[], ◌++◌, ◌∷◌, ◌≡◌, ◌⊎◌, IsOk, List, None, Option, pos, Some, ℕ, ℤ}, List.AllByRecursion}
+use Rattle.krs_types.specs.{Rights.VIEW, declared.ask.Op.{Op, TheVariants.{CloseQueue, ReadQueue, SetFilter, Watch}}}
+use Rattle.krs_types.specs.declared.{event.Event.Event, note.Record.Record}
+use Rattle.krs_types.specs.declared.{note.Record.TheVariants.{Key, Loss, Removal}, rights.Want.TheVariants.Granted}
+use Rattle.krs_model.specs.{History.IsLegal, Orderly.Each, Receiving.called_for, Revocation.Names}
+use Rattle.krs_model.specs.{State.{Queue, raised, State}, Step.Step, Table.at}
+use Rattle.krs_laws.specs.{Belonging.BeganEmpty, Integrity.HasRight}
 use Rattle.krs_model.specs.Queues as queues
-use Rattle.krs_model.specs.Orderly.{Each}
-use Rattle.krs_model.specs.Step.{Step}
-use Rattle.krs_model.specs.History.{IsLegal}
-use Rattle.krs_model.specs.Receiving.{called_for}
-use Rattle.krs_model.specs.Revocation.{Names}
-use Rattle.krs_laws.specs.Belonging.{BeganEmpty}
-use Rattle.krs_laws.specs.Integrity.{HasRight}
 
 -- the queue of this number is there, and it is the client's
 pub record OwnsQueue (s : State) (client number : ℕ) : Type 0 where

@@ -1,17 +1,10 @@
 -- What UPDATE and ADD overwrote: keyctl(2), KEYCTL_UPDATE; add_key(2). The form is that of krs_model,
 -- specs/Secrecy.antt. That law begins at a state that no longer has the payload of a key that is gone, so there it says
 -- no more than that a state and what is asked determine the replies; these begin at a state that still has it.
-use Rattle.std.specs.Prelude.{◌≡◌, ℕ, ℤ, List, Some, Ok}
-use Rattle.krs_types.specs.declared.ask.Answer.TheVariants.{Number}
-use Rattle.krs_types.specs.declared.ask.Op.TheVariants.{Add, Update}
-use Rattle.krs_types.specs.declared.event.Event.{Event}
-use Rattle.krs_model.specs.Table.{at}
-use Rattle.krs_model.specs.State.{State, Key}
-use Rattle.krs_model.specs.Sound.{IsSound}
-use Rattle.krs_model.specs.Step.{Step}
-use Rattle.krs_model.specs.Revocation.{IsServed}
-use Rattle.krs_model.specs.Hiding.{Hiding, blind}
-use Rattle.krs_model.specs.Secrecy.{HidesOnly}
+use Rattle.std.specs.Prelude.{◌≡◌, List, Ok, Some, ℕ, ℤ}
+use Rattle.krs_types.specs.declared.{ask.{Answer.TheVariants.Number, Op.TheVariants.{Add, Update}}, event.Event.Event}
+use Rattle.krs_model.specs.{Hiding.{blind, Hiding}, Revocation.IsServed, Secrecy.HidesOnly, Sound.IsSound}
+use Rattle.krs_model.specs.{State.{Key, State}, Step.Step, Table.at}
 
 -- an accepted UPDATE of the key at the serial, with this payload
 abbrev pub Updates : State → Event → List ℕ → ℕ → Type 0

@@ -1,6 +1,5 @@
 //! That each change of a key is by right.
-ghost use Rattle.krs_model.specs.State.{State};
-ghost use Rattle.krs_model.specs.Sound.{IsSound};
+ghost use Rattle.krs_model.specs.{Sound.IsSound, State.State};
 ghost use Rattle.krs_laws.specs.Integrity.{AllChangesAreByRight};
 
 /// Whoever asks whatever, a key changes only by an ask of a context that has the right on it then: WRITE for what it

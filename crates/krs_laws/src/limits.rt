@@ -1,7 +1,6 @@
 //! That a store stays within its limits.
 ghost use Rattle.std.specs.Prelude.{ℕ};
-ghost use Rattle.krs_model.specs.State.{State, starting_at};
-ghost use Rattle.krs_model.specs.Sound.{IsSound};
+ghost use Rattle.krs_model.specs.{Sound.IsSound, State.{starting_at, State}};
 ghost use Rattle.krs_laws.specs.Limits.{IsWithinLimits, StaysWithinLimits};
 
 /// Whoever asks whatever, a client has at most 64 contexts, at most 256 queues are open, none holds more records than

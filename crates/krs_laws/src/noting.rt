@@ -1,9 +1,7 @@
 //! That queues are their owners', that watches are set by right, and that records are called for by watches.
-ghost use Rattle.krs_model.specs.State.{State};
-ghost use Rattle.krs_model.specs.Sound.{IsSound};
-ghost use Rattle.krs_laws.specs.Belonging.{QueuesAreTheirClients};
-ghost use Rattle.krs_laws.specs.Noting.{QueuesAreTheirOwners, AllWatchesAreByRight, AllNotesAreCalledFor};
-ghost use Rattle.krs_laws.specs.Noting.{AllNotesAreByRight};
+ghost use Rattle.krs_model.specs.{Sound.IsSound, State.State};
+ghost use Rattle.krs_laws.specs.{Belonging.QueuesAreTheirClients, Noting.AllNotesAreByRight};
+ghost use Rattle.krs_laws.specs.Noting.{AllNotesAreCalledFor, AllWatchesAreByRight, QueuesAreTheirOwners};
 
 /// A queue is read, given a filter, closed and set to watch by its owner alone.
 pub fn queues_are_their_owners()

@@ -1,5 +1,5 @@
 //! That what UPDATE and ADD overwrote is told to nobody.
-ghost use Rattle.krs_laws.specs.Overwritten.{UpdatesForget, AddsForget};
+ghost use Rattle.krs_laws.specs.Overwritten.{AddsForget, UpdatesForget};
 
 /// Whatever the payload was that an accepted UPDATE overwrote, the store that is left is the same, and so are all
 /// replies from then on.

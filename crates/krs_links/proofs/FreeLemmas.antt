@@ -1,15 +1,10 @@
 -- Numbers behind a digest that are all taken are no more than the entries: so soon one is free.
-use Rattle.std.proofs.Common.{◌≡◌, ℕ, zero, suc, ◌+◌, ◌<◌, ◌≤◌, ◌^◌, List, [], ◌∷◌, true, false, length, ap, subst}
-use Rattle.std.proofs.Common.{refl, sym, ◌∙◌, nat_eq, is_some, IsSome, ⊎_elim, arith}
-use Rattle.std.specs.List.{list_any, AllByRecursion, IsDistinct}
-use Rattle.std.specs.Cmp.{nat_eq_equiv}
-use Rattle.std.specs.Map.{lookup}
-use Rattle.std.proofs.lemmas.Bool.{cases_eq}
-use Rattle.std.proofs.lemmas.Bool.Decides.{nat_tests, eqb_tells}
-use Rattle.std.proofs.lemmas.Map.Keys.{IsDistinct-from_apart, IsDistinct-cons}
-use Rattle.std.proofs.lemmas.Map.Steps.{length-le_from_keys}
-use Rattle.krs_links.specs.declared.index.Link.{Link}
-use Rattle.krs_links.specs.Indexed.{behind}
+use Rattle.std.proofs.Common.{[], ⊎_elim, ◌+◌, ◌<◌, ◌^◌, ◌∙◌, ◌∷◌, ◌≡◌, ◌≤◌, ap, arith, false, is_some, IsSome, length}
+use Rattle.std.proofs.Common.{List, nat_eq, refl, subst, suc, sym, true, zero, ℕ}
+use Rattle.std.specs.{Cmp.nat_eq_equiv, List.{AllByRecursion, IsDistinct, list_any}, Map.lookup}
+use Rattle.std.proofs.lemmas.Bool.{cases_eq, Decides.{eqb_tells, nat_tests}}
+use Rattle.std.proofs.lemmas.Map.{Keys.{IsDistinct-cons, IsDistinct-from_apart}, Steps.length-le_from_keys}
+use Rattle.krs_links.specs.{Indexed.behind, declared.index.Link.Link}
 
 -- each number fewer steps behind a digest than these, the last first
 abbrev numbers_behind : ℕ → ℕ → List ℕ

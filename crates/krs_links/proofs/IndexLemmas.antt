@@ -1,11 +1,8 @@
 -- Names by place, and how many nested keyrings stand before a place.
-use Rattle.std.proofs.Common.{◌≡◌, ℕ, zero, suc, ◌+◌, [], ◌∷◌, Some, true, false, cond, refl, sym, ap}
-use Rattle.std.proofs.Common.{◌&&◌, ◌<◌, Bool, None, length, take, get_or, arith}
-use Rattle.std.specs.List.{slice_get}
-use Rattle.std.proofs.lemmas.Option.{none-some}
-use Rattle.std.specs.Option.{unwrap_or}
+use Rattle.std.proofs.Common.{[], ◌&&◌, ◌+◌, ◌<◌, ◌∷◌, ◌≡◌, ap, arith, Bool, cond, false, get_or, length, None, refl}
+use Rattle.std.proofs.{Common.{slice_get, Some, suc, sym, take, true, unwrap_or, zero, ℕ}, lemmas.Option.none-some}
 use Rattle.krs_types.specs.declared.name.Name.{Name}
-use Rattle.krs_links.specs.Links.{LinkList, names, nested, is_ring}
+use Rattle.krs_links.specs.Links.{is_ring, LinkList, names, nested}
 
 -- the link at a place has the name there
 pub link_named_at :

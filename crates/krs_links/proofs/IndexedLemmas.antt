@@ -1,27 +1,20 @@
 -- What a look-up by a digest, and each change, say of the links.
-use Rattle.std.proofs.Common.{◌≡◌, ℕ, zero, suc, ◌+◌, ◌<◌, ◌≤◌, [], ◌∷◌, ◌++◌, Some, None, List, true, false}
-use Rattle.std.proofs.Common.{refl, sym, ap, subst, ◌∙◌, ◌≢◌, ◌-◌, cond, length, get_or, nat_eq, arith, take, drop, set}
-use Rattle.std.proofs.Common.{Option, IfSome, IfNone}
-use Rattle.std.specs.List.{position_from, remove, swap_remove, slice_get, find, AllByRecursion, IsDistinct}
-use Rattle.std.specs.Cmp.{nat_eq_equiv}
-use Rattle.std.specs.Map.{lookup, keys_of, values_of}
-use Rattle.std.specs.Option.{option_map, unwrap_or}
-use Rattle.std.proofs.lemmas.Iterator.Adapters.{position_from-zero}
-use Rattle.std.proofs.lemmas.List.Quantifiers.{position-Some}
-use Rattle.std.proofs.lemmas.List.{map-append, append-nil, take-set}
-use Rattle.std.proofs.lemmas.Map.Entries.{lookup_from_place}
-use Rattle.std.proofs.lemmas.Map.Keys.{IsDistinct-head, IsDistinct-tail}
-use Rattle.std.proofs.lemmas.Option.{none-some, same_Some, slice_get-map, slice_get_within}
+use Rattle.std.proofs.Common.{[], ◌++◌, ◌+◌, ◌-◌, ◌<◌, ◌∙◌, ◌∷◌, ◌≡◌, ◌≢◌, ◌≤◌, ap, append-nil, arith, cond, drop}
+use Rattle.std.proofs.Common.{false, find, get_or, IfNone, IfSome, length, List, nat_eq, None, Option, option_map, refl}
+use Rattle.std.proofs.Common.{remove, set, slice_get, Some, subst, suc, swap_remove, sym, take, true, unwrap_or, zero}
+use Rattle.std.proofs.Common.{ℕ}
 use Rattle.indexmap.specs.IndexMap.{set_value_at}
-use Rattle.krs_types.specs.declared.name.Name.{Name}
-use Rattle.krs_types.specs.Name.{same_name}
+use Rattle.std.specs.Cmp.{nat_eq_equiv}
+use Rattle.std.specs.{List.{AllByRecursion, IsDistinct, position_from}, Map.{keys_of, lookup, values_of}}
+use Rattle.std.proofs.lemmas.Iterator.Adapters.{position_from-zero}
+use Rattle.std.proofs.lemmas.List.{map-append, take-set, Quantifiers.position-Some}
+use Rattle.std.proofs.lemmas.Map.{Entries.lookup_from_place, Keys.{IsDistinct-head, IsDistinct-tail}}
+use Rattle.std.proofs.lemmas.Option.{none-some, same_Some, slice_get-map, slice_get_within}
+use Rattle.krs_types.specs.{Name.same_name, declared.name.Name.Name}
 use Rattle.krs_types.proofs.Names.{equal_names, other_way}
-use Rattle.krs_links.specs.declared.seed.Seed.{Seed}
-use Rattle.krs_links.specs.declared.index.Link.{Link}
-use Rattle.krs_links.specs.Seeded.{name_digest}
-use Rattle.krs_links.specs.Links.{LinkList, names, serials, serial_named, IsUnique, place_of, link_put}
-use Rattle.krs_links.specs.Indexed.{link_of, linked_in, behind, Stands, AllStand, StandsNot, LinksNot}
-use Rattle.krs_links.specs.Indexed.{with_serial_at}
+use Rattle.krs_links.specs.Indexed.{AllStand, behind, link_of, linked_in, LinksNot, Stands, StandsNot, with_serial_at}
+use Rattle.krs_links.specs.Links.{IsUnique, link_put, LinkList, names, place_of, serial_named, serials}
+use Rattle.krs_links.specs.{Seeded.name_digest, declared.{index.Link.Link, seed.Seed.Seed}}
 
 -- ---- a place
 -- the name of the link at a place

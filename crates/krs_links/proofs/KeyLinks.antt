@@ -1,11 +1,8 @@
 -- What the removal of the links to a key leaves.
-use Rattle.std.proofs.Common.{◌≡◌, ℕ, ◌==◌, List, [], ◌∷◌, Some, None, true, false, cond, not, filter, refl, ap, sym}
-use Rattle.std.specs.List.{find}
-use Rattle.std.specs.Option.{option_map}
-use Rattle.std.proofs.lemmas.Option.{none-some}
-use Rattle.krs_types.specs.declared.name.Name.{Name}
-use Rattle.krs_types.specs.Name.{same_name}
-use Rattle.krs_links.specs.Links.{LinkList, serials, serial_named, unlinked_key}
+use Rattle.std.proofs.Common.{[], ◌==◌, ◌∷◌, ◌≡◌, ap, cond, false, filter, find, List, None, not, option_map, refl}
+use Rattle.std.proofs.{Common.{Some, sym, true, ℕ}, lemmas.Option.none-some}
+use Rattle.krs_types.specs.{Name.same_name, declared.name.Name.Name}
+use Rattle.krs_links.specs.Links.{LinkList, serial_named, serials, unlinked_key}
 
 -- the other serials
 abbrev pub others : ℕ → List ℕ → List ℕ

@@ -1,15 +1,11 @@
 -- What a link, and the removal of one, change.
-use Rattle.std.proofs.Common.{◌≡◌, ◌*◌, ℕ, List, [], ◌∷◌, ◌++◌, Some, None, true, false, cond, not, refl, sym, ap, subst}
-use Rattle.std.proofs.Common.{w32, length, length-append, arith}
-use Rattle.std.specs.Int.{to_le_bytes}
-use Rattle.std.specs.Option.{option_map}
-use Rattle.std.specs.List.{find, IsDistinct, AllByRecursion}
-use Rattle.std.proofs.lemmas.Option.{none-some}
-use Rattle.std.proofs.lemmas.Map.Keys.{IsDistinct-head, IsDistinct-tail, IsDistinct-cons}
-use Rattle.krs_types.specs.declared.name.Name.{Name}
-use Rattle.krs_types.specs.Name.{same_name}
-use Rattle.krs_links.specs.Links.{LinkList, names, IsUnique, serial_named, link_put, unlinked, bytes_of}
+use Rattle.std.proofs.Common.{[], ◌*◌, ◌++◌, ◌∷◌, ◌≡◌, ap, arith, cond, false, find, length, length-append, List, None}
+use Rattle.std.proofs.Common.{not, option_map, refl, Some, subst, sym, true, w32, ℕ}
+use Rattle.std.specs.{Int.to_le_bytes, List.{AllByRecursion, IsDistinct}}
+use Rattle.std.proofs.lemmas.{Map.Keys.{IsDistinct-cons, IsDistinct-head, IsDistinct-tail}, Option.none-some}
+use Rattle.krs_types.specs.{Name.same_name, declared.name.Name.Name}
 use Rattle.krs_types.proofs.Names.{equal_names, other_way}
+use Rattle.krs_links.specs.Links.{bytes_of, IsUnique, link_put, LinkList, names, serial_named, unlinked}
 
 -- what is linked as nothing is linked last
 pub linked_last : (name : Name) (serial : ℕ) (xs : LinkList) → serial_named xs name ≡ None →

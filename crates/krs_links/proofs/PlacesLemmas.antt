@@ -1,23 +1,18 @@
 -- What a change at the place of a name does to the two lists.
-use Rattle.std.proofs.Common.{◌≡◌, ℕ, zero, suc, ◌+◌, ◌<◌, ◌≤◌, List, [], ◌∷◌, ◌++◌, Option, Some, None, IfNone, Bool}
-use Rattle.std.proofs.Common.{true, false, cond, length, get_or, set, take, refl, ap, ◌∙◌, sym, subst, arith}
-use Rattle.std.proofs.Common.{length-append}
-use Rattle.std.specs.Option.{option_map}
-use Rattle.std.specs.List.{find, position, position_from, remove, slice_get, AllByRecursion}
-use Rattle.std.proofs.lemmas.Option.{none-some, slice_get-map, slice_get_within}
-use Rattle.std.proofs.lemmas.Option.{get_or_from_slice_get, slice_get-get_or}
-use Rattle.std.proofs.lemmas.Iterator.Adapters.{position_from-zero}
-use Rattle.std.proofs.lemmas.List.Quantifiers.{position-Some}
-use Rattle.std.proofs.lemmas.List.{append-nil}
+use Rattle.std.proofs.Common.{[], ◌++◌, ◌+◌, ◌<◌, ◌∙◌, ◌∷◌, ◌≡◌, ◌≤◌, ap, append-nil, arith, Bool, cond, false, find}
+use Rattle.std.proofs.Common.{get_or, IfNone, length, length-append, List, None, Option, option_map, position, refl}
+use Rattle.std.proofs.Common.{remove, set, slice_get, Some, subst, suc, sym, take, true, zero, ℕ}
+use Rattle.std.specs.List.{AllByRecursion, position_from}
 use Rattle.std.proofs.Math.ListN.{length-set}
-use Rattle.std.proofs.lemmas.Map.Keys.{IsDistinct-head, IsDistinct-tail, IsDistinct-cons, IsDistinct-from_apart}
-use Rattle.krs_types.specs.declared.name.Name.{Name}
-use Rattle.krs_types.specs.Name.{same_name}
-use Rattle.krs_links.specs.Links.{LinkList, names, serials, IsUnique, serial_named, place_of, link_put, unlinked}
-use Rattle.krs_links.specs.Links.{nested, is_ring}
-use Rattle.krs_links.specs.Lists.{AreLists}
+use Rattle.std.proofs.lemmas.{Iterator.Adapters.position_from-zero, List.Quantifiers.position-Some}
+use Rattle.std.proofs.lemmas.Map.Keys.{IsDistinct-cons, IsDistinct-from_apart, IsDistinct-head, IsDistinct-tail}
+use Rattle.std.proofs.lemmas.Option.{get_or_from_slice_get, none-some, slice_get-get_or, slice_get-map}
+use Rattle.std.proofs.lemmas.Option.{slice_get_within}
+use Rattle.krs_types.specs.{Name.same_name, declared.name.Name.Name}
 use Rattle.krs_types.proofs.Names.{equal_names}
-use Rattle.krs_links.proofs.LinksLemmas.{linked_last, IsUnique-linked}
+use Rattle.krs_links.specs.Links.{is_ring, IsUnique, link_put, LinkList, names, nested, place_of, serial_named, serials}
+use Rattle.krs_links.specs.{Links.unlinked, Lists.AreLists}
+use Rattle.krs_links.proofs.LinksLemmas.{IsUnique-linked, linked_last}
 
 find_at : {X : Type 0} (p : X → Bool) (xs : List X) (i : ℕ) (d : X) → i < length xs → p (get_or xs i d) ≡ true →
     ((k : ℕ) → k < i → p (get_or xs k d) ≡ false) → find p xs ≡ Some (get_or xs i d)

@@ -1,15 +1,10 @@
 -- The links of a keyring as they are kept: each under a number, which is what its name hashes to, or some steps more
 -- where that was taken.
-use Rattle.std.specs.Prelude.{◌≡◌, ◌≢◌, ℕ, zero, suc, ◌+◌, ◌<◌, ◌%◌, ◌^◌, List, [], ◌∷◌, map, nat_eq, false, Some}
+use Rattle.std.specs.Prelude.{[], ◌%◌, ◌+◌, ◌<◌, ◌^◌, ◌∷◌, ◌≡◌, ◌≢◌, false, List, map, nat_eq, Some, suc, zero, ℕ}
 use Rattle.std.specs.Map.{lookup}
-use Rattle.krs_types.specs.declared.name.Name.{Name}
-use Rattle.krs_types.specs.Name.{same_name}
-use Rattle.krs_links.specs.declared.seed.Seed.{Seed}
-use Rattle.krs_links.specs.declared.index.Link.{Link}
-use Rattle.krs_links.specs.declared.index.LinkIndex.{LinkIndex}
-use Rattle.krs_links.specs.Seeded.{name_digest}
-use Rattle.krs_links.specs.Links.{LinkList}
-use Rattle.krs_links.specs.Lists.{AreLists}
+use Rattle.krs_types.specs.{Name.same_name, declared.name.Name.Name}
+use Rattle.krs_links.specs.{Links.LinkList, Lists.AreLists, Seeded.name_digest, declared.index.Link.Link}
+use Rattle.krs_links.specs.declared.{index.LinkIndex.LinkIndex, seed.Seed.Seed}
 
 -- the name and the serial of an entry
 abbrev pub link_of : ℕ × Link → Name × ℕ

@@ -1,8 +1,6 @@
 -- The links of a keyring whose table may not have been made.
-use Rattle.std.specs.Prelude.{Box, Option, None, Some, []}
-use Rattle.std.specs.declared.alloc.Global.{Global}
-use Rattle.krs_links.specs.declared.table.LinkTable.{LinkTable}
-use Rattle.krs_links.specs.Links.{LinkList}
+use Rattle.std.specs.{Prelude.{[], Box, None, Option, Some}, declared.alloc.Global.Global}
+use Rattle.krs_links.specs.{Links.LinkList, declared.table.LinkTable.LinkTable}
 
 -- those of the table; none where there is no table
 abbrev pub links_kept : Option (Box LinkTable Global) → LinkList

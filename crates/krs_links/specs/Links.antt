@@ -1,15 +1,9 @@
 -- What a keyring links: keyrings(7), "Keyrings". Names and serials, in link order.
-use Rattle.std.specs.Prelude.{ℕ, ◌==◌, Bool, ◌&&◌, cond, not, nat_le, if◌then◌else◌, List, [], ◌∷◌, length, map}
-use Rattle.std.specs.Prelude.{filter, find, position, Option, is_none, flat_map}
-use Rattle.std.specs.Option.{option_map}
-use Rattle.std.specs.Int.{to_le_bytes, w32}
-use Rattle.std.specs.List.{IsDistinct, list_any}
-use Rattle.krs_types.specs.declared.kind.Kind.TheVariants.{Keyring}
-use Rattle.krs_types.specs.declared.name.Name.{Name}
-use Rattle.krs_types.specs.declared.errno.Errno.{Errno}
-use Rattle.krs_types.specs.declared.errno.Errno.TheVariants.{ENFILE, ENOMEM}
-use Rattle.krs_types.specs.Kind.{same_kind}
-use Rattle.krs_types.specs.Name.{same_name}
+use Rattle.std.specs.Prelude.{[], ◌&&◌, ◌==◌, ◌∷◌, Bool, cond, filter, find, flat_map, if◌then◌else◌, is_none, length}
+use Rattle.std.specs.Prelude.{List, map, nat_le, not, Option, option_map, position, ℕ}
+use Rattle.std.specs.{Int.{to_le_bytes, w32}, List.{IsDistinct, list_any}}
+use Rattle.krs_types.specs.{Kind.same_kind, Name.same_name, declared.errno.Errno.{Errno, TheVariants.{ENFILE, ENOMEM}}}
+use Rattle.krs_types.specs.declared.{kind.Kind.TheVariants.Keyring, name.Name.Name}
 
 -- names and serials, in link order
 abbrev pub LinkList : Type 0

@@ -1,6 +1,6 @@
 -- The two lists that a `Links` keeps.
-use Rattle.std.specs.Prelude.{◌≡◌, ℕ, ◌≤◌, List, length}
-use Rattle.krs_links.specs.Links.{LinkList, IsUnique, nested as nested_links, serials}
+use Rattle.std.specs.Prelude.{◌≡◌, ◌≤◌, length, List, ℕ}
+use Rattle.krs_links.specs.Links.{IsUnique, LinkList, nested as nested_links, serials}
 
 -- the links, and the serials of those to keyrings
 pub record AreLists (links : LinkList) (rings : List ℕ) : Type 0 where

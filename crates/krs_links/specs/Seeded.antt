@@ -1,12 +1,7 @@
 -- The hasher that a seed begins with, and what bytes and names hash to from it.
-use Rattle.std.specs.Prelude.{ℕ, List, [], ◌∷◌}
-use Rattle.std.specs.Hash.{le_bytes}
-use Rattle.std.specs.Hash.DefaultHasher.{initial, write, finish}
-use Rattle.std.specs.RandomState.{initial_hasher}
-use Rattle.std.specs.declared.hash.DefaultHasher.{DefaultHasher}
-use Rattle.std.specs.declared.hash.RandomState.{RandomState}
-use Rattle.krs_types.specs.declared.name.Name.{Name}
-use Rattle.krs_types.specs.Name.{kind_number}
+use Rattle.std.specs.{Prelude.{[], ◌∷◌, List, ℕ}, Hash.{le_bytes, DefaultHasher.{finish, initial, write}}}
+use Rattle.std.specs.{RandomState.initial_hasher, declared.hash.{DefaultHasher.DefaultHasher, RandomState.RandomState}}
+use Rattle.krs_types.specs.{Name.kind_number, declared.name.Name.Name}
 use Rattle.krs_links.specs.declared.seed.Seed.{Seed}
 
 -- SipHash with both keys 0, after the seed's two words

@@ -1,6 +1,6 @@
-ghost use Rattle.std.specs.Prelude.{◌≡◌, ◌≤◌, length, IfOk};
-ghost use Rattle.std.specs.Cmp.Rules.{comparing};
+ghost use Rattle.std.specs.Prelude.{◌≡◌, ◌≤◌, IfOk, length};
 ghost use Rattle.std.proofs.Common.{rules};
+ghost use Rattle.std.specs.Cmp.Rules.{comparing};
 ghost use Rattle.krs_types.specs.Name.{same_name};
 ghost use Rattle.krs_links.specs.Seeded.{name_digest};
 
@@ -19,8 +19,7 @@ pub struct NameHasher {
 
 impl Model for NameHasher {
     ghost use Rattle.std.specs.Prelude.{◌≡◌};
-    ghost use Rattle.krs_links.specs.declared.seed.Seed.{Seed};
-    ghost use Rattle.krs_links.specs.Seeded.{first_hasher};
+    ghost use Rattle.krs_links.specs.{Seeded.first_hasher, declared.seed.Seed.Seed};
 
     ghost Value = { Seed };
 

@@ -1,14 +1,12 @@
 //! The links of a keyring in link order, with an index from what their names hash to.
-ghost use Rattle.std.specs.Prelude.{◌≡◌, ◌≢◌, ◌<◌, ◌≤◌, ◌+◌, ◌^◌, [], ◌∷◌, ◌++◌, length, nat_eq, slice_get};
-ghost use Rattle.std.specs.Prelude.{None, Some, IfSome, IfNone, IsOk, IfOk, OnOk, OnErr, vec_len, vec_capacity};
-ghost use Rattle.std.specs.Int.{w32, to_le_bytes};
-ghost use Rattle.std.specs.List.{remove};
-ghost use Rattle.std.specs.Option.{option_copied};
+ghost use Rattle.std.specs.Prelude.{[], ◌++◌, ◌+◌, ◌<◌, ◌^◌, ◌∷◌, ◌≡◌, ◌≢◌, ◌≤◌, IfNone, IfOk, IfSome, IsOk, length};
+ghost use Rattle.std.specs.Prelude.{nat_eq, None, OnErr, OnOk, option_copied, remove, slice_get, Some, vec_capacity};
+ghost use Rattle.std.specs.Prelude.{vec_len};
 ghost use Rattle.indexmap.specs.IndexMap.{get, spare};
+ghost use Rattle.std.specs.Int.{to_le_bytes, w32};
+ghost use Rattle.krs_links.specs.Indexed.{behind, IsIndexed, linked, linked_in, LinksNot, StandsNot, with_serial_at};
+ghost use Rattle.krs_links.specs.Links.{bytes_of, IsUnique, names, place_of, serial_named, serials};
 ghost use Rattle.krs_links.specs.Seeded.{name_digest};
-ghost use Rattle.krs_links.specs.Links.{place_of, names, serials, serial_named, bytes_of, IsUnique};
-ghost use Rattle.krs_links.specs.Indexed.{linked, linked_in, behind, with_serial_at};
-ghost use Rattle.krs_links.specs.Indexed.{IsIndexed, StandsNot, LinksNot};
 
 use crate::{HashedName, Seed};
 use indexmap::IndexMap;

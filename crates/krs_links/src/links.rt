@@ -1,9 +1,7 @@
-ghost use Rattle.std.specs.Prelude.{◌≡◌, ◌≢◌, ◌≤◌, [], ◌∷◌, length, slice_get, false, IfOk, OnOk, IfErr, OnErr, IsOk, IsSome};
-ghost use Rattle.std.specs.Prelude.{Some, IfSome, IfNone};
-ghost use Rattle.std.specs.List.{remove};
-ghost use Rattle.std.specs.Option.{ok_or, option_copied};
-ghost use Rattle.krs_links.specs.Links.{serial_named, place_of, link_put, unlinked, nested, names, serials, bytes_of};
-ghost use Rattle.krs_links.specs.Links.{is_full, is_refused, link_error, IsUnique};
+ghost use Rattle.std.specs.Prelude.{[], ◌∷◌, ◌≡◌, ◌≢◌, ◌≤◌, false, IfErr, IfNone, IfOk, IfSome, IsOk, IsSome, length};
+ghost use Rattle.std.specs.Prelude.{ok_or, OnErr, OnOk, option_copied, remove, slice_get, Some};
+ghost use Rattle.krs_links.specs.Links.{bytes_of, is_full, is_refused, IsUnique, link_error, link_put, names, nested};
+ghost use Rattle.krs_links.specs.Links.{place_of, serial_named, serials, unlinked};
 
 use crate::table::LinkTable;
 use crate::{HashedName, Seed};
@@ -21,8 +19,7 @@ pub struct Links {
 }
 
 impl Model for Links {
-    ghost use Rattle.krs_links.specs.Links.{LinkList};
-    ghost use Rattle.krs_links.specs.Kept.{links_kept};
+    ghost use Rattle.krs_links.specs.{Kept.links_kept, Links.LinkList};
 
     ghost Value = { LinkList };
 

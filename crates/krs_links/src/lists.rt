@@ -1,12 +1,9 @@
 //! The two lists that a `Links` keeps, and what each change does to both.
-ghost use Rattle.std.specs.Prelude.{◌≡◌, ◌<◌, ◌≤◌, length, take, slice_get, None, IfNone, OnOk, OnErr};
-ghost use Rattle.std.specs.Prelude.{◌+◌, false, if◌then◌else◌};
-ghost use Rattle.std.specs.List.{remove};
-ghost use Rattle.krs_links.specs.Seeded.{name_digest};
-ghost use Rattle.krs_links.specs.Links.{serial_named, place_of, link_put, nested, serials, IsUnique};
-ghost use Rattle.krs_links.specs.Links.{is_refused};
-ghost use Rattle.krs_links.specs.Lists.{AreLists};
-ghost use Rattle.krs_links.specs.Indexed.{linked, IsIndexed, AreFound};
+ghost use Rattle.std.specs.Prelude.{◌+◌, ◌<◌, ◌≡◌, ◌≤◌, false, IfNone, if◌then◌else◌, length, None, OnErr, OnOk};
+ghost use Rattle.std.specs.Prelude.{remove, slice_get, take};
+ghost use Rattle.krs_links.specs.Indexed.{AreFound, IsIndexed, linked};
+ghost use Rattle.krs_links.specs.Links.{is_refused, IsUnique, link_put, nested, place_of, serial_named, serials};
+ghost use Rattle.krs_links.specs.{Lists.AreLists, Seeded.name_digest};
 
 use crate::HashedName;
 use crate::index::LinkIndex;

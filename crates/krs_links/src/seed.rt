@@ -1,6 +1,6 @@
-ghost use Rattle.std.specs.Prelude.{◌≡◌, ◌↔◌, IsTrue};
+ghost use Rattle.std.specs.Prelude.{◌↔◌, ◌≡◌, IsTrue};
 ghost use Rattle.krs_types.specs.Name.{kind_number};
-ghost use Rattle.krs_links.specs.Seeded.{first_hasher, random_seed, digest, name_digest};
+ghost use Rattle.krs_links.specs.Seeded.{digest, first_hasher, name_digest, random_seed};
 
 use krs_types::Name;
 use std::hash::{BuildHasher, DefaultHasher, Hash, Hasher, RandomState};

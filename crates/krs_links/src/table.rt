@@ -1,9 +1,7 @@
-ghost use Rattle.std.specs.Prelude.{◌≡◌, ◌≢◌, ◌≤◌, [], length, slice_get, false, Some, IfOk, OnOk, IfErr, OnErr, IsOk, IsSome};
-ghost use Rattle.std.specs.Prelude.{IfSome, IfNone};
-ghost use Rattle.std.specs.List.{remove};
-ghost use Rattle.std.specs.Option.{ok_or, option_copied};
-ghost use Rattle.krs_links.specs.Links.{serial_named, place_of, link_put, unlinked, nested, names, serials, bytes_of};
-ghost use Rattle.krs_links.specs.Links.{is_full, is_refused, link_error, IsUnique};
+ghost use Rattle.std.specs.Prelude.{[], ◌≡◌, ◌≢◌, ◌≤◌, false, IfErr, IfNone, IfOk, IfSome, IsOk, IsSome, length, ok_or};
+ghost use Rattle.std.specs.Prelude.{OnErr, OnOk, option_copied, remove, slice_get, Some};
+ghost use Rattle.krs_links.specs.Links.{bytes_of, is_full, is_refused, IsUnique, link_error, link_put, names, nested};
+ghost use Rattle.krs_links.specs.Links.{place_of, serial_named, serials, unlinked};
 
 use crate::index::LinkIndex;
 use crate::{HashedName, Seed, lists};
@@ -23,8 +21,7 @@ pub(crate) struct LinkTable {
 }
 
 impl Model for LinkTable {
-    ghost use Rattle.krs_links.specs.Links.{LinkList};
-    ghost use Rattle.krs_links.specs.Indexed.{linked, AreFound};
+    ghost use Rattle.krs_links.specs.{Indexed.{AreFound, linked}, Links.LinkList};
 
     ghost Value = { LinkList };
 

@@ -1,16 +1,14 @@
 -- The options and the numbers that arguments give.
-use Rattle.std.proofs.Common.{◌≡◌, ◌<◌, ◌≤◌, ◌↔◌, ℕ, List, Option, Some, None, Result, codes, inl, inr, rules, ◌∙◌, refl, subst, sym, true≢false}
-use Rattle.std.specs.Prelude.{IsSome, IfSome, IfOk, IfErr, OnErr, Ok, Err, string_bytes}
-use Rattle.std.specs.Str.Parse.{ParsesUnsigned}
-use Rattle.clap.specs.Words.{Kinds, HasKind, FailsBy, ReadsOne, fault_of, first_value, kind_of, one_text}
+use Rattle.std.proofs.Common.{◌<◌, ◌↔◌, ◌∙◌, ◌≡◌, ◌≤◌, codes, Err, IfErr, IfOk, IfSome, inl, inr, IsSome, List, None}
+use Rattle.std.proofs.Common.{Ok, OnErr, Option, refl, Result, rules, Some, string_bytes, subst, sym, true≢false, ℕ}
+use Rattle.clap.specs.Words.{FailsBy, fault_of, first_value, HasKind, kind_of, Kinds, one_text, ReadsOne}
 use Rattle.clap.specs.declared.error.Error.{Error}
 use Rattle.clap.specs.declared.error.kind.ErrorKind.TheVariants.{DisplayHelp, DisplayVersion, OutOfMemory}
 use Rattle.clap.specs.declared.parser.matches.Found.{Found}
+use Rattle.std.specs.Str.Parse.{ParsesUnsigned}
+use Rattle.krs_listen.specs.{Choice.{choice_by, LeadsTo, Tells}, CommandLine.{daemon, Gives, IsGiven, Spells}}
+use Rattle.krs_listen.specs.declared.choice.Choice.{Choice, TheVariants.{Memory, Refused, Serve, Shown, Usage}}
 use Rattle.krs_listen.specs.declared.options.Options.{Options}
-use Rattle.krs_listen.specs.declared.choice.Choice.{Choice}
-use Rattle.krs_listen.specs.declared.choice.Choice.TheVariants.{Serve, Usage, Memory, Shown, Refused}
-use Rattle.krs_listen.specs.Choice.{LeadsTo, Tells, choice_by}
-use Rattle.krs_listen.specs.CommandLine.{IsGiven, Gives, Spells, daemon}
 
 -- what `get_one` reads of a text is the number that it is
 pub is_given : {E : Type 0} (gives : List ℕ → Result ℕ E → Type 0) (text : Option (List ℕ)) (number : Option ℕ)

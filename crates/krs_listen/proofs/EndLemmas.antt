@@ -1,7 +1,6 @@
 -- The ends of a daemon.
-use Rattle.std.proofs.Common.{ℕ, inl, inr}
-use Rattle.krs_listen.specs.Saying.{Heard}
-use Rattle.krs_listen.specs.Daemon.{Ends, EndsAs}
+use Rattle.std.proofs.Common.{inl, inr, ℕ}
+use Rattle.krs_listen.specs.{Daemon.{Ends, EndsAs}, Saying.Heard}
 
 -- whatever its acceptor counted, that is one of the daemon's ends
 pub ends_as : (connections accepted failures : ℕ) (old new old_errors new_errors : Heard) (status : ℕ)

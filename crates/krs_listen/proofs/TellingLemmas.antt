@@ -1,5 +1,5 @@
 -- A text for which there was no memory.
-use Rattle.std.proofs.Common.{◌≡◌, ℕ, true, List, inr, refl, sym, subst}
+use Rattle.std.proofs.Common.{◌≡◌, inr, List, refl, subst, sym, true, ℕ}
 use Rattle.krs_words.specs.Saying.{Heard, Says}
 use Rattle.krs_words.proofs.WritingLemmas.{WritesFront-nil}
 

@@ -1,7 +1,6 @@
 -- What an acceptor over a socket shows: its counts; which of its failures pass; and how many seats there are.
-use Rattle.std.specs.Prelude.{ℕ, ℤ, pos, negsuc, Bool, false, Option, None, Some, ◌==◌, ◌||◌}
-use Rattle.krs_listen.specs.declared.acceptor.SocketAcceptor.{SocketAcceptor}
-use Rattle.krs_listen.specs.declared.free.FreeSeats.{FreeSeats}
+use Rattle.std.specs.Prelude.{◌==◌, ◌||◌, Bool, false, negsuc, None, Option, pos, Some, ℕ, ℤ}
+use Rattle.krs_listen.specs.declared.{acceptor.SocketAcceptor.SocketAcceptor, free.FreeSeats.FreeSeats}
 
 -- how many connections it accepted, and how many accepts failed
 abbrev pub accepted_by : {R F : Type 0} → SocketAcceptor R F → ℕ

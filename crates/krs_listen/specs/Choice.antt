@@ -1,15 +1,13 @@
 -- What the daemon does, by its words: keyretaind(8), "DESCRIPTION".
-use Rattle.std.specs.Prelude.{◌≡◌, ◌≢◌, ◌⊎◌, ⊤, ℕ, List, [], Option, Some, None, codes, string_bytes}
+use Rattle.std.specs.Prelude.{[], ⊤, ◌≡◌, ◌≢◌, ◌⊎◌, codes, List, None, Option, Some, string_bytes, ℕ}
+use Rattle.clap.specs.Words.{fault_of, IsAmong}
+use Rattle.clap.specs.declared.error.kind.ErrorKind.{ErrorKind, TheVariants.{DisplayHelp, DisplayVersion}}
+use Rattle.clap.specs.declared.error.kind.ErrorKind.TheVariants.{MissingRequiredArgument, OutOfMemory, ValueValidation}
+use Rattle.krs_listen.specs.CommandLine.{daemon, Spells}
+use Rattle.krs_listen.specs.declared.choice.Choice.{Choice, TheVariants.{Memory, Refused, Serve, Shown, Usage}}
+use Rattle.krs_listen.specs.declared.options.Options.{Options}
 use Rattle.std.specs.declared.io.ErrorKind as io
 use Rattle.std.specs.declared.io.ErrorKind.TheVariants as io_kind
-use Rattle.clap.specs.declared.error.kind.ErrorKind.{ErrorKind}
-use Rattle.clap.specs.declared.error.kind.ErrorKind.TheVariants.{DisplayHelp, DisplayVersion, OutOfMemory}
-use Rattle.clap.specs.declared.error.kind.ErrorKind.TheVariants.{MissingRequiredArgument, ValueValidation}
-use Rattle.krs_listen.specs.declared.choice.Choice.{Choice}
-use Rattle.krs_listen.specs.declared.choice.Choice.TheVariants.{Serve, Usage, Memory, Shown, Refused}
-use Rattle.krs_listen.specs.declared.options.Options.{Options}
-use Rattle.clap.specs.Words.{IsAmong, fault_of}
-use Rattle.krs_listen.specs.CommandLine.{Spells, daemon}
 
 -- what is told behind the text of an error of the reader of options: which numbers, and which path, are wanted
 abbrev pub wanted_text : ErrorKind → List ℕ

@@ -1,5 +1,5 @@
 -- What a clock answers that keeps its last answer.
-use Rattle.std.specs.Prelude.{◌≡◌, ◌≤◌, ℕ, List, [], ◌∷◌, ◌++◌, refl}
+use Rattle.std.specs.Prelude.{[], ◌++◌, ◌∷◌, ◌≡◌, ◌≤◌, List, refl, ℕ}
 use Rattle.std.proofs.Common.{subst, sym}
 use Rattle.krs_listen.specs.declared.clock.DaemonClock.{DaemonClock}
 

@@ -1,14 +1,12 @@
 -- Which options the words of the daemon spell: keyretaind(8), "SYNOPSIS" and "DESCRIPTION". `matches_of` says what
 -- `clap` finds in words for a command line.
-use Rattle.std.specs.Prelude.{◌≡◌, ◌⊎◌, ◌<◌, ◌≤◌, ◌^◌, ℕ, List, [], ◌∷◌, Option, Some, None, IfSome}
-use Rattle.std.specs.Prelude.{codes, string_bytes, pos, true}
-use Rattle.std.specs.Str.Parse.{IsNumeral, digits_value, without_leading_plus}
-use Rattle.clap.specs.Words.{App, Rule, found_of, rows_of, matches_of, new_app, new_rule, with_rule}
-use Rattle.clap.specs.Words.{first_value, one_text}
-use Rattle.clap.specs.declared.parser.matches.Found.{Found}
-use Rattle.clap.specs.declared.parser.matches.ArgMatches.{ArgMatches}
-use Rattle.clap.specs.declared.builder.value_parser.ValueParser.TheVariants as parser
+use Rattle.std.specs.Prelude.{[], ◌<◌, ◌^◌, ◌∷◌, ◌≡◌, ◌≤◌, ◌⊎◌, codes, IfSome, List, None, Option, pos, Some}
+use Rattle.std.specs.Prelude.{string_bytes, true, ℕ}
+use Rattle.clap.specs.Words.{App, first_value, found_of, matches_of, new_app, new_rule, one_text, rows_of, Rule}
+use Rattle.clap.specs.{Words.with_rule, declared.parser.matches.{ArgMatches.ArgMatches, Found.Found}}
+use Rattle.std.specs.Str.Parse.{digits_value, IsNumeral, without_leading_plus}
 use Rattle.krs_listen.specs.declared.options.Options.{Options}
+use Rattle.clap.specs.declared.builder.value_parser.ValueParser.TheVariants as parser
 
 -- `--socket PATH`, which must be there; `--lanes L`, 1 to 256, and 16 where it isn't there; `--accept N`
 abbrev pub socket_rule : Rule

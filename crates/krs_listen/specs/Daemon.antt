@@ -1,12 +1,8 @@
 -- What the daemon prints and answers: keyretaind(8), "DESCRIPTION" and "EXIT STATUS".
-use Rattle.std.specs.Prelude.{ℕ, ◌≡◌, ◌+◌, ◌<◌, ◌⊎◌, ◌++◌, List, Option, Some, None, codes, string_bytes}
-use Rattle.std.specs.Fmt.{decimal}
-use Rattle.krs_listen.specs.Saying.{Heard, Says}
-use Rattle.krs_listen.specs.Telling.{TellsOf, not_text}
-use Rattle.krs_listen.specs.declared.choice.Choice.{Choice}
-use Rattle.krs_listen.specs.declared.choice.Choice.TheVariants.{Serve, Usage, Memory, Shown, Refused}
-use Rattle.krs_listen.specs.declared.acceptor.Accepted.{Accepted}
+use Rattle.std.specs.Prelude.{◌++◌, ◌+◌, ◌<◌, ◌≡◌, ◌⊎◌, codes, decimal, List, None, Option, Some, string_bytes, ℕ}
+use Rattle.krs_listen.specs.{Saying.{Heard, Says}, Telling.{not_text, TellsOf}, declared.acceptor.Accepted.Accepted}
 use Rattle.krs_listen.specs.declared.acceptor.Accepted.TheVariants.{All, Failed}
+use Rattle.krs_listen.specs.declared.choice.Choice.{Choice, TheVariants.{Memory, Refused, Serve, Shown, Usage}}
 use Rattle.krs_listen.specs.declared.options.Options.{Options}
 
 -- what it prints once clients can connect

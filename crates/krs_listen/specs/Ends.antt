@@ -1,7 +1,5 @@
 -- The two ends of a connection that was accepted.
-use Rattle.krs_listen.specs.declared.ends.SocketEnds.{SocketEnds}
-use Rattle.krs_listen.specs.declared.ends.SocketReader.{SocketReader}
-use Rattle.krs_listen.specs.declared.ends.SocketWriter.{SocketWriter}
+use Rattle.krs_listen.specs.declared.ends.{SocketEnds.SocketEnds, SocketReader.SocketReader, SocketWriter.SocketWriter}
 
 -- where its bytes come from, and where its replies go
 abbrev pub reader_of : SocketEnds → SocketReader

@@ -1,8 +1,6 @@
 -- What is told on standard error where the daemon doesn't serve: keyretaind(8), "EXIT STATUS".
-use Rattle.std.specs.Prelude.{ℕ, ℤ, pos, negsuc, ◌≡◌, ◌++◌, ◌==◌, if◌then◌else◌, List, [], codes, Option, None, Some}
-use Rattle.krs_listen.specs.Saying.{Heard, Says}
-use Rattle.krs_listen.specs.declared.acceptor.Accepted.{Accepted}
-use Rattle.krs_listen.specs.declared.acceptor.Accepted.TheVariants.{All, Failed}
+use Rattle.std.specs.Prelude.{[], ◌++◌, ◌==◌, ◌≡◌, codes, if◌then◌else◌, List, negsuc, None, Option, pos, Some, ℕ, ℤ}
+use Rattle.krs_listen.specs.{Saying.{Heard, Says}, declared.acceptor.Accepted.{Accepted, TheVariants.{All, Failed}}}
 
 -- where the words are no text
 abbrev pub not_text : List ℕ

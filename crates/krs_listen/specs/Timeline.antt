@@ -1,5 +1,5 @@
 -- The daemon's time by readings of two clocks, in milliseconds: profile, server's clock.
-use Rattle.std.specs.Prelude.{ℕ, ◌+◌, ◌-◌, ◌^◌, ◌&&◌, max, min, nat_le, if◌then◌else◌, Option, None, Some}
+use Rattle.std.specs.Prelude.{◌&&◌, ◌+◌, ◌-◌, ◌^◌, if◌then◌else◌, max, min, nat_le, None, Option, Some, ℕ}
 use Rattle.krs_listen.specs.declared.timeline.Timeline.{Timeline}
 
 -- what the wall clock has gone on by since the clocks were compared: nothing where it was set back

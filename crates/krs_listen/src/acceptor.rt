@@ -1,6 +1,5 @@
-ghost use Rattle.std.specs.Prelude.{◌≡◌, ◌<◌, ◌+◌, ◌↔◌, IfSome, IfNone, IsTrue, if◌then◌else◌};
-ghost use Rattle.std.specs.Duration.{as_nanos};
-ghost use Rattle.std.specs.IoError.{raw_os_error};
+ghost use Rattle.std.specs.Prelude.{◌+◌, ◌<◌, ◌↔◌, ◌≡◌, IfNone, IfSome, if◌then◌else◌, IsTrue};
+ghost use Rattle.std.specs.{Duration.as_nanos, IoError.raw_os_error};
 ghost use Rattle.krs_listen.specs.Accepting.{accepted_by, failed_at, is_passing};
 
 use crate::SocketEnds;

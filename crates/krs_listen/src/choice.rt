@@ -1,10 +1,10 @@
-ghost use Rattle.std.specs.Prelude.{◌≡◌, IfOk, IfErr, OnErr, ℕ, List, Option, Some, option_map, map, false, string_bytes};
-ghost use Rattle.std.specs.IoError.{error_kind};
-ghost use Rattle.std.specs.Vec.Iter.{into_iter_items};
-ghost use Rattle.clap.specs.Words.{FailsBy, kind_of, fault_of, found_of, app_of, new_rule, rule_of};
+ghost use Rattle.std.specs.Prelude.{◌≡◌, false, IfErr, IfOk, List, map, OnErr, Option, option_map, Some, string_bytes};
+ghost use Rattle.std.specs.Prelude.{ℕ};
+ghost use Rattle.clap.specs.Words.{app_of, FailsBy, fault_of, found_of, kind_of, new_rule, rule_of};
+ghost use Rattle.std.specs.{IoError.error_kind, Vec.Iter.into_iter_items};
+ghost use Rattle.krs_listen.specs.Choice.{choice_by, IsUnread, LeadsTo, Tells, wanted_text};
+ghost use Rattle.krs_listen.specs.CommandLine.{accept_rule, daemon, Gives, lanes_rule, socket_rule, Spells};
 ghost use Rattle.krs_listen.specs.declared.choice.Choice.TheVariants.{Memory};
-ghost use Rattle.krs_listen.specs.Choice.{IsUnread, Tells, LeadsTo, choice_by, wanted_text};
-ghost use Rattle.krs_listen.specs.CommandLine.{Gives, Spells, daemon, socket_rule, lanes_rule, accept_rule};
 
 use crate::options::Options;
 use clap::error::ErrorKind;

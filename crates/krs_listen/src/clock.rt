@@ -1,8 +1,6 @@
-ghost use Rattle.std.specs.Prelude.{◌≡◌, ◌⊎◌, ◌↔◌, ◌*◌, ◌/◌, ◌<◌, ◌≤◌, ◌+◌, ◌^◌, ◌-◌, min, Some, None, IfSome, IsTrue};
-ghost use Rattle.std.specs.Prelude.{IsSome, IfNone};
-ghost use Rattle.std.specs.Duration.{as_nanos};
-ghost use Rattle.krs_listen.specs.Clock.{last_of};
-ghost use Rattle.krs_listen.specs.Timeline.{after, begun, time_at};
+ghost use Rattle.std.specs.Prelude.{◌*◌, ◌+◌, ◌-◌, ◌/◌, ◌<◌, ◌^◌, ◌↔◌, ◌≡◌, ◌≤◌, ◌⊎◌, IfNone, IfSome, IsSome, IsTrue};
+ghost use Rattle.std.specs.{Prelude.{min, None, Some}, Duration.as_nanos};
+ghost use Rattle.krs_listen.specs.{Clock.last_of, Timeline.{after, begun, time_at}};
 
 use crate::Timeline;
 use std::sync::atomic::{AtomicU64, Ordering};

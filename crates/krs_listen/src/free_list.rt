@@ -1,5 +1,5 @@
 //! What is free of so many seats, and what that tells of the others. It knows no lock, so its clauses are exact.
-ghost use Rattle.std.specs.Prelude.{◌≡◌, ◌<◌, ◌+◌, ◌↔◌, IsTrue, vec_len};
+ghost use Rattle.std.specs.Prelude.{◌+◌, ◌<◌, ◌↔◌, ◌≡◌, IsTrue, vec_len};
 
 /// A list of what is free, of so many in all.
 #[derive(Drop)]

@@ -1,8 +1,6 @@
 //! Why the daemon doesn't serve, told on standard error with what to do.
-ghost use Rattle.std.specs.Prelude.{◌≡◌, ℕ, List, IfOk, string_bytes};
-ghost use Rattle.std.specs.IoError.{raw_os_error};
-ghost use Rattle.krs_listen.specs.Saying.{heard};
-ghost use Rattle.krs_listen.specs.Telling.{TellsFailure, TellsWhy, cause_text, next_text};
+ghost use Rattle.std.specs.{Prelude.{◌≡◌, IfOk, List, string_bytes, ℕ}, IoError.raw_os_error};
+ghost use Rattle.krs_listen.specs.{Saying.heard, Telling.{cause_text, next_text, TellsFailure, TellsWhy}};
 
 use crate::{Accepted, Voice};
 use std::alloc::{AllocError, Global};

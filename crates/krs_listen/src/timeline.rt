@@ -1,5 +1,5 @@
 ghost use Rattle.std.specs.Prelude.{◌≡◌};
-ghost use Rattle.krs_listen.specs.Timeline.{time_at, after, starting};
+ghost use Rattle.krs_listen.specs.Timeline.{after, starting, time_at};
 
 /// By how many milliseconds the clocks may come apart before they are compared anew.
 const APART: u64 = 1000;

@@ -1,7 +1,6 @@
 -- What a caller may do with a key: keyrings(7), "Possession" and "Access rights".
-use Rattle.std.specs.Prelude.{ℕ, ◌&&◌, Bool, false, not, Option, None, Some, nat_le}
-use Rattle.krs_types.specs.declared.caller.Caller.{Caller}
-use Rattle.krs_types.specs.Perm.{granted}
+use Rattle.std.specs.Prelude.{◌&&◌, Bool, false, nat_le, None, not, Option, Some, ℕ}
+use Rattle.krs_types.specs.{Perm.granted, declared.caller.Caller.Caller}
 use Rattle.krs_model.specs.State.{Key}
 
 -- the time is over: from its second on. Profile, at the moment itself

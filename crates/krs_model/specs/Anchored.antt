@@ -1,9 +1,6 @@
 -- Which keys may stay where each tells no more than what anchors it: keyrings(7), "Anchoring keys".
-use Rattle.std.specs.Prelude.{◌≡◌, ◌⊎◌, ℕ, List, Bool, true, IsSome}
-use Rattle.krs_model.specs.Table.{Table, at}
-use Rattle.krs_model.specs.State.{Key}
-use Rattle.krs_model.specs.Levels.{is_in}
-use Rattle.krs_model.specs.Reach.{links_of_key_at}
+use Rattle.std.specs.Prelude.{◌≡◌, ◌⊎◌, Bool, IsSome, List, true, ℕ}
+use Rattle.krs_model.specs.{Levels.is_in, Reach.links_of_key_at, State.Key, Table.{at, Table}}
 
 -- attached, or linked by a key that stays
 abbrev pub IsAnchored : Table Key → List ℕ → (ℕ → Bool) → ℕ → Type 0

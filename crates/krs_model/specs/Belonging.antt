@@ -1,16 +1,10 @@
 -- Whose contexts are, and what is left of a client that has left: profile, believed caller; profile, leaving. The form
 -- is this project's own.
-use Rattle.std.specs.Prelude.{◌≡◌, ◌≢◌, ℕ, List, [], ◌∷◌, ◌++◌, Bool, true, false, Some, IsOk}
-use Rattle.krs_types.specs.declared.caller.Caller.{Caller}
-use Rattle.krs_types.specs.declared.context.Context.{Context}
+use Rattle.std.specs.Prelude.{[], ◌++◌, ◌∷◌, ◌≡◌, ◌≢◌, Bool, false, IsOk, List, Some, true, ℕ}
 use Rattle.krs_types.specs.declared.ask.Op.TheVariants.{Hello, Leave}
-use Rattle.krs_types.specs.declared.event.Event.{Event}
-use Rattle.krs_model.specs.Table.{at}
-use Rattle.krs_model.specs.State.{State, Queue, starting_at}
-use Rattle.krs_model.specs.Step.{Step}
-use Rattle.krs_model.specs.History.{IsLegal}
-use Rattle.krs_model.specs.Revocation.{Reads}
+use Rattle.krs_types.specs.declared.{caller.Caller.Caller, context.Context.Context, event.Event.Event}
 use Rattle.krs_model.specs.Confidentiality.{KeepsPrivate}
+use Rattle.krs_model.specs.{History.IsLegal, Revocation.Reads, State.{Queue, starting_at, State}, Step.Step, Table.at}
 
 -- no context and no queue of the store is the client's
 pub record HasNothing (client : ℕ) (s : State) : Type 0 where

@@ -1,28 +1,15 @@
 -- Which keys a user has to itself, when one of them is given away, and what nobody else does to them: keyrings(7),
 -- "Possession" and "Access rights". The form is this project's own.
-use Rattle.std.specs.Prelude.{◌≡◌, ◌≢◌, ◌<◌, ℕ, ℤ, ◌==◌, ◌&&◌, ◌||◌, nat_le, nat_lt, List, [], ◌∷◌, ◌++◌, Bool, true, false}
-use Rattle.std.specs.Prelude.{◌⊎◌, Some, Ok, if◌then◌else◌, flat_map}
-use Rattle.std.specs.Option.{option_to_list, option_map}
-use Rattle.krs_types.specs.declared.context.Context.{Context}
-use Rattle.krs_types.specs.declared.context.UidRings.{UidRings}
-use Rattle.krs_types.specs.declared.ask.Op.{Op}
-use Rattle.krs_types.specs.declared.ask.Op.TheVariants.{Search, Request, Chown, SetPerm, Link, Move, Invalidate, Leave}
-use Rattle.krs_types.specs.declared.ask.Op.TheVariants.{Hello, GetId, Join, Add}
-use Rattle.krs_types.specs.declared.event.Event.{Event}
-use Rattle.krs_types.specs.Perm.{group_byte, other_byte}
+use Rattle.std.specs.Prelude.{[], ◌&&◌, ◌++◌, ◌<◌, ◌==◌, ◌||◌, ◌∷◌, ◌≡◌, ◌≢◌, ◌⊎◌, Bool, false, flat_map, if◌then◌else◌}
+use Rattle.std.specs.Prelude.{List, nat_le, nat_lt, Ok, option_map, option_to_list, Some, true, ℕ, ℤ}
 use Rattle.krs_types.specs.Growth.{has_destination}
-use Rattle.krs_model.specs.Table.{Table, at}
-use Rattle.krs_model.specs.State.{State, Key}
-use Rattle.krs_model.specs.Levels.{is_in}
-use Rattle.krs_model.specs.Lookup.{context_of, serial_of}
-use Rattle.krs_model.specs.Making.{made_for}
-use Rattle.krs_model.specs.Reach.{links_of_key_at}
-use Rattle.krs_model.specs.Asks.Linked.{without_link}
-use Rattle.krs_model.specs.Step.{Step}
-use Rattle.krs_model.specs.History.{IsLegal}
-use Rattle.krs_model.specs.Revocation.{IsServed, Reads}
-use Rattle.krs_model.specs.Hiding.{Hiding, Hides}
-use Rattle.krs_model.specs.Secrecy.{AreAskedAlike, IsShown, replies_to}
+use Rattle.krs_types.specs.{Perm.{group_byte, other_byte}, declared.ask.Op.{Op, TheVariants.{Add, Chown, GetId, Hello}}}
+use Rattle.krs_types.specs.declared.ask.Op.TheVariants.{Invalidate, Join, Leave, Link, Move, Request, Search, SetPerm}
+use Rattle.krs_types.specs.declared.{context.{Context.Context, UidRings.UidRings}, event.Event.Event}
+use Rattle.krs_model.specs.{Asks.Linked.without_link, Hiding.{Hides, Hiding}, History.IsLegal, Levels.is_in}
+use Rattle.krs_model.specs.{Lookup.{context_of, serial_of}, Making.made_for, Reach.links_of_key_at}
+use Rattle.krs_model.specs.{Revocation.{IsServed, Reads}, Secrecy.{AreAskedAlike, IsShown, replies_to}}
+use Rattle.krs_model.specs.{State.{Key, State}, Step.Step, Table.{at, Table}}
 
 -- the key is this uid's, and its mask gives nothing to its group and nothing to the others, as that of each new key
 abbrev pub is_own : ℕ → Key → Bool

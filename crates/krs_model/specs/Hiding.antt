@@ -1,23 +1,13 @@
 -- Stores, asks, replies and histories whose payloads are hidden: what is left of them where a payload may not be seen.
 -- After J. A. Goguen and J. Meseguer, "Security Policies and Security Models", 1982: noninterference, with READ as the
 -- one declassifier; keyctl(2), KEYCTL_READ.
-use Rattle.std.specs.Prelude.{◌≡◌, ℕ, List, [], ◌∷◌, Bool, Option, None, Some, Result, Ok, Err, nat_le, ◌&&◌}
-use Rattle.std.specs.Prelude.{if◌then◌else◌, length}
-use Rattle.krs_types.specs.declared.errno.Errno.{Errno}
-use Rattle.krs_types.specs.declared.kind.Kind.{Kind}
-use Rattle.krs_types.specs.declared.kind.Kind.TheVariants.{User, Logon, Keyring}
-use Rattle.krs_types.specs.declared.ask.Answer.{Answer}
-use Rattle.krs_types.specs.declared.ask.Answer.TheVariants.{Nothing, Number, Bytes}
-use Rattle.krs_types.specs.declared.ask.Op.{Op}
-use Rattle.krs_types.specs.declared.ask.Op.TheVariants.{Add, Update, Read}
-use Rattle.krs_types.specs.declared.event.Event.{Event}
-use Rattle.krs_types.specs.Kind.{paid}
-use Rattle.krs_model.specs.Table.{Table, at}
-use Rattle.krs_model.specs.State.{State, Key, Content, Payload, Links, raised}
-use Rattle.krs_model.specs.Outcome.{Outcome}
-use Rattle.krs_model.specs.Asks.Adding.{add}
-use Rattle.krs_model.specs.Step.{Step}
-use Rattle.krs_model.specs.Notes.Telling.{named}
+use Rattle.std.specs.Prelude.{[], ◌&&◌, ◌∷◌, ◌≡◌, Bool, Err, if◌then◌else◌, length, List, nat_le, None, Ok, Option}
+use Rattle.std.specs.Prelude.{Result, Some, ℕ}
+use Rattle.krs_types.specs.{Kind.paid, declared.ask.Answer.{Answer, TheVariants.{Bytes, Nothing, Number}}}
+use Rattle.krs_types.specs.declared.{ask.Op.{Op, TheVariants.{Add, Read, Update}}, errno.Errno.Errno, event.Event.Event}
+use Rattle.krs_types.specs.declared.kind.Kind.{Kind, TheVariants.{Keyring, Logon, User}}
+use Rattle.krs_model.specs.{Asks.Adding.add, Notes.Telling.named, Outcome.Outcome}
+use Rattle.krs_model.specs.{State.{Content, Key, Links, Payload, raised, State}, Step.Step, Table.{at, Table}}
 
 -- what a payload is hidden as, by the serial of its key; that of a refused ADD, which has no key, by the serial 0
 abbrev pub Hiding : Type 0

@@ -1,12 +1,8 @@
 -- What a store may have gone through: lists of events, each a step from the state that the one before it left.
 -- The form is this project's own.
-use Rattle.std.specs.Prelude.{◌≡◌, ℕ, List, [], ◌∷◌, Result}
-use Rattle.krs_types.specs.declared.ask.Ask.{Ask}
-use Rattle.krs_types.specs.declared.ask.Answer.{Answer}
-use Rattle.krs_types.specs.declared.errno.Errno.{Errno}
-use Rattle.krs_types.specs.declared.event.Event.{Event}
-use Rattle.krs_model.specs.State.{State}
-use Rattle.krs_model.specs.Step.{Step}
+use Rattle.std.specs.Prelude.{[], ◌∷◌, ◌≡◌, List, Result, ℕ}
+use Rattle.krs_types.specs.declared.{ask.{Answer.Answer, Ask.Ask}, errno.Errno.Errno, event.Event.Event}
+use Rattle.krs_model.specs.{State.State, Step.Step}
 
 -- an ask of a client at a moment, and its reply
 abbrev pub event_of : ℕ → ℕ → Ask → Result Answer Errno → Event

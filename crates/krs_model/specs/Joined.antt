@@ -1,15 +1,10 @@
 -- Which keyring JOIN with a name makes a context's session keyring: keyctl(2), KEYCTL_JOIN_SESSION_KEYRING; profile,
 -- joining by name.
-use Rattle.std.specs.Prelude.{◌≡◌, ◌⊎◌, ℕ, ◌≤◌, List, true, false, Some}
-use Rattle.krs_types.specs.declared.kind.Kind.TheVariants.{Keyring}
-use Rattle.krs_types.specs.declared.context.Context.{Context}
-use Rattle.krs_types.specs.declared.ask.Answer.{Answer}
-use Rattle.krs_types.specs.declared.ask.Answer.TheVariants.{Number}
-use Rattle.krs_types.specs.Rights.{has_all, SEARCH}
-use Rattle.krs_model.specs.Table.{Table, at, put, alter}
-use Rattle.krs_model.specs.State.{State, Key}
+use Rattle.std.specs.Prelude.{◌≡◌, ◌≤◌, ◌⊎◌, false, List, Some, true, ℕ}
+use Rattle.krs_types.specs.{Rights.{has_all, SEARCH}, declared.ask.Answer.{Answer, TheVariants.Number}}
+use Rattle.krs_types.specs.declared.{context.Context.Context, kind.Kind.TheVariants.Keyring}
 use Rattle.krs_model.specs.Access.{is_alive, rights_on}
-use Rattle.krs_model.specs.Asks.Joining.{session_ring, session_to}
+use Rattle.krs_model.specs.{Asks.Joining.{session_ring, session_to}, State.{Key, State}, Table.{alter, at, put, Table}}
 
 -- an alive keyring of that description, which JOIN made, and which grants SEARCH by the user, group or other byte
 pub record MayBeJoined (s : State) (c : Context) (name : List ℕ) (serial : ℕ) : Type 0 where

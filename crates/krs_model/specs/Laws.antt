@@ -1,26 +1,15 @@
 -- What the laws say of the definitions, in a form of this project's own: keyrings(7), "Possession", "Access rights"
 -- and "Searching for keys"; request_key(2); keyctl(2), KEYCTL_LINK, "EDEADLK"; profile, whole records.
-use Rattle.std.specs.Prelude.{◌≡◌, ◌≢◌, ◌<◌, ◌≤◌, ℕ, List, [], ◌∷◌, Bool, true, false, ◌⊎◌, Some, Result, Ok, Err}
-use Rattle.std.specs.Prelude.{slice_get}
-use Rattle.krs_types.specs.declared.caller.Caller.{Caller}
-use Rattle.krs_types.specs.declared.context.Context.{Context}
-use Rattle.krs_types.specs.declared.errno.Errno.{Errno}
-use Rattle.krs_types.specs.declared.errno.Errno.TheVariants.{ENOKEY, EKEYREVOKED, EKEYEXPIRED, EACCES}
-use Rattle.krs_types.specs.declared.name.Name.{Name}
-use Rattle.krs_types.specs.declared.note.Record.{Record}
-use Rattle.krs_types.specs.declared.ask.Answer.{Answer}
-use Rattle.krs_types.specs.declared.ask.Answer.TheVariants.{Bytes}
-use Rattle.krs_types.specs.Caller.{is_of_group}
-use Rattle.krs_types.specs.Perm.{user_byte, group_byte, other_byte}
-use Rattle.krs_model.specs.Table.{at}
-use Rattle.krs_model.specs.State.{State, Queue}
-use Rattle.krs_model.specs.Queues.{queue_of}
-use Rattle.krs_model.specs.Notes.Bytes.{bytes_of_all}
-use Rattle.krs_model.specs.Notes.Front.{IsLongestFront}
-use Rattle.krs_model.specs.Levels.{level, search_depth, is_in}
-use Rattle.krs_model.specs.Possession.{attached, followed_in, possessed}
-use Rattle.krs_model.specs.Reach.{Reaches}
-use Rattle.krs_model.specs.Search.{Searcher, entered, is_answer, is_revoked, is_expired, is_denied, or_next}
+use Rattle.std.specs.Prelude.{[], ◌<◌, ◌∷◌, ◌≡◌, ◌≢◌, ◌≤◌, ◌⊎◌, Bool, Err, false, List, Ok, Result, slice_get, Some}
+use Rattle.std.specs.Prelude.{true, ℕ}
+use Rattle.krs_types.specs.{Caller.is_of_group, Perm.{group_byte, other_byte, user_byte}, declared.ask.Answer.Answer}
+use Rattle.krs_types.specs.declared.{ask.Answer.TheVariants.Bytes, caller.Caller.Caller, context.Context.Context}
+use Rattle.krs_types.specs.declared.errno.Errno.{Errno, TheVariants.{EACCES, EKEYEXPIRED, EKEYREVOKED, ENOKEY}}
+use Rattle.krs_types.specs.declared.{name.Name.Name, note.Record.Record}
+use Rattle.krs_model.specs.{Levels.{is_in, level, search_depth}, Notes.{Bytes.bytes_of_all, Front.IsLongestFront}}
+use Rattle.krs_model.specs.{Possession.{attached, followed_in, possessed}, Queues.queue_of, Reach.Reaches}
+use Rattle.krs_model.specs.Search.{entered, is_answer, is_denied, is_expired, is_revoked, or_next, Searcher}
+use Rattle.krs_model.specs.{State.{Queue, State}, Table.at}
 
 -- it is attached, or linked by a possessed keyring that is alive and may be searched
 abbrev pub ComesByLinks : State → Context → ℕ → Type 0

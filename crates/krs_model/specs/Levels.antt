@@ -1,7 +1,6 @@
 -- The levels of a walk along links: whole lists, which may repeat a key. keyrings(7), "Possession" and
 -- "Searching for keys".
-use Rattle.std.specs.Prelude.{ℕ, zero, suc, ◌==◌, List, [], ◌++◌, Bool, flat_map}
-use Rattle.std.specs.List.{list_any}
+use Rattle.std.specs.{Prelude.{[], ◌++◌, ◌==◌, Bool, flat_map, List, suc, zero, ℕ}, List.list_any}
 
 -- level 0 is the heads, and level n + 1 what the keys of level n link, one after the other
 unfoldable pub level : (ℕ → List ℕ) → List ℕ → ℕ → List ℕ

@@ -1,12 +1,9 @@
 -- One more link in a keyring: keyctl(2), KEYCTL_LINK; add_key(2).
-use Rattle.std.specs.Prelude.{ℕ, List, [], ◌∷◌, Bool, false, length, nat_le, if◌then◌else◌, Option, None, Some, Result}
-use Rattle.std.specs.Prelude.{Ok, Err, find}
-use Rattle.krs_types.specs.declared.errno.Errno.{Errno}
-use Rattle.krs_types.specs.declared.errno.Errno.TheVariants.{ENOTDIR, ENFILE}
-use Rattle.krs_types.specs.declared.name.Name.{Name}
+use Rattle.std.specs.Prelude.{[], ◌∷◌, Bool, Err, false, find, if◌then◌else◌, length, List, nat_le, None, Ok, Option}
+use Rattle.std.specs.Prelude.{Result, Some, ℕ}
 use Rattle.krs_types.specs.Name.{same_name}
-use Rattle.krs_model.specs.Table.{Table, at}
-use Rattle.krs_model.specs.State.{Key, Content, Payload, Links}
+use Rattle.krs_types.specs.declared.{errno.Errno.{Errno, TheVariants.{ENFILE, ENOTDIR}}, name.Name.Name}
+use Rattle.krs_model.specs.{State.{Content, Key, Links, Payload}, Table.{at, Table}}
 
 -- a key of that name: its type and its description
 abbrev pub is_named : Name → Option Key → Bool

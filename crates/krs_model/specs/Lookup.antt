@@ -1,20 +1,14 @@
 -- From a key id to the key that it names, with the right that an ask wants, or the refusal that comes first:
 -- keyctl(2), "ERRORS"; their order: profile, order of a look-up.
-use Rattle.std.specs.Prelude.{ℕ, ℤ, ◌==◌, Option, None, Some, Result, Ok, Err, if◌then◌else◌}
-use Rattle.krs_types.specs.declared.errno.Errno.{Errno}
-use Rattle.krs_types.specs.declared.errno.Errno.TheVariants.{ENOKEY, ESRCH, EKEYREVOKED, EKEYEXPIRED, EACCES}
-use Rattle.krs_types.specs.declared.context.Context.{Context}
-use Rattle.krs_types.specs.declared.context.UidRings.{UidRings}
+use Rattle.std.specs.Prelude.{◌==◌, Err, if◌then◌else◌, None, Ok, Option, Result, Some, ℕ, ℤ}
+use Rattle.krs_types.specs.{KeyId.key_id_of, Refusing.{◌>>=◌, or_refuse}, Rights.allows}
+use Rattle.krs_types.specs.declared.context.{Context.Context, UidRings.UidRings}
+use Rattle.krs_types.specs.declared.errno.Errno.{Errno, TheVariants.{EACCES, EKEYEXPIRED, EKEYREVOKED, ENOKEY, ESRCH}}
 use Rattle.krs_types.specs.declared.key_id.KeyId.{KeyId}
-use Rattle.krs_types.specs.declared.key_id.KeyId.TheVariants.{Serial, Thread, Process, Session, User, UserSession}
+use Rattle.krs_types.specs.declared.key_id.KeyId.TheVariants.{Process, Serial, Session, Thread, User, UserSession}
 use Rattle.krs_types.specs.declared.rights.Want.{Want}
-use Rattle.krs_types.specs.Rights.{allows}
-use Rattle.krs_types.specs.KeyId.{key_id_of}
-use Rattle.krs_types.specs.Refusing.{◌>>=◌, or_refuse}
-use Rattle.krs_model.specs.Table.{at}
-use Rattle.krs_model.specs.State.{State, Key}
-use Rattle.krs_model.specs.Access.{rights_on, is_over}
-use Rattle.krs_model.specs.Possession.{possessed, process_ring}
+use Rattle.krs_model.specs.Access.{is_over, rights_on}
+use Rattle.krs_model.specs.{Possession.{possessed, process_ring}, State.{Key, State}, Table.at}
 
 -- the context is the client's
 abbrev pub if_own : ℕ → Context → Result Context Errno

@@ -1,21 +1,12 @@
 -- Thread and process keyrings that an ask makes where it wants one and there is none: thread-keyring(7),
 -- process-keyring(7); profile, made on demand; profile, counts as made.
-use Rattle.std.specs.Prelude.{ℕ, ℤ, ◌+◌, ◌&&◌, List, [], Bool, false, nat_lt, if◌then◌else◌, Option, None, Some}
-use Rattle.std.specs.Prelude.{Result}
-use Rattle.std.specs.Prelude.{Ok, Err, codes}
-use Rattle.krs_types.specs.declared.errno.Errno.{Errno}
-use Rattle.krs_types.specs.declared.errno.Errno.TheVariants.{ENOSPC}
+use Rattle.std.specs.Prelude.{[], ◌&&◌, ◌+◌, Bool, codes, Err, false, if◌then◌else◌, List, nat_lt, None, Ok, Option}
+use Rattle.std.specs.Prelude.{Result, Some, ℕ, ℤ}
+use Rattle.krs_types.specs.{KeyId.key_id_of, Perm.key_mask, declared.{caller.Caller.Caller, context.Context.Context}}
+use Rattle.krs_types.specs.declared.{errno.Errno.{Errno, TheVariants.ENOSPC}, key_id.KeyId.KeyId}
+use Rattle.krs_types.specs.declared.key_id.KeyId.TheVariants.{Process, Serial, Session, Thread, User, UserSession}
 use Rattle.krs_types.specs.declared.kind.Kind.TheVariants.{Keyring}
-use Rattle.krs_types.specs.declared.context.Context.{Context}
-use Rattle.krs_types.specs.declared.caller.Caller.{Caller}
-use Rattle.krs_types.specs.declared.key_id.KeyId.{KeyId}
-use Rattle.krs_types.specs.declared.key_id.KeyId.TheVariants.{Serial, Thread, Process, Session, User, UserSession}
-use Rattle.krs_types.specs.KeyId.{key_id_of}
-use Rattle.krs_types.specs.Perm.{key_mask}
-use Rattle.krs_model.specs.Table.{put, alter}
-use Rattle.krs_model.specs.State.{State, Key, Links}
-use Rattle.krs_model.specs.Possession.{process_ring}
-use Rattle.krs_model.specs.Outcome.{Outcome}
+use Rattle.krs_model.specs.{Outcome.Outcome, Possession.process_ring, State.{Key, Links, State}, Table.{alter, put}}
 
 -- an empty keyring that the service makes for a caller
 abbrev pub own_ring : List ℕ → ℕ → Bool → Caller → Key

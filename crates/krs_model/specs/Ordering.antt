@@ -1,5 +1,5 @@
 -- In which order an ask's records go out: profile, order of notes.
-use Rattle.std.specs.Prelude.{ℕ, ◌<◌, List, [], ◌∷◌}
+use Rattle.std.specs.Prelude.{[], ◌<◌, ◌∷◌, List, ℕ}
 use Rattle.krs_model.specs.Notes.Posting.{Post}
 
 -- for queues above this one

@@ -1,12 +1,9 @@
 -- What holds of the queues and watches of a store between asks: core-api/watch_queue.rst, "Watch List (Notification
 -- Source) API".
-use Rattle.std.specs.Prelude.{◌≡◌, ℕ, ◌^◌, ◌<◌, List, [], ◌∷◌, true, Some, IsSome}
+use Rattle.std.specs.Prelude.{[], ◌<◌, ◌^◌, ◌∷◌, ◌≡◌, IsSome, List, Some, true, ℕ}
 use Rattle.std.specs.declared.cmp.Ordering.TheVariants.{Less}
-use Rattle.krs_model.specs.Table.{Table, at, IsBelow, IsDistinct}
-use Rattle.krs_model.specs.State.{Queue}
-use Rattle.krs_model.specs.Queues.{Queues, Watch, place_cmp}
-use Rattle.krs_model.specs.Notes.Bytes.{AllFit}
-use Rattle.krs_model.specs.Notes.Waiting.{is_capacity}
+use Rattle.krs_model.specs.Notes.{Bytes.AllFit, Waiting.is_capacity}
+use Rattle.krs_model.specs.{Queues.{place_cmp, Queues, Watch}, State.Queue, Table.{at, IsBelow, IsDistinct, Table}}
 
 -- a statement of each watch
 abbrev pub Each : (Watch → Type 0) → List Watch → Type 0

@@ -1,10 +1,8 @@
 -- What an ask comes to, and how a function's result is compared to it. The form is this project's own; the refusals
 -- are those of keyctl(2), add_key(2) and request_key(2), "ERRORS".
-use Rattle.std.specs.Prelude.{◌≡◌, Result, Ok, Err, IsOk}
-use Rattle.krs_types.specs.declared.errno.Errno.{Errno}
+use Rattle.std.specs.Prelude.{◌≡◌, Err, IsOk, Ok, Result}
 use Rattle.krs_types.specs.declared.ask.Answer.{Answer}
-use Rattle.krs_types.specs.declared.fault.Fault.{Fault}
-use Rattle.krs_types.specs.declared.fault.Fault.TheVariants.{Memory, Refused}
+use Rattle.krs_types.specs.declared.{errno.Errno.Errno, fault.Fault.{Fault, TheVariants.{Memory, Refused}}}
 use Rattle.krs_model.specs.State.{State}
 
 -- the state before the sweep and the answer of an accepted ask, or the refusal that comes first

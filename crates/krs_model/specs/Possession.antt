@@ -1,13 +1,9 @@
 -- Which keys a context possesses: keyrings(7), "Possession".
-use Rattle.std.specs.Prelude.{ℕ, suc, ◌&&◌, List, [], ◌++◌, Bool, true, Option, None, Some, if◌then◌else◌}
-use Rattle.std.specs.Option.{option_to_list, unwrap_or}
-use Rattle.krs_types.specs.declared.context.Context.{Context}
-use Rattle.krs_types.specs.declared.caller.Caller.{Caller}
-use Rattle.krs_types.specs.Rights.{has_all, SEARCH}
-use Rattle.krs_model.specs.Table.{Table, at}
-use Rattle.krs_model.specs.State.{State, Key, Content, Payload, Links}
-use Rattle.krs_model.specs.Access.{is_alive, rights_on}
-use Rattle.krs_model.specs.Levels.{levels, search_depth, is_in}
+use Rattle.std.specs.Prelude.{[], ◌&&◌, ◌++◌, Bool, if◌then◌else◌, List, None, Option, option_to_list, Some, suc, true}
+use Rattle.std.specs.Prelude.{unwrap_or, ℕ}
+use Rattle.krs_types.specs.{Rights.{has_all, SEARCH}, declared.{caller.Caller.Caller, context.Context.Context}}
+use Rattle.krs_model.specs.{Access.{is_alive, rights_on}, Levels.{is_in, levels, search_depth}}
+use Rattle.krs_model.specs.{State.{Content, Key, Links, Payload, State}, Table.{at, Table}}
 
 -- the process keyring of a process
 abbrev pub process_ring : State → ℕ → Option ℕ

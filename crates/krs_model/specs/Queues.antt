@@ -1,14 +1,9 @@
 -- The queues of a store and what they watch: core-api/watch_queue.rst, "Watch List (Notification Source) API".
-use Rattle.std.specs.Prelude.{ℕ, ◌==◌, not, List, [], filter, Option, Result, Ok, Err, if◌then◌else◌}
-use Rattle.std.specs.Ordering.{nat_cmp, ordering_then}
-use Rattle.std.specs.declared.cmp.Ordering.{Ordering}
-use Rattle.std.specs.BTreeMap.{is_at, insert_entry}
-use Rattle.std.specs.Map.{lookup, remove_entry}
-use Rattle.krs_types.specs.declared.errno.Errno.{Errno}
-use Rattle.krs_types.specs.declared.errno.Errno.TheVariants.{EBADF}
-use Rattle.krs_types.specs.Refusing.{◌>>=◌, or_refuse}
-use Rattle.krs_model.specs.Table.{Table, at}
-use Rattle.krs_model.specs.State.{State, Queue}
+use Rattle.std.specs.Prelude.{[], ◌==◌, Err, filter, if◌then◌else◌, List, not, Ok, Option, Result, ℕ}
+use Rattle.std.specs.BTreeMap.{insert_entry, is_at}
+use Rattle.std.specs.{Map.{lookup, remove_entry}, Ordering.{nat_cmp, ordering_then}, declared.cmp.Ordering.Ordering}
+use Rattle.krs_types.specs.{Refusing.{◌>>=◌, or_refuse}, declared.errno.Errno.{Errno, TheVariants.EBADF}}
+use Rattle.krs_model.specs.{State.{Queue, State}, Table.{at, Table}}
 
 -- a watch is at a key and a queue, and has an id
 abbrev pub Watch : Type 0

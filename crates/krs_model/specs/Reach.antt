@@ -1,11 +1,7 @@
 -- What is reached along links, and how deep keyrings are nested: keyctl(2), KEYCTL_LINK, "EDEADLK" and "ELOOP".
-use Rattle.std.specs.Prelude.{◌≡◌, ℕ, List, [], ◌∷◌, Bool, true, false, Option, None, Some, length, filter}
-use Rattle.krs_types.specs.declared.kind.Kind.TheVariants.{Keyring}
-use Rattle.krs_types.specs.Kind.{same_kind}
-use Rattle.krs_model.specs.Table.{Table, at}
-use Rattle.krs_model.specs.State.{Key}
-use Rattle.krs_model.specs.Levels.{level, levels, is_in}
-use Rattle.krs_model.specs.Sweep.{links_of_key}
+use Rattle.std.specs.Prelude.{[], ◌∷◌, ◌≡◌, Bool, false, filter, length, List, None, Option, Some, true, ℕ}
+use Rattle.krs_types.specs.{Kind.same_kind, declared.kind.Kind.TheVariants.Keyring}
+use Rattle.krs_model.specs.{Levels.{is_in, level, levels}, State.Key, Sweep.links_of_key, Table.{at, Table}}
 
 -- a link, and one link more
 pub data Reaches (links : ℕ → List ℕ) : ℕ → ℕ → Type 0 where

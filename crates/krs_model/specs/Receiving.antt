@@ -1,19 +1,11 @@
 -- What a queue gives to its reader over a history: core-api/watch_queue.rst, "Watch Queue (Notification Output) API".
-use Rattle.std.specs.Prelude.{◌≡◌, ◌⊎◌, ℕ, List, [], ◌∷◌, ◌++◌, map, Some, Result, Ok, Err}
-use Rattle.krs_types.specs.declared.errno.Errno.{Errno}
-use Rattle.krs_types.specs.declared.note.Record.{Record}
-use Rattle.krs_types.specs.declared.ask.Answer.{Answer}
-use Rattle.krs_types.specs.declared.ask.Answer.TheVariants.{Number, Bytes}
-use Rattle.krs_types.specs.declared.ask.Op.{Op}
-use Rattle.krs_types.specs.declared.ask.Op.TheVariants.{OpenQueue, ReadQueue}
-use Rattle.krs_types.specs.declared.event.Event.{Event}
-use Rattle.krs_model.specs.Table.{Table, at}
-use Rattle.krs_model.specs.State.{State, Key, Queue, raised}
-use Rattle.krs_model.specs.Step.{Step, posts_by}
-use Rattle.krs_model.specs.Notes.Bytes.{AllFit, bytes_of_all}
-use Rattle.krs_model.specs.Notes.Posting.{records_for}
-use Rattle.krs_model.specs.Notes.Stream.{Move, Posted, Took, taken, stream}
-use Rattle.krs_model.specs.Lists.{Begins}
+use Rattle.std.specs.Prelude.{[], ◌++◌, ◌∷◌, ◌≡◌, ◌⊎◌, Err, List, map, Ok, Result, Some, ℕ}
+use Rattle.krs_types.specs.declared.ask.Answer.{Answer, TheVariants.{Bytes, Number}}
+use Rattle.krs_types.specs.declared.ask.Op.{Op, TheVariants.{OpenQueue, ReadQueue}}
+use Rattle.krs_types.specs.declared.{errno.Errno.Errno, event.Event.Event, note.Record.Record}
+use Rattle.krs_model.specs.{Lists.Begins, Notes.Bytes.{AllFit, bytes_of_all}}
+use Rattle.krs_model.specs.Notes.{Posting.records_for, Stream.{Move, Posted, stream, taken, Took}}
+use Rattle.krs_model.specs.{State.{Key, Queue, raised, State}, Step.{posts_by, Step}, Table.{at, Table}}
 
 -- what an ask calls for of a queue: nothing where it is refused, or found no memory
 abbrev pub called : ℕ → State → ℕ → ℕ → Op → Result Answer Errno → Table Key → List Record

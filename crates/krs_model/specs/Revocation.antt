@@ -1,13 +1,8 @@
 -- A key that was revoked is not read again: keyctl(2), KEYCTL_REVOKE, "EKEYREVOKED".
-use Rattle.std.specs.Prelude.{◌≡◌, ℕ, ℤ, List, Ok, IsOk}
-use Rattle.krs_types.specs.declared.context.Context.{Context}
-use Rattle.krs_types.specs.declared.ask.Op.{Op}
-use Rattle.krs_types.specs.declared.ask.Op.TheVariants.{Revoke, Read}
-use Rattle.krs_types.specs.declared.event.Event.{Event}
-use Rattle.krs_model.specs.State.{State, raised}
-use Rattle.krs_model.specs.Lookup.{context_of, serial_of}
-use Rattle.krs_model.specs.Step.{Step}
-use Rattle.krs_model.specs.History.{IsLegal}
+use Rattle.std.specs.Prelude.{◌≡◌, IsOk, List, Ok, ℕ, ℤ}
+use Rattle.krs_types.specs.declared.ask.Op.{Op, TheVariants.{Read, Revoke}}
+use Rattle.krs_types.specs.declared.{context.Context.Context, event.Event.Event}
+use Rattle.krs_model.specs.{History.IsLegal, Lookup.{context_of, serial_of}, State.{raised, State}, Step.Step}
 
 -- in this context of the client the id is the serial, or stands for it: keyctl(2), KEYCTL_GET_KEYRING_ID
 pub record Names (s : State) (client context : ℕ) (id : ℤ) (serial : ℕ) : Type 0 where

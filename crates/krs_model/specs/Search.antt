@@ -1,20 +1,12 @@
 -- Which key a search finds: keyctl(2), KEYCTL_SEARCH; request_key(2); keyrings(7), "Searching for keys".
-use Rattle.std.specs.Prelude.{ℕ, suc, ◌&&◌, List, [], ◌∷◌, Bool, false, not, nat_lt, Option, None, Some, Result, Ok}
-use Rattle.std.specs.Prelude.{Err, if◌then◌else◌, find, flat_map}
-use Rattle.std.specs.List.{list_any}
-use Rattle.krs_types.specs.declared.caller.Caller.{Caller}
-use Rattle.krs_types.specs.declared.context.Context.{Context}
-use Rattle.krs_types.specs.declared.errno.Errno.{Errno}
-use Rattle.krs_types.specs.declared.errno.Errno.TheVariants.{ENOKEY, EKEYREVOKED, EKEYEXPIRED, EACCES}
-use Rattle.krs_types.specs.declared.name.Name.{Name}
-use Rattle.krs_types.specs.Refusing.{or_refuse}
-use Rattle.krs_types.specs.Rights.{has_all, SEARCH}
-use Rattle.krs_model.specs.Table.{Table, at}
-use Rattle.krs_model.specs.State.{State, Key}
-use Rattle.krs_model.specs.Access.{is_alive, is_over, rights_on}
-use Rattle.krs_model.specs.Levels.{levels, search_depth}
-use Rattle.krs_model.specs.Linking.{is_named}
+use Rattle.std.specs.Prelude.{[], ◌&&◌, ◌∷◌, Bool, Err, false, find, flat_map, if◌then◌else◌, List, nat_lt, None, not}
+use Rattle.std.specs.{Prelude.{Ok, Option, Result, Some, suc, ℕ}, List.list_any}
+use Rattle.krs_types.specs.{Refusing.or_refuse, Rights.{has_all, SEARCH}, declared.caller.Caller.Caller}
+use Rattle.krs_types.specs.declared.{context.Context.Context, errno.Errno.Errno}
+use Rattle.krs_types.specs.declared.{errno.Errno.TheVariants.{EACCES, EKEYEXPIRED, EKEYREVOKED, ENOKEY}, name.Name.Name}
+use Rattle.krs_model.specs.{Access.{is_alive, is_over, rights_on}, Levels.{levels, search_depth}, Linking.is_named}
 use Rattle.krs_model.specs.Possession.{attached_with, links_of_content, possessed, possessed_with, process_ring}
+use Rattle.krs_model.specs.{State.{Key, State}, Table.{at, Table}}
 
 -- who searches, and where: the keys and the clock of a store, a caller, and which keys its context possesses
 pub record Searcher : Type 0 where

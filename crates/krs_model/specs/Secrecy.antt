@@ -1,27 +1,14 @@
 -- What a client can tell of payloads that it doesn't read, and who may read one. After J. A. Goguen and J. Meseguer,
 -- "Security Policies and Security Models", 1982: noninterference, with READ as the one declassifier; keyctl(2),
 -- KEYCTL_READ.
-use Rattle.std.specs.Prelude.{◌≡◌, ◌≢◌, ◌⊎◌, ℕ, ◌==◌, List, [], ◌∷◌, ◌++◌, map, filter, Bool, true, false, Some}
-use Rattle.std.specs.Prelude.{Result, Ok, Err, IsOk, is_ok, ◌&&◌, ◌<◌, length, nat_le, if◌then◌else◌}
-use Rattle.krs_types.specs.declared.errno.Errno.{Errno}
-use Rattle.krs_types.specs.declared.errno.Errno.TheVariants.{ENOMEM}
-use Rattle.krs_types.specs.declared.kind.Kind.TheVariants.{User, Logon}
-use Rattle.krs_types.specs.declared.context.Context.{Context}
-use Rattle.krs_types.specs.declared.rights.Rights.{Rights}
-use Rattle.krs_types.specs.declared.ask.Ask.{Ask}
-use Rattle.krs_types.specs.declared.ask.Answer.{Answer}
-use Rattle.krs_types.specs.declared.ask.Op.{Op}
-use Rattle.krs_types.specs.declared.ask.Op.TheVariants.{Read}
-use Rattle.krs_types.specs.declared.event.Event.{Event}
+use Rattle.std.specs.Prelude.{[], ◌&&◌, ◌++◌, ◌<◌, ◌==◌, ◌∷◌, ◌≡◌, ◌≢◌, ◌⊎◌, Bool, Err, false, filter, if◌then◌else◌}
+use Rattle.std.specs.Prelude.{is_ok, IsOk, length, List, map, nat_le, Ok, Result, Some, true, ℕ}
 use Rattle.krs_types.specs.Rights.{has_all, READ, SEARCH}
-use Rattle.krs_model.specs.Table.{at}
-use Rattle.krs_model.specs.State.{State, Key, raised}
-use Rattle.krs_model.specs.Access.{is_over, rights_on}
-use Rattle.krs_model.specs.Possession.{possessed}
-use Rattle.krs_model.specs.Step.{Step}
-use Rattle.krs_model.specs.History.{IsLegal}
-use Rattle.krs_model.specs.Revocation.{Reads}
-use Rattle.krs_model.specs.Hiding.{Hiding, Hides, blind, IsBlinded}
+use Rattle.krs_types.specs.declared.ask.{Answer.Answer, Ask.Ask, Op.{Op, TheVariants.Read}}
+use Rattle.krs_types.specs.declared.{context.Context.Context, errno.Errno.{Errno, TheVariants.ENOMEM}}
+use Rattle.krs_types.specs.declared.{event.Event.Event, kind.Kind.TheVariants.{Logon, User}, rights.Rights.Rights}
+use Rattle.krs_model.specs.{Access.{is_over, rights_on}, Hiding.{blind, Hides, Hiding, IsBlinded}, History.IsLegal}
+use Rattle.krs_model.specs.{Possession.possessed, Revocation.Reads, State.{Key, raised, State}, Step.Step, Table.at}
 
 -- memory ran out: profile, out of memory
 abbrev pub is_wanting : Result Answer Errno → Bool

@@ -1,18 +1,10 @@
 -- What holds of a store between asks: keyrings(7), "Keyrings" and "Anchoring keys"; keyctl(2), KEYCTL_LINK.
-use Rattle.std.specs.Prelude.{◌≡◌, ℕ, ◌≤◌, List, Bool, true, false, Option, Some, IsSome, count_by, map}
-use Rattle.krs_types.specs.declared.kind.Kind.TheVariants.{Keyring}
-use Rattle.krs_types.specs.declared.context.Context.{Context}
-use Rattle.krs_types.specs.declared.context.UidRings.{UidRings}
-use Rattle.krs_types.specs.declared.name.Name.{Name}
-use Rattle.krs_types.specs.Kind.{same_kind}
-use Rattle.krs_model.specs.Table.{Table, at, IsBelow, Rises}
-use Rattle.krs_model.specs.State.{State, Key, Content, Payload, Links}
-use Rattle.krs_model.specs.Levels.{is_in}
-use Rattle.krs_model.specs.Queues.{queues_of}
-use Rattle.krs_model.specs.Orderly.{AreOrderly}
-use Rattle.krs_model.specs.Linking.{is_named}
-use Rattle.krs_model.specs.Reach.{IsAcyclic, links_of_key_at}
-use Rattle.krs_model.specs.Sweep.{IsSwept, roots}
+use Rattle.std.specs.Prelude.{◌≡◌, ◌≤◌, Bool, count_by, false, IsSome, List, map, Option, Some, true, ℕ}
+use Rattle.krs_types.specs.{Kind.same_kind, declared.context.Context.Context}
+use Rattle.krs_types.specs.declared.{context.UidRings.UidRings, kind.Kind.TheVariants.Keyring, name.Name.Name}
+use Rattle.krs_model.specs.{Levels.is_in, Linking.is_named, Orderly.AreOrderly, Queues.queues_of}
+use Rattle.krs_model.specs.{Reach.{IsAcyclic, links_of_key_at}, State.{Content, Key, Links, Payload, State}}
+use Rattle.krs_model.specs.{Sweep.{IsSwept, roots}, Table.{at, IsBelow, Rises, Table}}
 
 -- every link is to a key that is there
 abbrev pub AllLinked : Table Key → Type 0

@@ -1,10 +1,7 @@
 -- What a store is: keyrings(7), core.rst "Key overview"; queues and watches: core-api/watch_queue.rst.
-use Rattle.std.specs.Prelude.{ℕ, max, List, [], Option, Bool}
-use Rattle.krs_types.specs.declared.kind.Kind.{Kind}
-use Rattle.krs_types.specs.declared.context.Context.{Context}
-use Rattle.krs_types.specs.declared.context.UidRings.{UidRings}
-use Rattle.krs_types.specs.declared.note.Record.{Record}
-use Rattle.krs_types.specs.declared.note.FilterEntry.{FilterEntry}
+use Rattle.std.specs.Prelude.{[], Bool, List, max, Option, ℕ}
+use Rattle.krs_types.specs.declared.context.{Context.Context, UidRings.UidRings}
+use Rattle.krs_types.specs.declared.{kind.Kind.Kind, note.{FilterEntry.FilterEntry, Record.Record}}
 use Rattle.krs_model.specs.Table.{Table}
 
 -- what a key holds: a payload, or the serials that a keyring links, in link order

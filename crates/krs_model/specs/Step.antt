@@ -1,39 +1,21 @@
 -- One step of a store: an ask that is served at a moment, and its reply. The form is this project's own; what each
 -- ask means has its source where the ask is defined.
-use Rattle.std.specs.Prelude.{◌≡◌, ℕ, List, [], ◌++◌, Result, Ok, Err, IsOk, ◌⊎◌, true}
-use Rattle.krs_types.specs.declared.errno.Errno.{Errno}
-use Rattle.krs_types.specs.declared.errno.Errno.TheVariants.{ENOMEM}
-use Rattle.krs_types.specs.declared.ask.Answer.{Answer}
-use Rattle.krs_types.specs.declared.ask.Answer.TheVariants.{Nothing}
-use Rattle.krs_types.specs.declared.ask.Op.{Op}
-use Rattle.krs_types.specs.declared.ask.Op.TheVariants.{Hello, Thread, Fork, Exec, GetId, Join, Search, Request, Add}
-use Rattle.krs_types.specs.declared.ask.Op.TheVariants.{Update, Revoke, Invalidate, Chown, SetPerm, SetTimeout, Link}
-use Rattle.krs_types.specs.declared.ask.Op.TheVariants.{Unlink, Clear, Read, Describe, Watch, OpenQueue, SetFilter}
-use Rattle.krs_types.specs.declared.ask.Op.TheVariants.{ReadQueue, CloseQueue, Exit, Leave}
-use Rattle.krs_types.specs.declared.ask.Op.TheVariants.{Move, RestrictKeyring}
-use Rattle.krs_types.specs.declared.event.Event.{Event}
-use Rattle.krs_types.specs.Growth.{grows}
-use Rattle.krs_model.specs.Table.{Table}
-use Rattle.krs_model.specs.State.{State, Key, raised}
-use Rattle.krs_model.specs.Queues as queues
-use Rattle.krs_model.specs.Queues.{queues_of}
-use Rattle.krs_model.specs.Sweep.{IsSweep}
-use Rattle.krs_model.specs.Outcome.{Outcome}
-use Rattle.krs_model.specs.Asks.Hello.{hello}
-use Rattle.krs_model.specs.Asks.Entering.{thread, fork, exec}
-use Rattle.krs_model.specs.Asks.Joining.{join}
-use Rattle.krs_model.specs.Asks.Finding.{get_id, search_from, request}
+use Rattle.std.specs.Prelude.{[], ◌++◌, ◌≡◌, ◌⊎◌, Err, IsOk, List, Ok, Result, true, ℕ}
+use Rattle.krs_types.specs.{Growth.grows, declared.ask.Answer.{Answer, TheVariants.Nothing}}
+use Rattle.krs_types.specs.declared.ask.Op.{Op, TheVariants.{Add, Chown, Clear, CloseQueue, Describe, Exec, Exit, Fork}}
+use Rattle.krs_types.specs.declared.ask.Op.TheVariants.{GetId, Hello, Invalidate, Join, Leave, Link, Move, OpenQueue}
+use Rattle.krs_types.specs.declared.ask.Op.TheVariants.{Read, ReadQueue, Request, RestrictKeyring, Revoke, Search}
+use Rattle.krs_types.specs.declared.ask.Op.TheVariants.{SetFilter, SetPerm, SetTimeout, Thread, Unlink, Update, Watch}
+use Rattle.krs_types.specs.declared.{errno.Errno.{Errno, TheVariants.ENOMEM}, event.Event.Event}
 use Rattle.krs_model.specs.Asks.Adding.{add}
-use Rattle.krs_model.specs.Asks.Changing.{update, revoke, chown, set_perm, set_timeout}
-use Rattle.krs_model.specs.Asks.Invalidating.{invalidate}
-use Rattle.krs_model.specs.Asks.Linked.{link, unlink, clear}
-use Rattle.krs_model.specs.Asks.Moving.{move_link}
-use Rattle.krs_model.specs.Asks.Restricting.{restrict_keyring}
-use Rattle.krs_model.specs.Asks.Reading.{read, describe}
-use Rattle.krs_model.specs.Asks.Watching.{watch, open_queue, set_filter, read_queue, close_queue}
-use Rattle.krs_model.specs.Asks.Leaving.{left, exit}
-use Rattle.krs_model.specs.Notes.Posting.{Post, posts, dropped_watches, posted_in}
-use Rattle.krs_model.specs.Notes.Telling.{notes_of, ended_by}
+use Rattle.krs_model.specs.Asks.{Changing.{chown, revoke, set_perm, set_timeout, update}, Entering.{exec, fork, thread}}
+use Rattle.krs_model.specs.Asks.{Finding.{get_id, request, search_from}, Hello.hello, Invalidating.invalidate}
+use Rattle.krs_model.specs.Asks.{Joining.join, Leaving.{exit, left}, Linked.{clear, link, unlink}, Moving.move_link}
+use Rattle.krs_model.specs.Asks.{Reading.{describe, read}, Restricting.restrict_keyring}
+use Rattle.krs_model.specs.Asks.Watching.{close_queue, open_queue, read_queue, set_filter, watch}
+use Rattle.krs_model.specs.Notes.{Posting.{dropped_watches, Post, posted_in, posts}, Telling.{ended_by, notes_of}}
+use Rattle.krs_model.specs.{Outcome.Outcome, Queues.queues_of, State.{Key, raised, State}, Sweep.IsSweep, Table.Table}
+use Rattle.krs_model.specs.Queues as queues
 
 -- what a client's ask in a context comes to
 abbrev pub outcome_of : State → ℕ → ℕ → Op → Outcome

@@ -1,14 +1,9 @@
 -- Which keys stay at the end of an ask: those that an attachment reaches.
 -- keyrings(7), "Anchoring keys"; profile, dropped at once.
-use Rattle.std.specs.Prelude.{◌≡◌, ℕ, List, [], ◌++◌, Bool, true, Option, None, Some, IsSome, is_some, filter}
-use Rattle.std.specs.Prelude.{flat_map}
-use Rattle.std.specs.Option.{option_to_list}
-use Rattle.krs_types.specs.declared.context.Context.{Context}
-use Rattle.krs_types.specs.declared.context.UidRings.{UidRings}
-use Rattle.krs_model.specs.Table.{Table, at}
-use Rattle.krs_model.specs.State.{State, Key}
-use Rattle.krs_model.specs.Possession.{links_of_content}
-use Rattle.krs_model.specs.Levels.{is_in}
+use Rattle.std.specs.Prelude.{[], ◌++◌, ◌≡◌, Bool, filter, flat_map, is_some, IsSome, List, None, Option}
+use Rattle.std.specs.Prelude.{option_to_list, Some, true, ℕ}
+use Rattle.krs_types.specs.declared.context.{Context.Context, UidRings.UidRings}
+use Rattle.krs_model.specs.{Levels.is_in, Possession.links_of_content, State.{Key, State}, Table.{at, Table}}
 
 -- the thread and session keyrings of contexts: thread-keyring(7), session-keyring(7)
 abbrev pub context_roots : Table Context → List ℕ

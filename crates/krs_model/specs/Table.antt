@@ -1,9 +1,6 @@
 -- A finite map from numbers is the list of its entries, numbers rising, as a `BTreeMap` has them.
-use Rattle.std.specs.Prelude.{◌≡◌, ℕ, ◌≤◌, List, [], ◌∷◌, Option, None, cond}
-use Rattle.std.specs.Ordering.{nat_cmp}
-use Rattle.std.specs.BTreeMap.{is_at, insert_entry}
-use Rattle.std.specs.Map.{lookup, remove_entry, keys_of}
-use Rattle.std.specs.List.Sorted.{IsStrictlySortedBy}
+use Rattle.std.specs.{Prelude.{[], ◌∷◌, ◌≡◌, ◌≤◌, cond, List, None, Option, ℕ}, BTreeMap.{insert_entry, is_at}}
+use Rattle.std.specs.{List.Sorted.IsStrictlySortedBy, Map.{keys_of, lookup, remove_entry}, Ordering.nat_cmp}
 
 -- a finite map from numbers
 abbrev pub Table : Type 0 → Type 0

@@ -1,12 +1,7 @@
 -- What a look-up for a right finds: keyctl(2), "ERRORS"; profile, order of a look-up.
-use Rattle.std.specs.Prelude.{◌≡◌, ℕ, true, false, Some}
-use Rattle.krs_types.specs.declared.context.Context.{Context}
-use Rattle.krs_types.specs.declared.rights.Want.{Want}
-use Rattle.krs_types.specs.Rights.{allows}
-use Rattle.krs_model.specs.Table.{at}
-use Rattle.krs_model.specs.State.{State, Key}
-use Rattle.krs_model.specs.Access.{is_over, rights_on}
-use Rattle.krs_model.specs.Possession.{possessed}
+use Rattle.std.specs.Prelude.{◌≡◌, false, Some, true, ℕ}
+use Rattle.krs_types.specs.{Rights.allows, declared.{context.Context.Context, rights.Want.Want}}
+use Rattle.krs_model.specs.{Access.{is_over, rights_on}, Possession.possessed, State.{Key, State}, Table.at}
 
 -- the key is at the serial, was not revoked, has not expired, and grants the context what it wants
 pub record IsUsable (s : State) (c : Context) (want : Want) (found : ℕ × Key) : Type 0 where

@@ -1,10 +1,8 @@
 //! Whose contexts are, and that nothing is left of a client that has left.
 ghost use Rattle.std.specs.Prelude.{◌≡◌};
-ghost use Rattle.krs_types.specs.declared.ask.Op.TheVariants.{Leave};
-ghost use Rattle.krs_types.specs.declared.event.Event.{Event};
-ghost use Rattle.krs_model.specs.State.{State};
-ghost use Rattle.krs_model.specs.Step.{Step};
-ghost use Rattle.krs_model.specs.Belonging.{HasNothing, ContextsAreGreeted, ReadersAreGreeted};
+ghost use Rattle.krs_types.specs.declared.{ask.Op.TheVariants.Leave, event.Event.Event};
+ghost use Rattle.krs_model.specs.Belonging.{ContextsAreGreeted, HasNothing, ReadersAreGreeted};
+ghost use Rattle.krs_model.specs.{State.State, Step.Step};
 
 /// Once a client has left, no context and no queue is its: who comes next on its lane acts in none that was there before.
 pub fn nothing_is_left_of_a_client()

@@ -1,16 +1,11 @@
 //! That no user reads another's keys, unless it was given them, nor changes them, nor is told of what they hold.
-ghost use Rattle.std.specs.Prelude.{◌≡◌, ◌≢◌, ℕ, List, Bool, true, false, Some};
-ghost use Rattle.krs_types.specs.declared.context.Context.{Context};
-ghost use Rattle.krs_types.specs.declared.event.Event.{Event};
-ghost use Rattle.krs_model.specs.State.{State, Key, starting_at, raised};
-ghost use Rattle.krs_model.specs.Table.{at};
+ghost use Rattle.std.specs.Prelude.{◌≡◌, ◌≢◌, Bool, false, List, Some, true, ℕ};
+ghost use Rattle.krs_types.specs.declared.{context.Context.Context, event.Event.Event};
 ghost use Rattle.krs_model.specs.Access.{rights_on};
-ghost use Rattle.krs_model.specs.Possession.{possessed};
-ghost use Rattle.krs_model.specs.Sound.{IsSound};
-ghost use Rattle.krs_model.specs.Step.{Step};
-ghost use Rattle.krs_model.specs.Confidentiality.{HasToItself, IsAskedBy, GivesAway, IsGivenAway};
-ghost use Rattle.krs_model.specs.Confidentiality.{may_make, IsFor, with_made, MakesForItself};
-ghost use Rattle.krs_model.specs.Confidentiality.{AreUnchanged, KeepsPrivate, ReadsAlone, LeavesAlone, TellsNoStranger};
+ghost use Rattle.krs_model.specs.Confidentiality.{AreUnchanged, GivesAway, HasToItself, IsAskedBy, IsFor, IsGivenAway};
+ghost use Rattle.krs_model.specs.Confidentiality.{KeepsPrivate, LeavesAlone, MakesForItself, may_make, ReadsAlone};
+ghost use Rattle.krs_model.specs.{Confidentiality.{TellsNoStranger, with_made}, Possession.possessed, Sound.IsSound};
+ghost use Rattle.krs_model.specs.{State.{Key, raised, starting_at, State}, Step.Step, Table.at};
 
 /// Whatever there is in a store, a uid may begin with none of the keys to itself.
 pub fn a_uid_begins_without_keys()

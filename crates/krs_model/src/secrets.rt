@@ -1,28 +1,14 @@
 //! That a secret is told to those who read it, and to nobody else: noninterference, with READ as the one declassifier.
-ghost use Rattle.std.specs.Prelude.{◌≡◌, ℕ, ℤ, List, Bool, true, false, Ok, Err};
-ghost use Rattle.krs_types.specs.declared.context.Context.{Context};
-ghost use Rattle.krs_types.specs.declared.ask.Op.{Op};
-ghost use Rattle.krs_types.specs.declared.errno.Errno.{Errno};
-ghost use Rattle.krs_types.specs.declared.event.Event.{Event};
-ghost use Rattle.krs_types.specs.declared.kind.Kind.{Kind};
-ghost use Rattle.krs_types.specs.declared.kind.Kind.TheVariants.{User};
-ghost use Rattle.krs_types.specs.declared.name.Name.{Name};
-ghost use Rattle.krs_types.specs.Kind.{paid};
-ghost use Rattle.krs_model.specs.State.{State};
-ghost use Rattle.krs_model.specs.Possession.{possessed};
-ghost use Rattle.krs_model.specs.Search.{found, requested};
-ghost use Rattle.krs_model.specs.Sweep.{IsSweep};
-ghost use Rattle.krs_model.specs.Asks.Adding.{add};
-ghost use Rattle.krs_model.specs.Asks.Changing.{update};
-ghost use Rattle.krs_model.specs.Step.{Step, outcome_of};
-ghost use Rattle.krs_model.specs.History.{IsLegal};
-ghost use Rattle.krs_model.specs.Hiding.{Hiding, Hides, hiding, blind, blind_ask, blind_outcome};
-ghost use Rattle.krs_model.specs.Hiding.{blind_event, IsBlinded};
-ghost use Rattle.krs_model.specs.Table.{IsBelow};
-ghost use Rattle.krs_types.specs.declared.ask.Op.TheVariants.{Invalidate};
-ghost use Rattle.krs_model.specs.Revocation.{IsServed, Revokes};
-ghost use Rattle.krs_model.specs.Secrecy.{AreAskedAlike, DifferInReads, KeepsSecrets, ReadsByRight};
-ghost use Rattle.krs_model.specs.Secrecy.{TellsByReadsAlone, HasOthers, Changes, putting, IsGone, TellsNobody};
+ghost use Rattle.std.specs.Prelude.{◌≡◌, Bool, Err, false, List, Ok, true, ℕ, ℤ};
+ghost use Rattle.krs_types.specs.{Kind.paid, declared.ask.Op.Op};
+ghost use Rattle.krs_types.specs.declared.{ask.Op.TheVariants.Invalidate, context.Context.Context, errno.Errno.Errno};
+ghost use Rattle.krs_types.specs.declared.{event.Event.Event, kind.Kind.{Kind, TheVariants.User}, name.Name.Name};
+ghost use Rattle.krs_model.specs.{Asks.{Adding.add, Changing.update}, Hiding.{blind, blind_ask, blind_event}};
+ghost use Rattle.krs_model.specs.{Hiding.{blind_outcome, Hides, Hiding, hiding, IsBlinded}, History.IsLegal};
+ghost use Rattle.krs_model.specs.{Possession.possessed, Revocation.{IsServed, Revokes}, Search.{found, requested}};
+ghost use Rattle.krs_model.specs.Secrecy.{AreAskedAlike, Changes, DifferInReads, HasOthers, IsGone, KeepsSecrets};
+ghost use Rattle.krs_model.specs.Secrecy.{putting, ReadsByRight, TellsByReadsAlone, TellsNobody};
+ghost use Rattle.krs_model.specs.{State.State, Step.{outcome_of, Step}, Sweep.IsSweep, Table.IsBelow};
 
 /// The payloads of any set of keys may be hidden: any two that a user key may have are then one, and those of other
 /// keys are as they were.

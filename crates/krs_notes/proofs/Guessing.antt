@@ -1,18 +1,14 @@
 -- The record whose bytes come first is the one that is guessed by its type, subtype and length.
-use Rattle.std.proofs.Common.{◌≡◌, ℕ, ◌≤◌, List, ◌∷◌, ◌++◌, Some, length, ltb, false, refl, sym, ap, ◌∙◌, arith}
-use Rattle.std.specs.List.{slice_index}
-use Rattle.std.specs.Int.{w32, w64, to_le_bytes, from_le_bytes}
+use Rattle.std.proofs.Common.{◌++◌, ◌∙◌, ◌∷◌, ◌≡◌, ◌≤◌, ap, arith, false, le-ltb, length, List, ltb, refl, slice_index}
+use Rattle.std.proofs.Common.{Some, sym, w32, w64, ℕ}
+use Rattle.std.specs.Int.{from_le_bytes, to_le_bytes}
 use Rattle.std.proofs.lemmas.Nat.{from_le_bytes-to_le_bytes_4, from_le_bytes-to_le_bytes_8}
-use Rattle.std.proofs.lemmas.Bool.{le-ltb}
-use Rattle.krs_types.specs.declared.note.Record.{Record}
-use Rattle.krs_types.specs.declared.note.Record.TheVariants.{Key, Removal, Loss}
-use Rattle.krs_types.specs.declared.note.KeyEvent.{KeyEvent}
-use Rattle.krs_types.specs.declared.note.KeyEvent.TheVariants.{Instantiated, Updated, Linked, Unlinked, Cleared}
-use Rattle.krs_types.specs.declared.note.KeyEvent.TheVariants.{Revoked, Invalidated, Setattr}
-use Rattle.krs_model.specs.Lists.{Begins}
-use Rattle.krs_model.specs.Notes.Bytes.{event_number, bytes_of, Fits}
+use Rattle.krs_types.specs.declared.note.KeyEvent.{KeyEvent, TheVariants.{Cleared, Instantiated, Invalidated, Linked}}
+use Rattle.krs_types.specs.declared.note.KeyEvent.TheVariants.{Revoked, Setattr, Unlinked, Updated}
+use Rattle.krs_types.specs.declared.note.Record.{Record, TheVariants.{Key, Loss, Removal}}
+use Rattle.krs_model.specs.{Lists.Begins, Notes.Bytes.{bytes_of, event_number, Fits}}
 use Rattle.krs_model.proofs.Notes.Bytes.{bytes_of-Key, bytes_of-Removal}
-use Rattle.krs_notes.specs.Guess.{guess, event_numbered, four, eight}
+use Rattle.krs_notes.specs.Guess.{eight, event_numbered, four, guess}
 
 event_numbered-event_number : (e : KeyEvent) → event_numbered (event_number e) ≡ Some e
 event_numbered-event_number Instantiated = refl

@@ -1,18 +1,14 @@
 -- Bytes of records, taken apart as their reader does it.
-use Rattle.std.proofs.Common.{◌≡◌, ℕ, ◌+◌, ◌*◌, ◌/◌, ◌%◌, ◌<◌, ◌≤◌, List, [], ◌∷◌, ◌++◌, Some, length, zero, suc}
-use Rattle.std.proofs.Common.{get_or, refl, sym, ap, ◌∙◌, arith}
-use Rattle.std.specs.Int.{w32, to_le_bytes, from_le_bytes}
-use Rattle.std.specs.Int.RustNames.{bit_and}
-use Rattle.std.proofs.lemmas.Nat.{from_le_bytes-to_le_bytes_4, le_bytes_4, and_mask}
-use Rattle.std.proofs.lemmas.Nat.Bits.{and_high_mask}
-use Rattle.std.proofs.lemmas.List.{append-nil}
-use Rattle.krs_types.specs.declared.note.Record.{Record}
-use Rattle.krs_types.specs.declared.note.Record.TheVariants.{Key, Removal, Loss}
-use Rattle.krs_model.specs.Notes.Bytes.{type_of, subtype_of, size_of, watch_of, kind_word, info_of, tail_of, bytes_of}
-use Rattle.krs_model.specs.Notes.Bytes.{Fits}
+use Rattle.std.proofs.Common.{[], ◌%◌, ◌*◌, ◌++◌, ◌+◌, ◌/◌, ◌<◌, ◌∙◌, ◌∷◌, ◌≡◌, ◌≤◌, ap, append-nil, arith, bit_and}
+use Rattle.std.proofs.Common.{get_or, length, List, refl, Some, suc, sym, w32, zero, ℕ}
+use Rattle.std.specs.Int.{from_le_bytes, to_le_bytes}
+use Rattle.std.proofs.lemmas.Nat.{and_mask, from_le_bytes-to_le_bytes_4, le_bytes_4, Bits.and_high_mask}
+use Rattle.krs_types.specs.declared.note.Record.{Record, TheVariants.{Key, Loss, Removal}}
+use Rattle.krs_model.specs.Notes.Bytes.{bytes_of, Fits, info_of, kind_word, size_of, subtype_of, tail_of, type_of}
+use Rattle.krs_model.specs.Notes.Bytes.{watch_of}
 use Rattle.krs_model.proofs.Notes.Bytes.{event_small}
+use Rattle.krs_notes.specs.Laws.{EachIsSpelled, HasOneSpelling, NoneBeginsAnother, word_at}
 use Rattle.krs_notes.proofs.Guessing.{guess-begins}
-use Rattle.krs_notes.specs.Laws.{word_at, EachIsSpelled, HasOneSpelling, NoneBeginsAnother}
 
 subtype_small : (r : Record) → subtype_of r < 256
 subtype_small (Key e w k a) = event_small e

@@ -1,12 +1,10 @@
 -- What the bytes of records promise to a reader of a queue: uapi linux/watch_queue.h, struct watch_notification and
 -- the masks WATCH_INFO_LENGTH and WATCH_INFO_ID.
-use Rattle.std.specs.Prelude.{◌≡◌, ℕ, ◌+◌, ◌*◌, ◌/◌, ◌%◌, ◌^◌, ◌<◌, List, length, drop, All}
-use Rattle.std.specs.Int.{w32, from_le_bytes}
-use Rattle.std.specs.Int.RustNames.{bit_and}
+use Rattle.std.specs.Prelude.{◌%◌, ◌*◌, ◌+◌, ◌/◌, ◌<◌, ◌^◌, ◌≡◌, All, bit_and, drop, length, List, ℕ}
+use Rattle.std.specs.Int.{from_le_bytes, w32}
 use Rattle.krs_types.specs.declared.note.Record.{Record}
-use Rattle.krs_model.specs.Notes.Bytes.{type_of, subtype_of, size_of, watch_of, tail_of, bytes_of, bytes_of_all}
-use Rattle.krs_model.specs.Notes.Bytes.{Fits, AllFit}
-use Rattle.krs_model.specs.Lists.{Begins}
+use Rattle.krs_model.specs.{Lists.Begins, Notes.Bytes.AllFit}
+use Rattle.krs_model.specs.Notes.Bytes.{bytes_of, bytes_of_all, Fits, size_of, subtype_of, tail_of, type_of, watch_of}
 
 -- the little-endian word of four bytes at a place
 abbrev pub word_at : List ℕ → ℕ → ℕ

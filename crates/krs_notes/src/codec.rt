@@ -1,7 +1,6 @@
-ghost use Rattle.std.specs.Prelude.{◌≡◌, Some, length, IfSome};
+ghost use Rattle.std.specs.Prelude.{◌≡◌, IfSome, length, Some};
 ghost use Rattle.krs_types.specs.declared.note.Record.{Record};
-ghost use Rattle.krs_model.specs.Lists.{Begins};
-ghost use Rattle.krs_model.specs.Notes.Bytes.{bytes_of, size_of, Fits};
+ghost use Rattle.krs_model.specs.{Lists.Begins, Notes.Bytes.{bytes_of, Fits, size_of}};
 ghost use Rattle.krs_notes.specs.Guess.{guess};
 
 use crate::subtype::{event_number, event_numbered};
@@ -16,7 +15,7 @@ pub struct RecordBytes {
 }
 
 impl Model for RecordBytes {
-    ghost use Rattle.std.specs.Prelude.{ℕ, List, take, ◌≤◌};
+    ghost use Rattle.std.specs.Prelude.{◌≤◌, List, take, ℕ};
 
     ghost Value = { List ℕ };
 

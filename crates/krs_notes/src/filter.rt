@@ -1,8 +1,6 @@
-ghost use Rattle.std.specs.Prelude.{◌≡◌};
-ghost use Rattle.std.specs.List.{list_all, list_any};
-ghost use Rattle.std.specs.Option.{option_copied};
-ghost use Rattle.krs_model.specs.Notes.Filter.{filter_of, is_good_filter, is_good_entry, has_subtype, asks_for};
-ghost use Rattle.krs_model.specs.Notes.Filter.{passes, passes_if_any};
+ghost use Rattle.std.specs.{Prelude.{◌≡◌, option_copied}, List.{list_all, list_any}};
+ghost use Rattle.krs_model.specs.Notes.Filter.{asks_for, filter_of, has_subtype, is_good_entry, is_good_filter, passes};
+ghost use Rattle.krs_model.specs.Notes.Filter.{passes_if_any};
 
 use crate::subtype::event_number;
 use krs_types::{Errno, FilterEntry, Record};

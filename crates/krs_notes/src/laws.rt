@@ -1,4 +1,4 @@
-ghost use Rattle.krs_notes.specs.Laws.{EachIsSpelled, HasOneSpelling, NoneBeginsAnother, AreReadOneWay};
+ghost use Rattle.krs_notes.specs.Laws.{AreReadOneWay, EachIsSpelled, HasOneSpelling, NoneBeginsAnother};
 
 /// Laws of the bytes: they are those that the header's fields and masks tell of, none begin another record's, and a
 /// reader takes what a queue gave it apart in one way only.

@@ -1,7 +1,7 @@
 -- Whole scripts over a connection.
-use Rattle.std.proofs.Common.{ℕ, ◌≡◌, List, Option}
+use Rattle.std.proofs.Common.{◌≡◌, List, Option, ℕ}
 use Rattle.krs_script.specs.Running.{Ends}
-use Rattle.krs_remote.specs.Remote.{Talk, talk_on, Acts, Breaks, EndsRemote}
+use Rattle.krs_remote.specs.Remote.{Acts, Breaks, EndsRemote, Talk, talk_on}
 
 -- a script that was run from the first ask on
 pub ends_remote : (input c v sent0 sent1 left : Option (List ℕ)) (start last : Talk) (status : ℕ)

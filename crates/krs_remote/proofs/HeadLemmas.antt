@@ -1,21 +1,14 @@
 -- The length of a reply's frame, read before the rest of it.
-use Rattle.std.proofs.Common.{◌≡◌, ℕ, zero, suc, Bool, true, false, cond, ltb, List, [], ◌∷◌, length, Option, None, Some}
-use Rattle.std.proofs.Common.{Result, Ok, Err, refl, sym, ap, ◌∙◌, arith}
-use Rattle.std.proofs.lemmas.Bool.{true≢false, lt-ltb}
-use Rattle.std.specs.Int.{w32, from_le_bytes}
-use Rattle.krs_wire.specs.declared.fault.WireFault.{WireFault}
-use Rattle.krs_wire.specs.declared.fault.WireFault.TheVariants.{BadLength}
-use Rattle.krs_types.specs.declared.shape.Shape.{Shape}
-use Rattle.krs_wire.specs.Field.{number}
-use Rattle.std.specs.Option.{option_map}
-use Rattle.krs_types.specs.declared.ask.Answer.{Answer}
-use Rattle.krs_types.specs.declared.errno.Errno.{Errno}
+use Rattle.std.proofs.Common.{[], ◌∙◌, ◌∷◌, ◌≡◌, ap, arith, Bool, cond, Err, false, length, List, lt-ltb, ltb, None, Ok}
+use Rattle.std.proofs.Common.{Option, option_map, refl, Result, Some, suc, sym, true, true≢false, w32, zero, ℕ}
+use Rattle.std.specs.Int.{from_le_bytes}
+use Rattle.krs_types.specs.declared.{ask.Answer.Answer, errno.Errno.Errno, shape.Shape.Shape}
 use Rattle.krs_wire.specs.Faulting.{GivesRead}
-use Rattle.krs_wire.specs.Reply.{is_bad_reply_length, reply_front, reply_in, tagged, Found}
-use Rattle.krs_wire.specs.declared.fault.WireFault.TheVariants as wire
-use Rattle.krs_words.specs.declared.stop.Stop.{Stop}
-use Rattle.krs_words.specs.declared.stop.Stop.TheVariants.{Memory, Connection}
+use Rattle.krs_wire.specs.{Field.number, Reply.{Found, is_bad_reply_length, reply_front, reply_in, tagged}}
+use Rattle.krs_wire.specs.declared.fault.WireFault.{WireFault, TheVariants.BadLength}
+use Rattle.krs_words.specs.declared.stop.Stop.{Stop, TheVariants.{Connection, Memory}}
 use Rattle.krs_remote.specs.Talking.{cause_of}
+use Rattle.krs_wire.specs.declared.fault.WireFault.TheVariants as wire
 
 -- a fault is that of the length, where nothing follows it
 chosen : (bad few : Bool) (x : Result (Option Found) WireFault) (fault : WireFault) → (bad ≡ false → few ≡ true)

@@ -1,20 +1,13 @@
 -- Why commands break off over a connection.
-use Rattle.std.proofs.Common.{ℕ, ℤ, inl, inr, List, Option, Result, Ok, Err, IfOk, IfErr, refl}
-use Rattle.krs_types.specs.declared.errno.Errno.{Errno}
-use Rattle.krs_types.specs.declared.ask.Answer.{Answer}
-use Rattle.krs_types.specs.declared.ask.Answer.TheVariants.{Nothing, Number, Bytes}
-use Rattle.krs_types.specs.declared.caller.Caller.{Caller}
-use Rattle.krs_types.specs.declared.ask.Ask.{Ask as AskIs}
-use Rattle.krs_types.specs.declared.ask.Op.{Op}
-use Rattle.krs_types.specs.declared.ask.Op.TheVariants as op
-use Rattle.krs_commands.specs.declared.command.Command.{Command}
-use Rattle.krs_commands.specs.declared.command.Command.TheVariants.{Context, Moment, Ask, Rlist, Readq}
+use Rattle.std.proofs.Common.{Err, IfErr, IfOk, inl, inr, List, Ok, Option, refl, Result, ℕ, ℤ}
+use Rattle.krs_types.specs.declared.ask.Answer.{Answer, TheVariants.{Bytes, Nothing, Number}}
+use Rattle.krs_types.specs.declared.{ask.{Ask.Ask as AskIs, Op.Op}, errno.Errno.Errno}
 use Rattle.krs_words.specs.declared.stop.Stop.{Stop}
-use Rattle.krs_words.specs.declared.stop.Stop.TheVariants.{Usage, Memory, Reading, TooLong, Printing, Connection}
+use Rattle.krs_words.specs.declared.stop.Stop.TheVariants.{Connection, Memory, Printing, Reading, TooLong, Usage}
+use Rattle.krs_commands.specs.declared.command.Command.{Command, TheVariants.{Ask, Context, Moment, Readq, Rlist}}
 use Rattle.krs_script.specs.Running.{IsCause}
-use Rattle.krs_remote.specs.Talking.{GivesUp}
-use Rattle.krs_remote.specs.Remote.{Talk, next_tag, ask_of, Breaks, BreaksCall, StopsList, GivesUpAsk}
-use Rattle.krs_remote.specs.Call.{StopsCall}
+use Rattle.krs_remote.specs.{Remote.{ask_of, Breaks, GivesUpAsk, next_tag, StopsList, Talk}, Talking.GivesUp}
+use Rattle.krs_types.specs.declared.ask.Op.TheVariants as op
 
 gives_up_by : (sent0 left0 : Option (List ℕ)) (tag : ℕ) (ask : AskIs) (sent1 left1 : Option (List ℕ)) (stop : Stop)
     → GivesUp sent0 left0 tag ask sent1 left1 stop → IsCause stop

@@ -1,16 +1,11 @@
 -- The frame of a reply as it is read.
-use Rattle.std.proofs.Common.{◌≡◌, ℕ, ◌<◌, ◌^◌, ◌⊎◌, inl, inr, true, List, [], length, Option, Some, None, Result, Ok}
-use Rattle.std.proofs.Common.{Err, refl, sym, ap, subst, ◌∙◌}
-use Rattle.std.proofs.lemmas.List.{append-nil}
-use Rattle.std.specs.Option.{option_map}
-use Rattle.krs_types.specs.declared.ask.Answer.{Answer}
-use Rattle.krs_types.specs.declared.errno.Errno.{Errno}
-use Rattle.krs_types.specs.declared.shape.Shape.{Shape}
-use Rattle.krs_wire.specs.declared.fault.WireFault.{WireFault}
-use Rattle.krs_wire.specs.declared.fault.WireFault.TheVariants as wire
+use Rattle.std.proofs.Common.{[], ◌<◌, ◌^◌, ◌∙◌, ◌≡◌, ◌⊎◌, ap, append-nil, Err, inl, inr, length, List, None, Ok}
+use Rattle.std.proofs.Common.{Option, option_map, refl, Result, Some, subst, sym, true, ℕ}
+use Rattle.krs_types.specs.declared.{ask.Answer.Answer, errno.Errno.Errno, shape.Shape.Shape}
 use Rattle.krs_wire.specs.Faulting.{GivesRead}
-use Rattle.krs_wire.specs.Reply.{reply_frame, tagged, Finds, Found}
+use Rattle.krs_wire.specs.{Reply.{Finds, Found, reply_frame, tagged}, declared.fault.WireFault.WireFault}
 use Rattle.krs_remote.specs.Talking.{IsReply}
+use Rattle.krs_wire.specs.declared.fault.WireFault.TheVariants as wire
 
 -- the frame of this reply with this tag is read as it, whole
 read_whole : (shape : Shape) (tag : ℕ) (bytes : List ℕ) (reply : Result Answer Errno)

@@ -1,18 +1,13 @@
 -- A single call over a connection: keyretain(1), "Single calls".
-use Rattle.std.specs.Prelude.{ℕ, ◌≡◌, ◌⊎◌, Bool, true, false, if◌then◌else◌, List, [], ◌∷◌, ◌++◌, Option, None, Some}
-use Rattle.std.specs.Prelude.{Result, Ok, Err}
-use Rattle.krs_types.specs.declared.caller.Caller.{Caller}
-use Rattle.krs_types.specs.declared.ask.Op.TheVariants.{Hello}
-use Rattle.krs_commands.specs.declared.command.Command.{Command}
-use Rattle.krs_commands.specs.declared.command.Command.TheVariants.{Context, Moment, Ask}
-use Rattle.krs_commands.specs.Command.{command_of}
-use Rattle.krs_words.specs.declared.output.Output.{Output}
-use Rattle.krs_words.specs.declared.stop.Stop.{Stop}
-use Rattle.krs_words.specs.declared.stop.Stop.TheVariants.{Memory}
+use Rattle.std.specs.Prelude.{[], ◌++◌, ◌∷◌, ◌≡◌, ◌⊎◌, Bool, Err, false, if◌then◌else◌, List, None, Ok, Option, Result}
+use Rattle.std.specs.Prelude.{Some, true, ℕ}
+use Rattle.krs_types.specs.declared.{ask.Op.TheVariants.Hello, caller.Caller.Caller}
 use Rattle.krs_words.specs.Parsed.{◌>>=◌}
-use Rattle.krs_words.specs.Printing.{shown}
-use Rattle.krs_script.specs.Ending.{status_of, last_line, Says}
-use Rattle.krs_remote.specs.Remote.{Talk, talk_on, CallsFor, BreaksCall}
+use Rattle.krs_words.specs.{Printing.shown, declared.{output.Output.Output, stop.Stop.{Stop, TheVariants.Memory}}}
+use Rattle.krs_commands.specs.Command.{command_of}
+use Rattle.krs_commands.specs.declared.command.Command.{Command, TheVariants.{Ask, Context, Moment}}
+use Rattle.krs_script.specs.Ending.{last_line, Says, status_of}
+use Rattle.krs_remote.specs.Remote.{BreaksCall, CallsFor, Talk, talk_on}
 
 -- a command that makes no context and sets nothing for lines that follow
 abbrev pub is_single : Command → Bool

@@ -1,24 +1,12 @@
 -- What commands do over a connection: keyretain(1), "DESCRIPTION", "Commands" and "Single calls".
-use Rattle.std.specs.Prelude.{ℕ, ℤ, ◌≡◌, ◌+◌, ◌⊎◌, ◌||◌, Bool, false, List, Option, Result, Ok, Err}
-use Rattle.std.specs.Result.{is_err}
-use Rattle.krs_types.specs.declared.errno.Errno.{Errno}
-use Rattle.krs_types.specs.declared.caller.Caller.{Caller}
-use Rattle.krs_types.specs.declared.ask.Ask.{Ask as AskIs}
-use Rattle.krs_types.specs.declared.ask.Op.{Op}
+use Rattle.std.specs.Prelude.{◌+◌, ◌||◌, ◌≡◌, ◌⊎◌, Bool, Err, false, is_err, List, Ok, Option, Result, ℕ, ℤ}
+use Rattle.krs_types.specs.declared.ask.Answer.{Answer, TheVariants.{Bytes, Nothing, Number}}
+use Rattle.krs_types.specs.declared.{ask.{Ask.Ask as AskIs, Op.Op}, caller.Caller.Caller, errno.Errno.Errno}
+use Rattle.krs_words.specs.declared.{output.Output.{Output, TheVariants.Reply}, stop.Stop.{Stop, TheVariants.Usage}}
+use Rattle.krs_commands.specs.declared.command.Command.{Command, TheVariants.{Ask, Context, Moment, Readq, Rlist}}
+use Rattle.krs_script.specs.{Ending.context_after, Listing.{listing, records_of}, Running.Ends}
+use Rattle.krs_remote.specs.{Talking.{Exchanges, GivesUp}, declared.remote.Remote.Remote}
 use Rattle.krs_types.specs.declared.ask.Op.TheVariants as op
-use Rattle.krs_types.specs.declared.ask.Answer.{Answer}
-use Rattle.krs_types.specs.declared.ask.Answer.TheVariants.{Nothing, Number, Bytes}
-use Rattle.krs_commands.specs.declared.command.Command.{Command}
-use Rattle.krs_commands.specs.declared.command.Command.TheVariants.{Context, Moment, Ask, Rlist, Readq}
-use Rattle.krs_words.specs.declared.output.Output.{Output}
-use Rattle.krs_words.specs.declared.output.Output.TheVariants.{Reply}
-use Rattle.krs_words.specs.declared.stop.Stop.{Stop}
-use Rattle.krs_words.specs.declared.stop.Stop.TheVariants.{Usage}
-use Rattle.krs_script.specs.Ending.{context_after}
-use Rattle.krs_script.specs.Listing.{listing, records_of}
-use Rattle.krs_script.specs.Running.{Ends}
-use Rattle.krs_remote.specs.declared.remote.Remote.{Remote}
-use Rattle.krs_remote.specs.Talking.{Exchanges, GivesUp}
 
 -- a client over a connection between two commands: the current context, whether an ask was refused, how many asks were
 -- made, what was sent, and what is still to be read; of an end that does not tell its bytes nothing is known

@@ -1,18 +1,13 @@
 -- What goes over a connection: docs/FORMAT.md, "Frames"; keyretain(1), "DESCRIPTION". Frames are of version 2: each
 -- ask has a tag, and only a reply with that tag is one to it.
-use Rattle.std.specs.Prelude.{ℕ, ◌≡◌, ◌<◌, ◌++◌, List, length, Option, Some, Result}
+use Rattle.std.specs.Prelude.{◌++◌, ◌<◌, ◌≡◌, length, List, Option, Result, Some, ℕ}
 use Rattle.std.specs.Io.KnownBytes.{Appends, Consumes}
-use Rattle.krs_types.specs.declared.errno.Errno.{Errno}
-use Rattle.krs_types.specs.declared.ask.Answer.{Answer}
-use Rattle.krs_types.specs.declared.ask.Ask.{Ask}
-use Rattle.krs_wire.specs.declared.fault.WireFault.{WireFault}
-use Rattle.krs_wire.specs.declared.fault.WireFault.TheVariants as wire
-use Rattle.krs_types.specs.declared.shape.Shape.{Shape}
+use Rattle.krs_types.specs.declared.{ask.{Answer.Answer, Ask.Ask}, errno.Errno.Errno, shape.Shape.Shape}
 use Rattle.krs_wire.specs.Encoding.{ask_frame, ask_text}
-use Rattle.krs_wire.specs.Reply.{reply_frame, shape_of, HasShape}
-use Rattle.krs_words.specs.declared.stop.Stop.{Stop}
-use Rattle.krs_words.specs.declared.stop.Stop.TheVariants.{Usage, Memory, Reading, TooLong, Printing, Connection}
-use Rattle.krs_words.specs.Writing.{WritesFront}
+use Rattle.krs_wire.specs.{Reply.{HasShape, reply_frame, shape_of}, declared.fault.WireFault.WireFault}
+use Rattle.krs_words.specs.{Writing.WritesFront, declared.stop.Stop.Stop}
+use Rattle.krs_words.specs.declared.stop.Stop.TheVariants.{Connection, Memory, Printing, Reading, TooLong, Usage}
+use Rattle.krs_wire.specs.declared.fault.WireFault.TheVariants as wire
 
 -- why a client stops that reads no reply: memory ran out, or the connection gave what is none
 abbrev pub cause_of : WireFault → Stop

@@ -1,14 +1,12 @@
 //! One ask over a connection, and its reply, in frames of version 2.
 
-ghost use Rattle.std.specs.Prelude.{◌≡◌, ◌⊎◌, ◌<◌, ◌≤◌, ◌+◌, ◌++◌, true, false, take, drop, length, vec_len, Some, Result, Err};
-ghost use Rattle.std.specs.Prelude.{OnOk, IfOk, IfErr, IsOk, All};
-ghost use Rattle.std.specs.Int.{w32, from_le_bytes};
-ghost use Rattle.std.specs.Io.KnownBytes.{Appends, Consumes};
-ghost use Rattle.krs_types.specs.declared.ask.Answer.{Answer};
-ghost use Rattle.krs_types.specs.declared.errno.Errno.{Errno};
+ghost use Rattle.std.specs.Prelude.{◌++◌, ◌+◌, ◌<◌, ◌≡◌, ◌≤◌, ◌⊎◌, All, drop, Err, false, IfErr, IfOk, IsOk, length};
+ghost use Rattle.std.specs.Prelude.{OnOk, Result, Some, take, true, vec_len};
+ghost use Rattle.std.specs.{Int.{from_le_bytes, w32}, Io.KnownBytes.{Appends, Consumes}};
+ghost use Rattle.krs_types.specs.declared.{ask.Answer.Answer, errno.Errno.Errno};
 ghost use Rattle.krs_wire.specs.Encoding.{ask_frame, ask_text};
-ghost use Rattle.krs_wire.specs.Reply.{is_bad_reply_length, reply_frame, reply_front, shape_of, HasShape, IsFound};
-ghost use Rattle.krs_remote.specs.Talking.{Exchanges, FollowsHead, GivesReply, GivesUp, IsReply, NotSent, cause_of};
+ghost use Rattle.krs_wire.specs.Reply.{HasShape, is_bad_reply_length, IsFound, reply_frame, reply_front, shape_of};
+ghost use Rattle.krs_remote.specs.Talking.{cause_of, Exchanges, FollowsHead, GivesReply, GivesUp, IsReply, NotSent};
 
 use krs_types::{Ask, Blob, Op, Reply};
 use krs_wire::{WireFault, decode_reply2, encode_ask2};

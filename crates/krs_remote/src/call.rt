@@ -1,6 +1,6 @@
 ghost use Rattle.std.specs.Prelude.{◌≡◌, map};
 ghost use Rattle.krs_words.specs.Parsed.{Reads};
-ghost use Rattle.krs_remote.specs.Call.{EndsCall, call_of, is_single};
+ghost use Rattle.krs_remote.specs.Call.{call_of, EndsCall, is_single};
 
 use crate::remote::{Remote, start};
 use krs_commands::{Command, parse};
@@ -49,9 +49,8 @@ pub fn run_call<W: Write, F: Read + Drop, T: Write>(
 }
 
 impl<F: Read> Remote<F> {
-    ghost use Rattle.std.specs.Prelude.{◌≡◌, IfOk, IfErr};
-    ghost use Rattle.krs_remote.specs.Remote.{talk_of};
-    ghost use Rattle.krs_remote.specs.Call.{CallEnds, PrintsCall, StopsCall};
+    ghost use Rattle.std.specs.Prelude.{◌≡◌, IfErr, IfOk};
+    ghost use Rattle.krs_remote.specs.{Call.{CallEnds, PrintsCall, StopsCall}, Remote.talk_of};
 
     /// A single call, before which nothing was asked, and its status.
     fn call_once<W: Write, T: Write>(

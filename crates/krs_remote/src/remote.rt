@@ -1,6 +1,5 @@
 ghost use Rattle.std.specs.Prelude.{◌≡◌};
-ghost use Rattle.krs_remote.specs.Asked.{is_hello};
-ghost use Rattle.krs_remote.specs.Remote.{unasked};
+ghost use Rattle.krs_remote.specs.{Asked.is_hello, Remote.unasked};
 
 use crate::asking::ask_and_reply;
 use krs_commands::Command;
@@ -39,12 +38,11 @@ pub(crate) fn start<F>(from: F) -> Remote<F>
 }
 
 impl<F: Read> Remote<F> {
-    ghost use Rattle.std.specs.Prelude.{◌||◌, ◌+◌, ◌<◌, ◌≤◌, ◌^◌, IfOk, IfErr};
-    ghost use Rattle.std.specs.Result.{is_err};
-    ghost use Rattle.krs_remote.specs.Remote.{Acts, AsksOver, AsksUnseen, Breaks, BreaksList, CallsFor, BreaksCall};
-    ghost use Rattle.krs_remote.specs.Remote.{GivesUpAsk, Lists, ListsBy, StopsList, talk_of};
+    ghost use Rattle.std.specs.Prelude.{◌+◌, ◌<◌, ◌^◌, ◌||◌, ◌≤◌, IfErr, IfOk, is_err};
     ghost use Rattle.krs_types.specs.declared.ask.Op.{Op};
     ghost use Rattle.krs_script.specs.Ending.{context_after};
+    ghost use Rattle.krs_remote.specs.Remote.{Acts, AsksOver, AsksUnseen, Breaks, BreaksCall, BreaksList, CallsFor};
+    ghost use Rattle.krs_remote.specs.Remote.{GivesUpAsk, Lists, ListsBy, StopsList, talk_of};
 
     /// What a command comes to. There is no moment to set: the server has its own clock.
     pub(crate) fn act<T: Write>(

@@ -1,21 +1,14 @@
 -- Slots, and the waiting list that they stand for.
-use Rattle.std.proofs.Common.{◌≡◌, ℕ, ◌+◌, ◌*◌, ◌-◌, ◌≤◌, ◌<◌, Bool, true, false, List, [], ◌∷◌, ◌++◌, Some, None}
-use Rattle.std.proofs.Common.{length}
-use Rattle.std.proofs.Common.{take, suc, ltb, length-append, refl, sym, ap, ◌∙◌, append_assoc, arith}
-use Rattle.std.specs.List.{slice_get}
-use Rattle.std.proofs.lemmas.Bool.{lt-ltb, le-ltb}
+use Rattle.std.proofs.Common.{[], ◌*◌, ◌++◌, ◌+◌, ◌-◌, ◌<◌, ◌∙◌, ◌∷◌, ◌≡◌, ◌≤◌, ap, append_assoc, arith, Bool, false}
+use Rattle.std.proofs.Common.{le-ltb, length, length-append, List, lt-ltb, ltb, None, refl, slice_get, Some, suc, sym}
+use Rattle.std.proofs.Common.{take, true, ℕ}
 use Rattle.circular_buffer.specs.Buffer.{Buffer, buffer, keep_last, last_item}
 use Rattle.circular_buffer.proofs.Places.{slice_get-some}
-use Rattle.krs_types.specs.declared.note.Record.{Record}
-use Rattle.krs_types.specs.declared.note.Record.TheVariants.{Key, Removal, Loss}
-use Rattle.krs_model.specs.Notes.Bytes.{is_loss, bytes_of, bytes_of_all}
-use Rattle.krs_model.specs.Notes.Stream.{room_of, loss_if}
-use Rattle.krs_model.specs.Notes.Waiting.{total_room, with_loss, after_post}
-use Rattle.krs_ring.specs.Ring.{Ring}
-use Rattle.krs_ring.specs.Slots.{notes_of, marked, HasNoLoss}
-use Rattle.krs_ring.specs.View.{ring_of}
-use Rattle.krs_ring.specs.declared.ring.Slot.{Slot}
-use Rattle.krs_model.proofs.Notes.Streams.{total_room-append, ends_lost, ends_lost-append, marked_list, with_loss-is}
+use Rattle.krs_types.specs.declared.note.Record.{Record, TheVariants.{Key, Loss, Removal}}
+use Rattle.krs_model.specs.Notes.Bytes.{bytes_of, bytes_of_all, is_loss}
+use Rattle.krs_model.specs.Notes.{Stream.{loss_if, room_of}, Waiting.{after_post, total_room, with_loss}}
+use Rattle.krs_model.proofs.Notes.Streams.{ends_lost, ends_lost-append, marked_list, total_room-append, with_loss-is}
+use Rattle.krs_ring.specs.{Ring.Ring, Slots.{HasNoLoss, marked, notes_of}, View.ring_of, declared.ring.Slot.Slot}
 
 notes_of-append : (a b : List Slot) → notes_of (a ++ b) ≡ notes_of a ++ notes_of b
 notes_of-append [] b = refl

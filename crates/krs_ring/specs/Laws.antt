@@ -1,8 +1,7 @@
 -- What a ring gives to its reader, over any posts and takes.
-use Rattle.std.specs.Prelude.{◌≡◌, ℕ, ◌≤◌, List, [], ◌++◌}
+use Rattle.std.specs.Prelude.{[], ◌++◌, ◌≡◌, ◌≤◌, List, ℕ}
 use Rattle.krs_types.specs.declared.note.Record.{Record}
-use Rattle.krs_model.specs.Notes.Stream.{Move, taken, stream}
-use Rattle.krs_model.specs.Notes.Waiting.{MovesTo}
+use Rattle.krs_model.specs.Notes.{Stream.{Move, stream, taken}, Waiting.MovesTo}
 
 -- what was taken, followed by what waits, is the stream
 abbrev pub GivesItsStream : Type 0

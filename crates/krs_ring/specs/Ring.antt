@@ -1,5 +1,5 @@
 -- What a contract sees of a ring.
-use Rattle.std.specs.Prelude.{ℕ, List, []}
+use Rattle.std.specs.Prelude.{[], List, ℕ}
 use Rattle.krs_types.specs.declared.note.Record.{Record}
 
 -- how many records other than losses may wait, and what waits, oldest first

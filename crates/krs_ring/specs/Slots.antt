@@ -1,8 +1,7 @@
 -- Which records the slots of a ring stand for.
-use Rattle.std.specs.Prelude.{◌≡◌, true, false, List, [], ◌∷◌, ◌++◌}
+use Rattle.std.specs.Prelude.{[], ◌++◌, ◌∷◌, ◌≡◌, false, List, true}
 use Rattle.krs_types.specs.declared.note.Record.{Record}
-use Rattle.krs_model.specs.Notes.Bytes.{is_loss}
-use Rattle.krs_model.specs.Notes.Stream.{loss_if}
+use Rattle.krs_model.specs.Notes.{Bytes.is_loss, Stream.loss_if}
 use Rattle.krs_ring.specs.declared.ring.Slot.{Slot}
 
 -- each kept record, and a loss after each that is marked

@@ -1,10 +1,7 @@
 -- Which waiting list a ring stands for.
-use Rattle.std.specs.Prelude.{◌≤◌, ◌++◌}
-use Rattle.krs_model.specs.Notes.Stream.{loss_if}
-use Rattle.krs_model.specs.Notes.Waiting.{greatest_capacity}
-use Rattle.krs_ring.specs.Ring.{Ring}
-use Rattle.krs_ring.specs.Slots.{notes_of, HasNoLoss}
-use Rattle.krs_ring.specs.declared.ring.NoteRing.TheInside.{Inside}
+use Rattle.std.specs.Prelude.{◌++◌, ◌≤◌}
+use Rattle.krs_model.specs.Notes.{Stream.loss_if, Waiting.greatest_capacity}
+use Rattle.krs_ring.specs.{Ring.Ring, Slots.{HasNoLoss, notes_of}, declared.ring.NoteRing.TheInside.Inside}
 
 -- the loss that is owed, then what the slots stand for
 abbrev pub ring_of : Inside → Ring

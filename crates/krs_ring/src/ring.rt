@@ -1,10 +1,8 @@
-ghost use Rattle.std.specs.Prelude.{◌≡◌, ◌+◌, ◌*◌, ◌≤◌, drop, length, false, slice_get, if◌then◌else◌, IsTrue, IfOk};
-ghost use Rattle.std.specs.Prelude.{OnOk, IfErr};
+ghost use Rattle.std.specs.Prelude.{◌*◌, ◌+◌, ◌≡◌, ◌≤◌, drop, false, IfErr, IfOk, if◌then◌else◌, IsTrue, length, OnOk};
+ghost use Rattle.std.specs.Prelude.{slice_get};
 ghost use Rattle.circular_buffer.specs.Buffer.{buffer};
-ghost use Rattle.krs_model.specs.Notes.Bytes.{is_loss, bytes_of_all};
-ghost use Rattle.krs_model.specs.Notes.Waiting.{is_capacity, total_room, after_post};
-ghost use Rattle.krs_ring.specs.Ring.{empty_ring};
-ghost use Rattle.krs_ring.specs.Slots.{marked};
+ghost use Rattle.krs_model.specs.Notes.{Bytes.{bytes_of_all, is_loss}, Waiting.{after_post, is_capacity, total_room}};
+ghost use Rattle.krs_ring.specs.{Ring.empty_ring, Slots.marked};
 
 use circular_buffer::HeapCircularBuffer;
 use krs_types::{Errno, Record};
@@ -34,7 +32,7 @@ impl Model for NoteRing {
 
     ghost Value = { Ring };
 
-    ghost use Rattle.krs_ring.specs.View.{ring_of, IsNoteRing};
+    ghost use Rattle.krs_ring.specs.View.{IsNoteRing, ring_of};
 
     ghost view = { ring_of };
 

@@ -1,30 +1,19 @@
 -- A key that goes out of one keyring after the other, and out of all attachments: what is left to be done.
-use Rattle.std.proofs.Common.{◌≡◌, ℕ, ◌+◌, ◌==◌, List, [], ◌∷◌, ◌++◌, Option, Some, None, Ok, Err, true, false, cond, not}
-use Rattle.std.proofs.Common.{if◌then◌else◌, Result, filter, refl, ap, ◌∙◌, sym, arith}
-use Rattle.std.proofs.lemmas.List.Elements.{filter-append}
-use Rattle.std.specs.Option.{option_to_list}
-use Rattle.std.specs.Ordering.{nat_cmp}
+use Rattle.std.proofs.Common.{[], ◌++◌, ◌+◌, ◌==◌, ◌∙◌, ◌∷◌, ◌≡◌, ap, arith, cond, Err, false, filter, if◌then◌else◌}
+use Rattle.std.proofs.Common.{List, nat_cmp, None, not, Ok, Option, option_to_list, refl, Result, Some, sym, true, ℕ}
 use Rattle.std.specs.BTreeMap.{is_at}
-use Rattle.krs_types.specs.declared.errno.Errno.{Errno}
-use Rattle.krs_types.specs.declared.context.Context.{Context}
-use Rattle.krs_types.specs.declared.context.UidRings.{UidRings}
-use Rattle.krs_model.specs.Table.{Table, alter, map_values}
-use Rattle.krs_model.specs.State.{State, Key, Content, Payload, Links}
-use Rattle.krs_model.specs.Possession.{links_of_content}
-use Rattle.krs_model.specs.Sweep.{roots, context_roots, process_roots, uid_roots}
-use Rattle.krs_model.specs.Asks.Changing.{changed}
-use Rattle.krs_model.specs.Asks.Linked.{without_link, unlinked_content}
-use Rattle.krs_model.specs.Asks.Invalidating.{detached, context_without, rings_without, invalidated}
-use Rattle.krs_hold.specs.Tally.{times, all_links, number_at, all_less, IsTallied}
-use Rattle.krs_hold.proofs.Times.{times-cons, times-append}
-use Rattle.krs_hold.proofs.Gathered.{gathered}
-use Rattle.krs_hold.proofs.Tallies.{tallied_attached, tallied_let_go_all, all_less-append}
+use Rattle.std.proofs.lemmas.List.Elements.{filter-append}
+use Rattle.krs_types.specs.declared.{context.{Context.Context, UidRings.UidRings}, errno.Errno.Errno}
+use Rattle.krs_model.specs.Asks.{Changing.changed, Invalidating.{context_without, detached, invalidated, rings_without}}
+use Rattle.krs_model.specs.Asks.Linked.{unlinked_content, without_link}
+use Rattle.krs_model.specs.{Possession.links_of_content, State.{Content, Key, Links, Payload, State}}
+use Rattle.krs_model.specs.{Sweep.{context_roots, process_roots, roots, uid_roots}, Table.{alter, map_values, Table}}
+use Rattle.krs_ctx.specs.{Anchors.Anchors, Told.anchors_without}
+use Rattle.krs_hold.specs.Tally.{all_less, all_links, IsTallied, number_at, times}
 use Rattle.krs_hold.proofs.Detached.{times-others, times-roots}
-use Rattle.krs_ctx.specs.Anchors.{Anchors}
-use Rattle.krs_ctx.specs.Told.{anchors_without}
-use Rattle.krs_tables.specs.declared.tables.Tables.TheInside.{Inside}
-use Rattle.krs_tables.specs.View.{state_of, IsConsistent}
-use Rattle.krs_tables.specs.Linked.{Takes}
+use Rattle.krs_hold.proofs.{Gathered.gathered, Tallies.{all_less-append, tallied_attached, tallied_let_go_all}}
+use Rattle.krs_hold.proofs.Times.{times-append, times-cons}
+use Rattle.krs_tables.specs.{Linked.Takes, View.{IsConsistent, state_of}, declared.tables.Tables.TheInside.Inside}
 use Rattle.krs_ring_asks.specs.Detached.{those, those_attached}
 
 -- what is left of a list without the key

@@ -1,19 +1,13 @@
 -- A key that goes out of every keyring and every attachment: what the store tells of it.
-use Rattle.std.proofs.Common.{◌≡◌, ℕ, [], ap, sym, subst}
-use Rattle.std.specs.Prelude.{replicate}
-use Rattle.krs_model.specs.Table.{Table, map_values}
-use Rattle.krs_model.specs.State as model
-use Rattle.krs_model.specs.Sweep.{roots}
-use Rattle.krs_model.specs.Asks.Invalidating.{invalidated}
-use Rattle.krs_keys.specs.Keys.{without_key}
-use Rattle.krs_keys.specs.Table.{Keys}
-use Rattle.krs_keys.proofs.Unlinking.{shown-without_key, fit-without_key, kinds-without_key}
-use Rattle.krs_hold.specs.Tally.{IsTallied, number_at, all_less}
+use Rattle.std.proofs.Common.{[], ◌≡◌, ap, replicate, subst, sym, ℕ}
+use Rattle.krs_model.specs.{Asks.Invalidating.invalidated, Sweep.roots, Table.{map_values, Table}}
+use Rattle.krs_ctx.specs.{Anchors.Anchors, Told.anchors_without}
+use Rattle.krs_keys.specs.{Keys.without_key, Table.Keys}
+use Rattle.krs_keys.proofs.Unlinking.{fit-without_key, kinds-without_key, shown-without_key}
+use Rattle.krs_hold.specs.Tally.{all_less, IsTallied, number_at}
 use Rattle.krs_hold.proofs.Detached.{tallied_whole}
-use Rattle.krs_ctx.specs.Anchors.{Anchors}
-use Rattle.krs_ctx.specs.Told.{anchors_without}
-use Rattle.krs_tables.specs.declared.tables.Tables.TheInside.{Inside}
-use Rattle.krs_tables.specs.View.{state_of, IsConsistent}
+use Rattle.krs_tables.specs.{View.{IsConsistent, state_of}, declared.tables.Tables.TheInside.Inside}
+use Rattle.krs_model.specs.State as model
 
 -- the store with these parts is sound, and the key is out
 pub record IsDetached (s new : Inside) (serial : ℕ) : Type 0 where

@@ -1,36 +1,19 @@
 -- LINK and UNLINK, from what the store has looked up to what they come to.
-use Rattle.std.proofs.Common.{◌≡◌, ℕ, ℤ, List, Option, None, Some, FitsSigned, to_z, of_z, Result, Ok, Err, refl, ap}
-use Rattle.std.proofs.Common.{◌∙◌, sym, subst, nat_lt, Bool, true, false, arith}
-use Rattle.std.specs.Option.{IsSome, IfSome, option_map}
-use Rattle.std.specs.Int.{w32}
-use Rattle.std.proofs.lemmas.Int.{to_z-of_z}
-use Rattle.std.proofs.lemmas.Bool.{true≢false}
-use Rattle.std.proofs.lemmas.Bool.Decides.{nat_tests}
-use Rattle.krs_types.specs.declared.errno.Errno.{Errno}
-use Rattle.krs_types.specs.declared.errno.Errno.TheVariants.{ENOKEY, EPERM}
-use Rattle.krs_types.specs.declared.ask.Answer.{Answer}
-use Rattle.krs_types.specs.declared.ask.Answer.TheVariants.{Nothing}
-use Rattle.krs_model.specs.Making.{made_for, within_serials}
-use Rattle.krs_types.specs.declared.context.Context.{Context}
-use Rattle.krs_types.specs.declared.fault.Fault.{Fault}
-use Rattle.krs_types.specs.declared.fault.Fault.TheVariants.{Memory, Refused}
-use Rattle.krs_types.specs.declared.rights.Want.{Want}
-use Rattle.krs_types.specs.declared.rights.Want.TheVariants.{Granted}
-use Rattle.krs_types.specs.Rights.{WRITE, LINK}
-use Rattle.krs_types.specs.Refusing.{◌>>=◌, or_refuse}
-use Rattle.krs_model.specs.Table.{at}
-use Rattle.krs_model.specs.State.{State, Key, Content, Payload, Links}
-use Rattle.krs_model.specs.Possession.{links_of_content}
-use Rattle.krs_model.specs.Sweep.{links_of_key}
-use Rattle.krs_model.specs.Reach.{links_of_key_at}
-use Rattle.krs_model.specs.Linking.{ring_links, linking}
-use Rattle.krs_model.specs.Lookup.{context_of, serial_of, look_up}
-use Rattle.krs_model.specs.Outcome.{Fails}
-use Rattle.krs_model.specs.Asks.Adding.{IsKeyringAt}
-use Rattle.krs_model.specs.Asks.Changing.{changed}
-use Rattle.krs_model.specs.Asks.Linked.{name_of, unless, nestable, link, unlink, if_linked, without_link}
+use Rattle.std.proofs.Common.{◌∙◌, ◌≡◌, ap, arith, Bool, Err, false, FitsSigned, IfSome, IsSome, List, nat_lt, None}
+use Rattle.std.proofs.Common.{of_z, Ok, Option, option_map, refl, Result, Some, subst, sym, to_z, true, true≢false, w32}
+use Rattle.std.proofs.{Common.{ℕ, ℤ}, lemmas.{Bool.Decides.nat_tests, Int.to_z-of_z}}
+use Rattle.krs_types.specs.{Refusing.{◌>>=◌, or_refuse}, Rights.{LINK, WRITE}, declared.ask.Answer.Answer}
+use Rattle.krs_types.specs.declared.{ask.Answer.TheVariants.Nothing, context.Context.Context, errno.Errno.Errno}
+use Rattle.krs_types.specs.declared.{errno.Errno.TheVariants.{ENOKEY, EPERM}, fault.Fault.Fault}
+use Rattle.krs_types.specs.declared.{fault.Fault.TheVariants.{Memory, Refused}, rights.Want.{Want, TheVariants.Granted}}
+use Rattle.krs_model.specs.Asks.{Adding.IsKeyringAt, Changing.changed}
+use Rattle.krs_model.specs.Asks.Linked.{if_linked, link, name_of, nestable, unless, unlink, without_link}
+use Rattle.krs_model.specs.Linking.{linking, ring_links}
+use Rattle.krs_model.specs.{Lookup.{context_of, look_up, serial_of}, Making.{made_for, within_serials}, Outcome.Fails}
+use Rattle.krs_model.specs.{Possession.links_of_content, Reach.links_of_key_at}
+use Rattle.krs_model.specs.{State.{Content, Key, Links, Payload, State}, Sweep.links_of_key, Table.at}
 use Rattle.krs_model.proofs.Lookups.Laws.{look_up_usable}
-use Rattle.krs_tables.specs.Linked.{name_in, room_in, Puts, Takes}
+use Rattle.krs_tables.specs.Linked.{name_in, Puts, room_in, Takes}
 
 -- a keyring that was looked up
 pub record IsFoundRing (s : State) (ring : ℕ × Key) : Type 0 where

@@ -1,53 +1,34 @@
 -- MOVE, from what the store has looked up to what it comes to.
-use Rattle.std.proofs.Common.{◌≡◌, ◌≢◌, ℕ, ℤ, ◌==◌, ◌&&◌, List, [], Option, None, Some, Bool, true, false, cond, nat_lt}
-use Rattle.std.proofs.Common.{Result, Ok, Err, refl, ap, ◌∙◌, sym, subst, ⊎_elim, FitsSigned, to_z, of_z}
-use Rattle.std.specs.Option.{IsSome, IfSome, is_some, option_map}
-use Rattle.std.specs.Int.{w32}
-use Rattle.std.proofs.lemmas.Int.{to_z-of_z}
-use Rattle.std.proofs.lemmas.Bool.{true≢false, eqb-true}
-use Rattle.std.proofs.lemmas.Option.{none-some}
-use Rattle.krs_types.specs.declared.errno.Errno.{Errno}
-use Rattle.krs_types.specs.declared.errno.Errno.TheVariants.{ENOKEY, ENOENT, ENOSPC, ELOOP, EINVAL}
-use Rattle.krs_types.specs.declared.ask.Answer.{Answer}
-use Rattle.krs_types.specs.declared.ask.Answer.TheVariants.{Nothing}
-use Rattle.krs_types.specs.declared.context.Context.{Context}
-use Rattle.krs_types.specs.declared.fault.Fault.{Fault}
-use Rattle.krs_types.specs.declared.fault.Fault.TheVariants.{Memory, Refused}
-use Rattle.krs_types.specs.declared.name.Name.{Name}
-use Rattle.krs_types.specs.declared.rights.Want.TheVariants.{Granted}
-use Rattle.krs_types.specs.Rights.{WRITE, LINK}
-use Rattle.krs_types.specs.Refusing.{◌>>=◌, or_refuse}
-use Rattle.krs_model.specs.Table.{Table, at, alter}
-use Rattle.krs_model.specs.State.{State, Key}
-use Rattle.krs_model.specs.Levels.{is_in}
-use Rattle.krs_model.specs.Sweep.{links_of_key}
-use Rattle.krs_model.specs.Reach.{links_of_key_at, has_chain, nesting_depth}
-use Rattle.krs_model.specs.Linking.{ring_links, link_named, linking}
-use Rattle.krs_model.specs.Lookup.{context_of, look_up}
-use Rattle.krs_model.specs.Making.{made_for, within_serials, special_ring}
-use Rattle.krs_model.specs.Outcome.{Outcome, Fails}
+use Rattle.std.proofs.Common.{[], ⊎_elim, ◌&&◌, ◌==◌, ◌∙◌, ◌≡◌, ◌≢◌, ap, Bool, cond, eqb-true, Err, false, FitsSigned}
+use Rattle.std.proofs.Common.{IfSome, is_some, IsSome, List, nat_lt, None, of_z, Ok, Option, option_map, refl, Result}
+use Rattle.std.proofs.Common.{Some, subst, sym, to_z, true, true≢false, w32, ℕ, ℤ}
+use Rattle.std.proofs.lemmas.{Int.to_z-of_z, Option.none-some}
+use Rattle.krs_types.specs.{Refusing.{◌>>=◌, or_refuse}, Rights.{LINK, WRITE}, declared.ask.Answer.Answer}
+use Rattle.krs_types.specs.declared.{ask.Answer.TheVariants.Nothing, context.Context.Context, errno.Errno.Errno}
+use Rattle.krs_types.specs.declared.errno.Errno.TheVariants.{EINVAL, ELOOP, ENOENT, ENOKEY, ENOSPC}
+use Rattle.krs_types.specs.declared.fault.Fault.{Fault, TheVariants.{Memory, Refused}}
+use Rattle.krs_types.specs.declared.{name.Name.Name, rights.Want.TheVariants.Granted}
 use Rattle.krs_model.specs.Asks.Changing.{changed}
-use Rattle.krs_model.specs.Asks.Linked.{unless, name_of, if_linked, linked_into, nestable, without_link}
+use Rattle.krs_model.specs.Asks.Linked.{if_linked, linked_into, name_of, nestable, unless, without_link}
 use Rattle.krs_model.specs.Asks.Moving.{move_link, moved, moved_over, moved_to}
-use Rattle.krs_model.proofs.Tables.Changes.{at_or_apart, at_alter_other}
+use Rattle.krs_model.specs.{Levels.is_in, Linking.{link_named, linking, ring_links}, Lookup.{context_of, look_up}}
+use Rattle.krs_model.specs.Making.{made_for, special_ring, within_serials}
+use Rattle.krs_model.specs.{Outcome.{Fails, Outcome}, Reach.{has_chain, links_of_key_at, nesting_depth}}
+use Rattle.krs_model.specs.{State.{Key, State}, Sweep.links_of_key, Table.{alter, at, Table}}
 use Rattle.krs_model.proofs.Asks.Later.{bind_ok, same_ok, same_state, within_ok}
-use Rattle.krs_model.proofs.Asks.LaterByAsk.{IsMoved, Stays, Moves, moved_is, linked_into_is}
-use Rattle.krs_model.proofs.Lookups.Laws.{look_up_usable}
-use Rattle.krs_model.proofs.MadeKeyring.State.{at_other}
-use Rattle.krs_model.proofs.MadeKeyring.Lookups.{look_up_new}
-use Rattle.krs_model.proofs.MadeKeyring.Links.{linked_into_new}
-use Rattle.krs_keys.specs.declared.key.Key as keys
-use Rattle.krs_keys.specs.Keys.{seen, named_links_of_content, FindsByName}
+use Rattle.krs_model.proofs.Asks.LaterByAsk.{IsMoved, linked_into_is, moved_is, Moves, Stays}
+use Rattle.krs_model.proofs.{Lookups.Laws.look_up_usable, MadeKeyring.{Links.linked_into_new, Lookups.look_up_new}}
+use Rattle.krs_model.proofs.{MadeKeyring.State.at_other, Tables.Changes.{at_alter_other, at_or_apart}}
+use Rattle.krs_links.specs.Links.{serial_named, serials}
+use Rattle.krs_keys.specs.Keys.{FindsByName, named_links_of_content, seen}
 use Rattle.krs_keys.proofs.KeysLemmas.{serials-content}
-use Rattle.krs_links.specs.Links.{serials, serial_named}
-use Rattle.krs_tables.specs.declared.making.Special.{Special}
-use Rattle.krs_tables.specs.declared.making.Special.TheVariants.{Thread, Process}
-use Rattle.krs_tables.specs.Specials.{special_name, with_ring, linking_made}
-use Rattle.krs_tables.specs.Linked.{name_in, room_in, Puts}
-use Rattle.krs_tables.proofs.MadeFor.{IsNew, context_with, before, behind}
+use Rattle.krs_tables.specs.{Linked.{name_in, Puts, room_in}, Specials.{linking_made, special_name, with_ring}}
+use Rattle.krs_tables.specs.declared.making.Special.{Special, TheVariants.{Process, Thread}}
+use Rattle.krs_tables.proofs.MadeFor.{before, behind, context_with, IsNew}
+use Rattle.krs_ring_asks.specs.Moved.{moved_at, moved_links, moved_new}
+use Rattle.krs_ring_asks.proofs.LinkAndUnlink.{IsFoundRing, put_under, within_as}
+use Rattle.krs_keys.specs.declared.key.Key as keys
 use Rattle.krs_ring_asks.specs.Moved as specs
-use Rattle.krs_ring_asks.specs.Moved.{moved_at, moved_new, moved_links}
-use Rattle.krs_ring_asks.proofs.LinkAndUnlink.{within_as, put_under, IsFoundRing}
 
 -- what takes no serial is within them
 within_same :

@@ -1,17 +1,10 @@
 -- A link to a key that holds a payload, which links nothing.
-use Rattle.std.proofs.Common.{◌≡◌, ◌≢◌, ℕ, zero, suc, List, [], ◌∷◌, ◌++◌, Some, true, false, Ok, filter, length}
-use Rattle.std.proofs.Common.{refl, ap, sym, ◌∙◌, subst, ⊎_elim}
-use Rattle.std.specs.List.{flat_map}
-use Rattle.std.proofs.lemmas.Bool.{true≢false}
-use Rattle.std.proofs.lemmas.Option.{same_Some}
-use Rattle.krs_model.specs.Table.{Table, at}
-use Rattle.krs_model.specs.State.{State, Key, Payload, Links}
-use Rattle.krs_model.specs.Levels.{level, levels, is_in}
-use Rattle.krs_model.specs.Possession.{links_of_content}
-use Rattle.krs_model.specs.Sweep.{links_of_key}
-use Rattle.krs_model.specs.Reach.{links_of_key_at, closes, is_ring, nested_in, is_some_in, has_chain, nesting_depth}
+use Rattle.std.proofs.Common.{[], ⊎_elim, ◌++◌, ◌∙◌, ◌∷◌, ◌≡◌, ◌≢◌, ap, false, filter, flat_map, length, List, Ok, refl}
+use Rattle.std.proofs.{Common.{Some, subst, suc, sym, true, true≢false, zero, ℕ}, lemmas.Option.same_Some}
 use Rattle.krs_model.specs.Asks.Adding.{IsKeyringAt}
-use Rattle.krs_model.specs.Asks.Linked.{nestable}
+use Rattle.krs_model.specs.{Asks.Linked.nestable, Levels.{is_in, level, levels}, Possession.links_of_content}
+use Rattle.krs_model.specs.Reach.{closes, has_chain, is_ring, is_some_in, links_of_key_at, nested_in, nesting_depth}
+use Rattle.krs_model.specs.{State.{Key, Links, Payload, State}, Sweep.links_of_key, Table.{at, Table}}
 use Rattle.krs_model.proofs.Reach.Levels.{in_one, only_in}
 
 -- below a key that links nothing there are no levels

@@ -1,33 +1,17 @@
 -- SEARCH and REQUEST with a destination, from what the store has looked up to what they come to.
-use Rattle.std.proofs.Common.{◌≡◌, ℕ, ℤ, pos, negsuc, zero, suc, to_z, of_z, FitsSigned, List, Option, None, Some}
-use Rattle.std.proofs.Common.{true, false, Result, Ok, Err, refl, ap, ◌∙◌, sym, cond}
-use Rattle.std.specs.Int.{w32}
-use Rattle.std.proofs.lemmas.Int.{to_z-of_z}
-use Rattle.krs_types.specs.declared.errno.Errno.{Errno}
-use Rattle.krs_types.specs.declared.errno.Errno.TheVariants.{ENOKEY, EACCES, EPERM}
-use Rattle.krs_types.specs.declared.ask.Answer.{Answer}
-use Rattle.krs_types.specs.declared.ask.Answer.TheVariants.{Number}
-use Rattle.krs_types.specs.declared.context.Context.{Context}
-use Rattle.krs_types.specs.declared.name.Name.{Name}
-use Rattle.krs_types.specs.declared.rights.Want.TheVariants.{Granted}
-use Rattle.krs_types.specs.Rights.{has_all, SEARCH, WRITE, LINK}
-use Rattle.krs_types.specs.Refusing.{◌>>=◌, or_refuse}
-use Rattle.krs_model.specs.Table.{at}
-use Rattle.krs_model.specs.State.{State, Key}
+use Rattle.std.proofs.Common.{◌∙◌, ◌≡◌, ap, cond, Err, false, FitsSigned, List, negsuc, None, of_z, Ok, Option, pos}
+use Rattle.std.proofs.{Common.{refl, Result, Some, suc, sym, to_z, true, w32, zero, ℕ, ℤ}, lemmas.Int.to_z-of_z}
+use Rattle.krs_types.specs.{Growth.has_destination, Refusing.{◌>>=◌, or_refuse}, Rights.{has_all, LINK, SEARCH, WRITE}}
+use Rattle.krs_types.specs.declared.ask.Answer.{Answer, TheVariants.Number}
+use Rattle.krs_types.specs.declared.{context.Context.Context, errno.Errno.{Errno, TheVariants.{EACCES, ENOKEY, EPERM}}}
+use Rattle.krs_types.specs.declared.{name.Name.Name, rights.Want.TheVariants.Granted}
 use Rattle.krs_model.specs.Access.{rights_on}
-use Rattle.krs_model.specs.Possession.{possessed}
-use Rattle.krs_model.specs.Linking.{ring_links, linking}
-use Rattle.krs_model.specs.Lookup.{context_of, look_up}
-use Rattle.krs_model.specs.Making.{made_for, within_serials}
-use Rattle.krs_model.specs.Search.{found, requested}
-use Rattle.krs_model.specs.Outcome.{Outcome, Is}
-use Rattle.krs_model.specs.Asks.Changing.{changed}
-use Rattle.krs_model.specs.Asks.Linked.{name_of, unless, nestable, linked_into}
-use Rattle.krs_model.specs.Asks.Finding.{sought_into, requested_into, found_into}
-use Rattle.krs_model.specs.Asks.Finding.{if_linkable}
-use Rattle.krs_types.specs.Growth.{has_destination}
+use Rattle.krs_model.specs.Asks.{Changing.changed, Finding.{found_into, if_linkable, requested_into, sought_into}}
+use Rattle.krs_model.specs.{Asks.Linked.{linked_into, name_of, nestable, unless}, Linking.{linking, ring_links}}
+use Rattle.krs_model.specs.{Lookup.{context_of, look_up}, Making.{made_for, within_serials}, Outcome.{Is, Outcome}}
+use Rattle.krs_model.specs.{Possession.possessed, Search.{found, requested}, State.{Key, State}, Table.at}
 use Rattle.krs_tables.specs.Linked.{room_in}
-use Rattle.krs_ring_asks.specs.Found.{if_granted, link_found, search_named, request_named}
+use Rattle.krs_ring_asks.specs.Found.{if_granted, link_found, request_named, search_named}
 use Rattle.krs_ring_asks.proofs.LinkAndUnlink.{IsFoundRing, within_as}
 
 -- what was sought, as it was found

@@ -1,50 +1,28 @@
 -- SEARCH and REQUEST where a thread or process keyring is made for the destination, from what the store has looked up
 -- to what they come to.
-use Rattle.std.proofs.Common.{◌≡◌, ◌≢◌, ℕ, ℤ, to_z, of_z, FitsSigned, List, [], ◌∷◌, Option, None, Some, Bool}
-use Rattle.std.proofs.Common.{true, false, Result, Ok, Err, refl, ap, ◌∙◌, sym, subst, cond}
-use Rattle.std.specs.Int.{w32}
-use Rattle.std.specs.List.{flat_map, find}
-use Rattle.std.specs.Option.{IsSome, option_to_list}
-use Rattle.std.proofs.lemmas.Int.{to_z-of_z}
-use Rattle.std.proofs.lemmas.Option.{none-some, same_Some}
-use Rattle.krs_types.specs.declared.errno.Errno.{Errno}
-use Rattle.krs_types.specs.declared.errno.Errno.TheVariants.{ENOKEY, EACCES, ELOOP}
+use Rattle.std.proofs.Common.{[], ◌∙◌, ◌∷◌, ◌≡◌, ◌≢◌, ap, Bool, cond, Err, false, find, FitsSigned, flat_map, IsSome}
+use Rattle.std.proofs.Common.{List, None, of_z, Ok, Option, option_to_list, refl, Result, Some, subst, sym, to_z, true}
+use Rattle.std.proofs.{Common.{w32, ℕ, ℤ}, lemmas.{Int.to_z-of_z, Option.{none-some, same_Some}}}
+use Rattle.krs_types.specs.{Growth.has_destination, Refusing.{◌>>=◌, or_refuse}, Rights.{has_all, LINK, SEARCH}}
 use Rattle.krs_types.specs.declared.ask.Answer.TheVariants.{Number}
-use Rattle.krs_types.specs.declared.context.Context.{Context}
-use Rattle.krs_types.specs.declared.name.Name.{Name}
-use Rattle.krs_types.specs.declared.rights.Want.TheVariants.{Granted}
-use Rattle.krs_types.specs.Rights.{has_all, SEARCH, LINK}
-use Rattle.krs_types.specs.Refusing.{◌>>=◌, or_refuse}
-use Rattle.krs_model.specs.Table.{at}
-use Rattle.krs_model.specs.State.{State, Key}
+use Rattle.krs_types.specs.declared.{context.Context.Context, errno.Errno.{Errno, TheVariants.{EACCES, ELOOP, ENOKEY}}}
+use Rattle.krs_types.specs.declared.{name.Name.Name, rights.Want.TheVariants.Granted}
 use Rattle.krs_model.specs.Access.{rights_on}
-use Rattle.krs_model.specs.Possession.{possessed, attached}
-use Rattle.krs_model.specs.Reach.{has_chain, nesting_depth}
-use Rattle.krs_model.specs.Laws.{in_turn}
-use Rattle.krs_model.specs.Linking.{ring_links, linking}
-use Rattle.krs_model.specs.Lookup.{context_of, look_up}
-use Rattle.krs_model.specs.Making.{special_ring, within_serials}
-use Rattle.krs_model.specs.Search.{searcher_of, searched, is_match, is_open, is_answer, found, requested, or_next}
-use Rattle.krs_model.specs.Sound.{IsSound}
-use Rattle.krs_model.specs.Outcome.{Outcome}
-use Rattle.krs_model.specs.Asks.Changing.{changed}
-use Rattle.krs_model.specs.Asks.Linked.{unless, name_of, linked_into}
-use Rattle.krs_model.specs.Asks.Finding.{sought_into, requested_into, found_into}
-use Rattle.krs_model.specs.Asks.Finding.{if_linkable}
-use Rattle.krs_types.specs.Growth.{has_destination}
+use Rattle.krs_model.specs.Asks.{Changing.changed, Finding.{found_into, if_linkable, requested_into, sought_into}}
+use Rattle.krs_model.specs.{Asks.Linked.{linked_into, name_of, unless}, Laws.in_turn, Linking.{linking, ring_links}}
+use Rattle.krs_model.specs.{Lookup.{context_of, look_up}, Making.{special_ring, within_serials}, Outcome.Outcome}
+use Rattle.krs_model.specs.{Possession.{attached, possessed}, Reach.{has_chain, nesting_depth}}
+use Rattle.krs_model.specs.Search.{found, is_answer, is_match, is_open, or_next, requested, searched, searcher_of}
+use Rattle.krs_model.specs.{Sound.IsSound, State.{Key, State}, Table.at}
 use Rattle.krs_model.proofs.Lookups.Laws.{look_up_usable}
-use Rattle.krs_model.proofs.Reach.Searches.{found_is_first}
-use Rattle.krs_model.proofs.Sound.Changes.{not_there}
-use Rattle.krs_model.proofs.MadeKeyring.Searches.{requested_with}
-use Rattle.krs_model.proofs.MadeKeyring.Links.{found_into_new, found_into_self, linked_into_new, sought_into_new}
-use Rattle.krs_model.proofs.MadeKeyring.Links.{requested_into_new}
-use Rattle.krs_tables.specs.declared.making.Special.{Special}
-use Rattle.krs_tables.specs.declared.making.Special.TheVariants.{Thread, Process}
-use Rattle.krs_ring_asks.specs.Found.{if_granted, found_below, search_named, request_named}
-use Rattle.krs_tables.specs.Specials.{special_name, with_ring, Makes}
-use Rattle.krs_ring_asks.specs.Beside.{is_of_name, found_made}
-use Rattle.krs_ring_asks.specs.Beside.{found_in, found_before, or_itself, beside}
-use Rattle.krs_tables.proofs.MadeFor.{IsNew, is_new, context_with, before, behind}
+use Rattle.krs_model.proofs.MadeKeyring.Links.{found_into_new, found_into_self, linked_into_new, requested_into_new}
+use Rattle.krs_model.proofs.MadeKeyring.{Links.sought_into_new, Searches.requested_with}
+use Rattle.krs_model.proofs.{Reach.Searches.found_is_first, Sound.Changes.not_there}
+use Rattle.krs_tables.specs.Specials.{Makes, special_name, with_ring}
+use Rattle.krs_tables.specs.declared.making.Special.{Special, TheVariants.{Process, Thread}}
+use Rattle.krs_tables.proofs.MadeFor.{before, behind, context_with, is_new, IsNew}
+use Rattle.krs_ring_asks.specs.Beside.{beside, found_before, found_in, found_made, is_of_name, or_itself}
+use Rattle.krs_ring_asks.specs.Found.{found_below, if_granted, request_named, search_named}
 use Rattle.krs_ring_asks.proofs.SearchAndRequest.{wanted_of}
 
 -- an answer is a key that is there

@@ -1,20 +1,11 @@
 -- What a request finds beside a keyring that is made for it.
-use Rattle.std.specs.Prelude.{ℕ, Bool, Option, None, Some, Result, Ok, Err, if◌then◌else◌}
-use Rattle.krs_types.specs.declared.errno.Errno.{Errno}
-use Rattle.krs_types.specs.declared.errno.Errno.TheVariants.{ENOKEY, EDEADLK}
-use Rattle.krs_types.specs.declared.ask.Answer.TheVariants.{Number}
-use Rattle.krs_types.specs.declared.context.Context.{Context}
-use Rattle.krs_types.specs.declared.name.Name.{Name}
-use Rattle.krs_types.specs.Refusing.{◌>>=◌}
-use Rattle.krs_model.specs.State.{State}
-use Rattle.krs_model.specs.Lookup.{context_of}
-use Rattle.krs_model.specs.Linking.{is_named}
-use Rattle.krs_model.specs.Making.{special_ring}
-use Rattle.krs_model.specs.Outcome.{Outcome}
-use Rattle.krs_model.specs.Search.{found, requested}
-use Rattle.krs_tables.specs.declared.making.Special.{Special}
-use Rattle.krs_tables.specs.declared.making.Special.TheVariants.{Thread, Process}
-use Rattle.krs_tables.specs.Specials.{special_name, linking_made}
+use Rattle.std.specs.Prelude.{Bool, Err, if◌then◌else◌, None, Ok, Option, Result, Some, ℕ}
+use Rattle.krs_types.specs.{Refusing.◌>>=◌, declared.{ask.Answer.TheVariants.Number, context.Context.Context}}
+use Rattle.krs_types.specs.declared.{errno.Errno.{Errno, TheVariants.{EDEADLK, ENOKEY}}, name.Name.Name}
+use Rattle.krs_model.specs.{Linking.is_named, Lookup.context_of, Making.special_ring, Outcome.Outcome}
+use Rattle.krs_model.specs.{Search.{found, requested}, State.State}
+use Rattle.krs_tables.specs.Specials.{linking_made, special_name}
+use Rattle.krs_tables.specs.declared.making.Special.{Special, TheVariants.{Process, Thread}}
 use Rattle.krs_ring_asks.specs.Found.{linkable}
 
 -- a keyring is made and linked to a key that was found, where that grants LINK

@@ -1,5 +1,5 @@
 -- The holders of one key.
-use Rattle.std.specs.Prelude.{ℕ, ◌==◌, ◌++◌, List, filter}
+use Rattle.std.specs.Prelude.{◌++◌, ◌==◌, filter, List, ℕ}
 use Rattle.krs_model.specs.Sweep.{context_roots, process_roots, uid_roots}
 use Rattle.krs_ctx.specs.Anchors.{Anchors}
 

@@ -1,25 +1,13 @@
 -- What the store makes of a key that a search or a request found.
-use Rattle.std.specs.Prelude.{ℕ, ℤ, Result, Ok, Err, if◌then◌else◌}
-use Rattle.krs_types.specs.declared.errno.Errno.{Errno}
-use Rattle.krs_types.specs.declared.errno.Errno.TheVariants.{ENOKEY, EACCES, EPERM}
-use Rattle.krs_types.specs.declared.context.Context.{Context}
-use Rattle.krs_types.specs.declared.name.Name.{Name}
-use Rattle.krs_types.specs.declared.ask.Answer.TheVariants.{Number}
-use Rattle.krs_types.specs.declared.rights.Want.TheVariants.{Granted}
-use Rattle.krs_types.specs.Rights.{has_all, SEARCH, LINK}
+use Rattle.std.specs.Prelude.{Err, if◌then◌else◌, Ok, Result, ℕ, ℤ}
 use Rattle.krs_types.specs.Refusing.{◌>>=◌, or_refuse}
-use Rattle.krs_model.specs.Table.{at}
-use Rattle.krs_model.specs.State.{State, Key}
-use Rattle.krs_model.specs.Access.{rights_on}
-use Rattle.krs_model.specs.Possession.{possessed}
-use Rattle.krs_model.specs.Lookup.{context_of, look_up}
-use Rattle.krs_model.specs.Linking.{linking, ring_links}
-use Rattle.krs_model.specs.Search.{found}
-use Rattle.krs_model.specs.Making.{within_serials}
-use Rattle.krs_model.specs.Asks.Finding.{searched_for, requested_for}
-use Rattle.krs_model.specs.Asks.Changing.{changed}
-use Rattle.krs_model.specs.Asks.Linked.{name_of, nestable, unless}
-use Rattle.krs_model.specs.Outcome.{Outcome}
+use Rattle.krs_types.specs.{Rights.{has_all, LINK, SEARCH}, declared.ask.Answer.TheVariants.Number}
+use Rattle.krs_types.specs.declared.{context.Context.Context, errno.Errno.{Errno, TheVariants.{EACCES, ENOKEY, EPERM}}}
+use Rattle.krs_types.specs.declared.{name.Name.Name, rights.Want.TheVariants.Granted}
+use Rattle.krs_model.specs.{Access.rights_on, Asks.Changing.changed}
+use Rattle.krs_model.specs.Asks.{Finding.{requested_for, searched_for}, Linked.{name_of, nestable, unless}}
+use Rattle.krs_model.specs.{Linking.{linking, ring_links}, Lookup.{context_of, look_up}, Making.within_serials}
+use Rattle.krs_model.specs.{Outcome.Outcome, Possession.possessed, Search.found, State.{Key, State}, Table.at}
 use Rattle.krs_tables.specs.Linked.{room_in}
 
 -- what a search finds from the head on, which is a keyring

@@ -1,21 +1,11 @@
 -- What the store makes of a move, once the key and the first keyring were looked up.
-use Rattle.std.specs.Prelude.{◌≡◌, ◌==◌, ℕ, ℤ, Result, Ok, Err}
-use Rattle.krs_types.specs.declared.errno.Errno.TheVariants.{ENOKEY}
-use Rattle.krs_types.specs.declared.ask.Answer.TheVariants.{Nothing}
-use Rattle.krs_types.specs.declared.fault.Fault.{Fault}
-use Rattle.krs_types.specs.declared.name.Name.{Name}
-use Rattle.krs_types.specs.Refusing.{◌>>=◌, or_refuse}
-use Rattle.krs_model.specs.Table.{at}
-use Rattle.krs_model.specs.State.{State}
-use Rattle.krs_model.specs.Lookup.{context_of}
-use Rattle.krs_model.specs.Linking.{ring_links, linking}
-use Rattle.krs_model.specs.Outcome.{Outcome, Fails}
+use Rattle.std.specs.Prelude.{◌==◌, ◌≡◌, Err, Ok, Result, ℕ, ℤ}
+use Rattle.krs_types.specs.{Refusing.{◌>>=◌, or_refuse}, declared.ask.Answer.TheVariants.Nothing}
+use Rattle.krs_types.specs.declared.{errno.Errno.TheVariants.ENOKEY, fault.Fault.Fault, name.Name.Name}
 use Rattle.krs_model.specs.Asks.Changing.{changed}
-use Rattle.krs_model.specs.Asks.Linked.{if_linked, without_link}
-use Rattle.krs_model.specs.Asks.Moving.{moved_to}
-use Rattle.krs_tables.specs.declared.making.Special.{Special}
-use Rattle.krs_tables.specs.Specials.{linking_made}
-use Rattle.krs_tables.specs.Linked.{room_in}
+use Rattle.krs_model.specs.{Asks.{Linked.{if_linked, without_link}, Moving.moved_to}, Linking.{linking, ring_links}}
+use Rattle.krs_model.specs.{Lookup.context_of, Outcome.{Fails, Outcome}, State.State, Table.at}
+use Rattle.krs_tables.specs.{Linked.room_in, Specials.linking_made, declared.making.Special.Special}
 
 -- into a keyring that is there
 abbrev pub moved_at : State → ℕ → ℕ → ℕ → ℕ → ℤ → ℕ → Outcome

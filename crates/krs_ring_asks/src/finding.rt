@@ -1,16 +1,13 @@
-ghost use Rattle.std.specs.Prelude.{◌≡◌, Some, IfOk, IsErrOf, true};
+ghost use Rattle.std.specs.Prelude.{◌≡◌, IfOk, IsErrOf, Some, true};
 ghost use Rattle.krs_types.specs.Growth.{has_destination};
-ghost use Rattle.krs_model.specs.Outcome.{Leads, Is};
-ghost use Rattle.krs_model.specs.Table.{at};
-ghost use Rattle.krs_model.specs.Search.{found, requested};
 ghost use Rattle.krs_model.specs.Asks.Adding.{IsKeyringAt};
+ghost use Rattle.krs_model.specs.Asks.Finding.{found_alone, request, search_from, sought_from, sought_name};
 ghost use Rattle.krs_model.specs.Lookup.{context_of};
-ghost use Rattle.krs_model.specs.Sound.{IsSound};
-ghost use Rattle.krs_model.specs.Asks.Finding.{search_from, request, sought_name, sought_from, found_alone};
-ghost use Rattle.krs_ring_asks.specs.Found.{found_below, link_found, linkable, request_named, search_named};
-ghost use Rattle.krs_tables.specs.Specials.{IsMissing};
-ghost use Rattle.krs_ring_asks.specs.Beside.{found_made, found_before, beside};
+ghost use Rattle.krs_model.specs.{Outcome.{Is, Leads}, Search.{found, requested}, Sound.IsSound, Table.at};
 ghost use Rattle.krs_keys.specs.Keys.{seen};
+ghost use Rattle.krs_tables.specs.Specials.{IsMissing};
+ghost use Rattle.krs_ring_asks.specs.Beside.{beside, found_before, found_made};
+ghost use Rattle.krs_ring_asks.specs.Found.{found_below, link_found, linkable, request_named, search_named};
 
 use crate::linking::{check_nesting, check_open, links_of, put_link};
 use krs_keys::Key;

@@ -1,7 +1,5 @@
 ghost use Rattle.std.specs.Prelude.{◌≡◌, IsErrOf, true};
-ghost use Rattle.krs_model.specs.Outcome.{Leads, Is};
-ghost use Rattle.krs_model.specs.Sound.{IsSound};
-ghost use Rattle.krs_model.specs.Asks.Finding.{get_id, got};
+ghost use Rattle.krs_model.specs.{Asks.Finding.{get_id, got}, Outcome.{Is, Leads}, Sound.IsSound};
 
 use krs_tables::Tables;
 use krs_types::{Answer, Context, Errno, Fault, Rights, Want};

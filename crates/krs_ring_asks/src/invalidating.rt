@@ -1,9 +1,7 @@
-ghost use Rattle.std.specs.Prelude.{◌≡◌, ◌≢◌, Err, false};
-ghost use Rattle.std.specs.Option.{option_to_list};
+ghost use Rattle.std.specs.Prelude.{◌≡◌, ◌≢◌, Err, false, option_to_list};
 ghost use Rattle.krs_types.specs.declared.fault.Fault.TheVariants.{Memory};
-ghost use Rattle.krs_model.specs.Outcome.{Leads};
-ghost use Rattle.krs_model.specs.Sweep.{context_roots, process_roots, uid_roots};
 ghost use Rattle.krs_model.specs.Asks.Invalidating.{invalidate, invalidated};
+ghost use Rattle.krs_model.specs.{Outcome.Leads, Sweep.{context_roots, process_roots, uid_roots}};
 ghost use Rattle.krs_hold.specs.Tally.{all_less};
 ghost use Rattle.krs_ring_asks.specs.Detached.{those, those_attached};
 

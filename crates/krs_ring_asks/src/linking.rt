@@ -1,19 +1,13 @@
-ghost use Rattle.std.specs.Prelude.{◌≡◌, ◌≢◌, ◌<◌, ◌-◌, ◌^◌, None, Some, Ok, Err, IsOk, IsSome, IfSome, IfOk, OnOk, OnErr};
-ghost use Rattle.krs_types.specs.declared.fault.Fault.TheVariants.{Memory};
-ghost use Rattle.krs_model.specs.Outcome.{Leads, Is};
-ghost use Rattle.krs_model.specs.Table.{at};
-ghost use Rattle.krs_model.specs.Linking.{ring_links, linking};
-ghost use Rattle.krs_model.specs.Lookup.{context_of};
-ghost use Rattle.krs_model.specs.Sound.{IsSound};
-ghost use Rattle.krs_model.specs.Asks.Adding.{IsKeyringAt};
-ghost use Rattle.krs_model.specs.Asks.Changing.{changed};
-ghost use Rattle.krs_model.specs.Asks.Linked.{link, unlink, clear, unless, nestable};
-ghost use Rattle.krs_types.specs.declared.errno.Errno.TheVariants.{EPERM};
-ghost use Rattle.krs_keys.specs.Keys.{seen};
+ghost use Rattle.std.specs.Prelude.{◌-◌, ◌<◌, ◌^◌, ◌≡◌, ◌≢◌, Err, IfOk, IfSome, IsOk, IsSome, None, Ok, OnErr, OnOk};
+ghost use Rattle.std.specs.Prelude.{Some};
+ghost use Rattle.krs_types.specs.declared.{errno.Errno.TheVariants.EPERM, fault.Fault.TheVariants.Memory};
+ghost use Rattle.krs_model.specs.Asks.{Adding.IsKeyringAt, Changing.changed};
+ghost use Rattle.krs_model.specs.{Asks.Linked.{clear, link, nestable, unless, unlink}, Linking.{linking, ring_links}};
+ghost use Rattle.krs_model.specs.{Lookup.context_of, Outcome.{Is, Leads}, Sound.IsSound, Table.at};
 ghost use Rattle.krs_links.specs.Links.{serials};
+ghost use Rattle.krs_keys.specs.Keys.{seen};
 ghost use Rattle.krs_tables.specs.Holding.{holders_in};
-ghost use Rattle.krs_tables.specs.Linked.{name_in, room_in, displaced_in, Puts, Takes};
-ghost use Rattle.krs_tables.specs.Specials.{Makes, is_coming};
+ghost use Rattle.krs_tables.specs.{Linked.{displaced_in, name_in, Puts, room_in, Takes}, Specials.{is_coming, Makes}};
 
 use krs_keys::{Change, Content, Key};
 use krs_links::{HashedName, Links};

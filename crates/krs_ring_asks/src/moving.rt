@@ -1,19 +1,11 @@
-ghost use Rattle.std.specs.Prelude.{◌≡◌, ◌≢◌, ◌==◌, ◌&&◌, nat_lt, is_some, true, IsSome, IfSome, IfOk};
-ghost use Rattle.krs_types.specs.declared.errno.Errno.TheVariants.{EINVAL, EEXIST};
-ghost use Rattle.krs_model.specs.Levels.{is_in};
-ghost use Rattle.krs_model.specs.Outcome.{Leads, Is};
-ghost use Rattle.krs_model.specs.Table.{at};
-ghost use Rattle.krs_model.specs.Lookup.{context_of};
-ghost use Rattle.krs_model.specs.Reach.{links_of_key_at};
-ghost use Rattle.krs_model.specs.Sound.{IsSound};
-ghost use Rattle.krs_model.specs.Asks.Adding.{IsKeyringAt};
-ghost use Rattle.krs_model.specs.Asks.Changing.{changed};
-ghost use Rattle.krs_model.specs.Asks.Linked.{unless, if_linked, without_link};
-ghost use Rattle.krs_model.specs.Asks.Moving.{move_link};
-ghost use Rattle.krs_keys.specs.Keys.{named_links_of_content};
+ghost use Rattle.std.specs.Prelude.{◌&&◌, ◌==◌, ◌≡◌, ◌≢◌, IfOk, IfSome, is_some, IsSome, nat_lt, true};
+ghost use Rattle.krs_types.specs.declared.errno.Errno.TheVariants.{EEXIST, EINVAL};
+ghost use Rattle.krs_model.specs.Asks.{Adding.IsKeyringAt, Changing.changed, Linked.{if_linked, unless, without_link}};
+ghost use Rattle.krs_model.specs.{Asks.Moving.move_link, Levels.is_in, Lookup.context_of, Outcome.{Is, Leads}};
+ghost use Rattle.krs_model.specs.{Reach.links_of_key_at, Sound.IsSound, Table.at};
 ghost use Rattle.krs_links.specs.Links.{serial_named};
-ghost use Rattle.krs_tables.specs.Linked.{name_in};
-ghost use Rattle.krs_tables.specs.Specials.{IsMissing};
+ghost use Rattle.krs_keys.specs.Keys.{named_links_of_content};
+ghost use Rattle.krs_tables.specs.{Linked.name_in, Specials.IsMissing};
 ghost use Rattle.krs_ring_asks.specs.Moved.{moved_at, moved_new, Moves};
 
 use crate::linking::{check_nesting, check_open, links_of, put_link, take_link};

@@ -1,9 +1,6 @@
 ghost use Rattle.std.specs.Prelude.{◌≡◌, ◌≢◌, Err};
-ghost use Rattle.krs_types.specs.declared.fault.Fault.TheVariants.{Memory};
-ghost use Rattle.krs_types.specs.declared.errno.Errno.TheVariants.{EEXIST};
-ghost use Rattle.krs_model.specs.Outcome.{Leads, Is};
-ghost use Rattle.krs_model.specs.Asks.Linked.{unless};
-ghost use Rattle.krs_model.specs.Asks.Restricting.{restrict_keyring, no_type};
+ghost use Rattle.krs_types.specs.declared.{errno.Errno.TheVariants.EEXIST, fault.Fault.TheVariants.Memory};
+ghost use Rattle.krs_model.specs.{Asks.{Linked.unless, Restricting.{no_type, restrict_keyring}}, Outcome.{Is, Leads}};
 ghost use Rattle.krs_keys.specs.Keys.{seen};
 
 use crate::linking::links_of;

@@ -1,28 +1,18 @@
 -- Each step with the daemon's replies keeps what is said of a run, and so a whole run does.
-use Rattle.std.proofs.Common.{arith, refl, sym, ap, subst, ◌≡◌, ◌⊎◌, inl, inr, ◌+◌, ◌*◌, ◌-◌, ◌≤◌, ◌<◌, ◌++◌, ℕ, zero}
-use Rattle.std.proofs.Common.{suc, List, [], ◌∷◌}
-use Rattle.std.proofs.Common.{length, map, take, drop, min, get_or, ◌∙◌, append_assoc, length-append, length-drop}
-use Rattle.std.proofs.Common.{Bool, true, false, cond, ◌==◌, ◌||◌, ◌&&◌, nat_lt, slice_index}
-use Rattle.std.proofs.lemmas.Bool.{or_parts, eqb-false, eq-eqb}
-use Rattle.std.proofs.lemmas.List.{append-nil, map-append, take-append-drop, length-take-le, length-map, take_more}
-use Rattle.std.proofs.lemmas.List.{drop_more}
-use Rattle.std.specs.List.{flat_map, AllByRecursion}
+use Rattle.std.proofs.Common.{[], ◌&&◌, ◌++◌, ◌+◌, ◌-◌, ◌<◌, ◌==◌, ◌||◌, ◌∙◌, ◌∷◌, ◌≡◌, ◌≤◌, ap, arith, Bool, cond}
+use Rattle.std.proofs.Common.{drop, false, flat_map, get_or, inl, inr, length, length-append, length-take-le, List, map}
+use Rattle.std.proofs.Common.{min, nat_lt, refl, subst, suc, sym, take, true, zero, ℕ}
+use Rattle.std.proofs.lemmas.{Bool.{eqb-false, or_parts}, List.{drop_more, length-map, map-append, take_more}}
 use Rattle.krs_wire.specs.Reply.{is_bad_reply_length}
-use Rattle.krs_screen.specs.Front.{le32, with_le32}
-use Rattle.krs_screen.specs.Counting.{waiting, most, next, answered_more, one_forgotten, is_refused}
-use Rattle.krs_screen.specs.Run.{Event, client_sends, daemon_sends, asks_are_judged, replies_are_judged, Way, Line}
-use Rattle.krs_screen.specs.Run.{asks_gone, replies_gone, happens, run, start}
-use Rattle.krs_screen.specs.Run.{gets_eperm, Heard, Told, told_as, AreFrames, AreAsks, AreReplies, EachRunIsFaithful}
-use Rattle.krs_screen.specs.Step.{Done, ask_step, reply_step, head_step, is_bad_reply, with_eperm}
-use Rattle.krs_screen.specs.declared.claim.Peer.{Peer}
-use Rattle.krs_screen.specs.declared.counting.Screen.{Screen}
-use Rattle.krs_screen.proofs.Queueing.{taken}
-use Rattle.krs_screen.proofs.Numbering.{next_is, first_is, differ}
-use Rattle.krs_screen.proofs.Growing.{le32_more, with_more, take_with, drop_with}
-use Rattle.krs_screen.proofs.Running.{all_push, all_before, all_last, flat_push, flat_grown, length_push, ends}
-use Rattle.krs_screen.proofs.Running.{frames_pushed, frames_grown, numbers, first_behind, IsSo, came_on, replies_idle}
-use Rattle.krs_screen.proofs.Running.{client_sent, daemon_sent}
-use Rattle.krs_screen.proofs.Faithful.{IsKept, asks_kept, le32_taken}
+use Rattle.krs_screen.specs.{Counting.{answered_more, is_refused, most, next, one_forgotten, waiting}, Front.le32}
+use Rattle.krs_screen.specs.Run.{AreFrames, asks_are_judged, client_sends, daemon_sends, EachRunIsFaithful, Event}
+use Rattle.krs_screen.specs.Run.{gets_eperm, happens, Heard, Line, replies_are_judged, replies_gone, run, start, Told}
+use Rattle.krs_screen.specs.{Run.told_as, Step.{Done, head_step, is_bad_reply, reply_step, with_eperm}}
+use Rattle.krs_screen.specs.declared.{claim.Peer.Peer, counting.Screen.Screen}
+use Rattle.krs_screen.proofs.{Faithful.{asks_kept, IsKept, le32_taken}, Growing.{drop_with, take_with, with_more}}
+use Rattle.krs_screen.proofs.{Numbering.{first_is, next_is}, Queueing.taken, Running.{all_before, all_last, all_push}}
+use Rattle.krs_screen.proofs.Running.{came_on, client_sent, daemon_sent, ends, first_behind, flat_grown, flat_push}
+use Rattle.krs_screen.proofs.Running.{frames_grown, frames_pushed, IsSo, length_push, numbers, replies_idle}
 
 -- ---- the rest of the reply at hand
 

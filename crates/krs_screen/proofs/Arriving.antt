@@ -1,36 +1,23 @@
 -- What a daemon reads from all that was passed on.
-use Rattle.std.proofs.Common.{arith, refl, sym, ap, subst, ◌≡◌, ◌⊎◌, inl, inr, ◌+◌, ◌*◌, ◌≤◌, ◌<◌, ◌^◌, ◌++◌, ℕ, zero}
-use Rattle.std.proofs.Common.{suc, List, [], ◌∷◌}
-use Rattle.std.proofs.Common.{length, map, take, drop, get_or, slice_index, ◌∙◌, append_assoc, length-append, Option}
-use Rattle.std.proofs.Common.{Some, None, Result, Ok, Err}
-use Rattle.std.proofs.Common.{Bool, true, false, cond, not, ◌==◌, ◌||◌, ◌&&◌}
-use Rattle.std.proofs.lemmas.Bool.{or_left, or_cases, and_parts, and_from, or_right}
-use Rattle.std.proofs.lemmas.List.{append-nil, drop_at, get_or-append-add}
-use Rattle.std.proofs.lemmas.Nat.{from_le_bytes-to_le_bytes_4}
-use Rattle.std.specs.List.{flat_map, AllByRecursion, list_any}
-use Rattle.std.specs.Int.{w32, from_le_bytes}
-use Rattle.krs_types.specs.declared.caller.Caller.{Caller}
-use Rattle.krs_types.specs.declared.ask.Op.TheVariants.{Hello as AsksHello}
-use Rattle.krs_wire.specs.declared.fault.WireFault.{WireFault}
-use Rattle.krs_wire.specs.declared.framed.Framed.{Framed}
-use Rattle.krs_wire.specs.Encoding.{ask_frame, ask_text, FitsAsk}
-use Rattle.krs_wire.specs.Frame.{Frames, End, front_of as read_front}
+use Rattle.std.proofs.Common.{[], ◌*◌, ◌++◌, ◌+◌, ◌<◌, ◌==◌, ◌^◌, ◌||◌, ◌∙◌, ◌∷◌, ◌≡◌, ◌≤◌, ap, arith, Bool, cond, drop}
+use Rattle.std.proofs.Common.{drop_at, false, flat_map, get_or, get_or-append-add, inl, inr, length, length-append}
+use Rattle.std.proofs.Common.{List, map, not, Ok, refl, slice_index, Some, subst, suc, sym, take, true, zero, ℕ}
+use Rattle.std.specs.{Int.from_le_bytes, List.{AllByRecursion, list_any}}
+use Rattle.std.proofs.lemmas.{Bool.{and_from, and_parts, or_cases, or_left}, Nat.from_le_bytes-to_le_bytes_4}
+use Rattle.krs_types.specs.declared.{ask.Op.TheVariants.Hello as AsksHello, caller.Caller.Caller}
+use Rattle.krs_wire.specs.Encoding.{ask_frame, ask_text}
+use Rattle.krs_wire.specs.{Frame.{End, Frames, front_of as read_front}, declared.framed.Framed.Framed}
 use Rattle.krs_wire.proofs.AskLemmas.{front_takes}
-use Rattle.krs_screen.specs.Front.{le32, front_of}
-use Rattle.krs_screen.specs.Claim.{voided, is_group, is_void, may_name}
-use Rattle.krs_screen.specs.Counting.{most}
-use Rattle.krs_screen.specs.Reading.{Harmless, IsPeers, nobody, trusted, own, passed_of}
-use Rattle.krs_screen.specs.Run.{Event, run, start, named, Verdict, kept, crowded, refused, Heard, passed_as}
-use Rattle.krs_screen.specs.Run.{may_pass, IsRight, IsRightOf, AreFrames, EachHelloOfARunIsHarmless}
-use Rattle.krs_screen.specs.Step.{Safe}
-use Rattle.krs_screen.specs.declared.claim.Peer.{Peer}
-use Rattle.krs_screen.specs.declared.front.Front.{Front}
-use Rattle.krs_screen.specs.declared.front.Front.TheVariants.{Part, Fault, Other, Crowd, Hello}
-use Rattle.krs_screen.proofs.Voiding.{void_is_void, le32_voided, le32_before, length_voided}
-use Rattle.krs_screen.proofs.Staying.{hello_stays, crowd_stays}
-use Rattle.krs_screen.proofs.Growing.{le32_more, may_pass_more, front_more, IsSeated, seated}
-use Rattle.krs_screen.proofs.Claiming.{claims}
+use Rattle.krs_screen.specs.Claim.{is_group, is_void, may_name, voided}
+use Rattle.krs_screen.specs.{Front.{front_of, le32}, Reading.{Harmless, nobody, own, passed_of, trusted}}
+use Rattle.krs_screen.specs.Run.{AreFrames, crowded, EachHelloOfARunIsHarmless, Heard, IsRight, IsRightOf, kept}
+use Rattle.krs_screen.specs.Run.{may_pass, named, passed_as, refused, run, start, Verdict}
+use Rattle.krs_screen.specs.{Step.Safe, declared.claim.Peer.Peer}
+use Rattle.krs_screen.specs.declared.front.Front.{Front, TheVariants.{Crowd, Fault, Hello, Other, Part}}
 use Rattle.krs_screen.proofs.Answering.{faithful}
+use Rattle.krs_screen.proofs.{Claiming.claims, Growing.{front_more, IsSeated, le32_more, may_pass_more, seated}}
+use Rattle.krs_screen.proofs.Staying.{crowd_stays, hello_stays}
+use Rattle.krs_screen.proofs.Voiding.{le32_before, le32_voided, length_voided, void_is_void}
 
 -- ---- an ask as it was passed on
 

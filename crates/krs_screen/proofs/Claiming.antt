@@ -1,24 +1,15 @@
 -- What is safe to pass names its peer, or nobody.
-use Rattle.std.proofs.Common.{arith, refl, sym, subst, ◌≡◌, ◌+◌, ◌*◌, ◌<◌, ℕ, zero, suc, List, length, ◌∙◌, ◌⊎◌, inl}
-use Rattle.std.proofs.Common.{inr}
-use Rattle.std.proofs.Common.{Bool, true, false, ◌||◌, ◌&&◌, ◌==◌, Result, Ok, Err, Some, slice_index, nat_lt, cond}
-use Rattle.std.proofs.Common.{ap, [], ◌∷◌}
+use Rattle.std.proofs.Common.{[], ◌&&◌, ◌*◌, ◌+◌, ◌<◌, ◌==◌, ◌||◌, ◌∙◌, ◌∷◌, ◌≡◌, ◌⊎◌, ap, arith, Bool, cond, eq-eqb}
+use Rattle.std.proofs.Common.{eqb-true, Err, false, inl, inr, length, List, nat_lt, Ok, refl, Result, slice_index, Some}
+use Rattle.std.proofs.Common.{subst, suc, sym, true, zero, ℕ}
 use Rattle.std.specs.List.{list_any}
-use Rattle.krs_types.specs.declared.errno.Errno.{Errno}
-use Rattle.krs_types.specs.declared.errno.Errno.TheVariants.{EINVAL}
-use Rattle.krs_types.specs.Caller.{caller_check, no_id}
-use Rattle.std.proofs.lemmas.Bool.{eqb-true, eq-eqb}
-use Rattle.krs_types.specs.declared.caller.Caller.{Caller}
-use Rattle.krs_types.specs.declared.ask.Op.TheVariants.{Hello as AsksHello}
-use Rattle.krs_wire.specs.declared.framed.Framed.{Framed}
-use Rattle.krs_wire.specs.Frame.{front_of as read_front}
-use Rattle.krs_screen.specs.Front.{le32, front_of}
-use Rattle.krs_screen.specs.Claim.{is_group, are_groups, is_own, some_nobody, is_void}
-use Rattle.krs_screen.specs.Step.{Safe}
-use Rattle.krs_screen.specs.Reading.{Sees, IsPeers, Harmless, nobody, trusted, own}
+use Rattle.krs_types.specs.{Caller.{caller_check, no_id}, declared.ask.Op.TheVariants.Hello as AsksHello}
+use Rattle.krs_types.specs.declared.{caller.Caller.Caller, errno.Errno.{Errno, TheVariants.EINVAL}}
+use Rattle.krs_wire.specs.{Frame.front_of as read_front, declared.framed.Framed.Framed}
+use Rattle.krs_screen.specs.Claim.{are_groups, is_group, is_own, is_void, some_nobody}
+use Rattle.krs_screen.specs.{Front.{front_of, le32}, Reading.{Harmless, IsPeers, nobody, own, Sees, trusted}, Step.Safe}
 use Rattle.krs_screen.specs.declared.claim.Peer.{Peer}
-use Rattle.krs_screen.specs.declared.front.Front.{Front}
-use Rattle.krs_screen.specs.declared.front.Front.TheVariants.{Part, Fault, Other, Crowd, Hello}
+use Rattle.krs_screen.specs.declared.front.Front.{Front, TheVariants.{Crowd, Fault, Hello, Other, Part}}
 use Rattle.krs_screen.proofs.Seeing.{seen}
 
 or_true : (a b : Bool) → (a || b) ≡ true → (a ≡ true) ⊎ (b ≡ true)

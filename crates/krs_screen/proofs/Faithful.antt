@@ -1,35 +1,19 @@
 -- Each step keeps what is said of a run, and so a whole run does.
-use Rattle.std.proofs.Common.{arith, refl, sym, ap, subst, ◌≡◌, ◌⊎◌, inl, inr, ◌+◌, ◌*◌, ◌-◌, ◌≤◌, ◌<◌, ◌++◌, ℕ, zero}
-use Rattle.std.proofs.Common.{suc, List, [], ◌∷◌}
-use Rattle.std.proofs.Common.{length, map, take, drop, min, get_or, ◌∙◌, append_assoc, length-append, length-drop}
-use Rattle.std.proofs.Common.{Bool, true, false, cond, ◌==◌, ◌||◌, ◌&&◌, nat_lt}
-use Rattle.std.proofs.lemmas.Bool.{eq-eqb, or_left, or_right, or_from, or_parts, eqb-false}
-use Rattle.std.proofs.lemmas.List.{append-nil, map-append, take-append-drop, take-append-le, drop-append-le}
-use Rattle.std.proofs.lemmas.List.{length-take-le, length-map, take_more, drop_more, length-set}
-use Rattle.std.specs.List.{flat_map, AllByRecursion}
-use Rattle.krs_wire.specs.Reply.{is_bad_reply_length}
-use Rattle.krs_screen.specs.Front.{le32, with_le32, front_of}
-use Rattle.krs_screen.specs.Claim.{voided, is_void, may_name}
-use Rattle.krs_screen.specs.Counting.{waiting, most, next, asked_more, refused_next, answered_more, one_forgotten}
-use Rattle.krs_screen.specs.Counting.{is_refused}
-use Rattle.krs_screen.specs.Reading.{passed_of}
-use Rattle.krs_screen.specs.Run.{Event, client_sends, daemon_sends, asks_are_judged, replies_are_judged, Way, Line}
-use Rattle.krs_screen.specs.Run.{asks_gone, replies_gone, named, happens, run, start}
-use Rattle.krs_screen.specs.Run.{Verdict, kept, crowded, refused, gets_eperm, Heard, passed_as, may_pass, IsRight}
-use Rattle.krs_screen.specs.Run.{IsRightOf, Told, told_as, AreFrames, AreAsks, AreReplies, EachRunIsFaithful}
-use Rattle.krs_screen.specs.Step.{Done, ask_step, front_step, hello_step, reply_step, head_step, is_bad_reply}
-use Rattle.krs_screen.specs.Step.{with_eperm}
-use Rattle.krs_screen.specs.declared.claim.Peer.{Peer}
-use Rattle.krs_screen.specs.declared.counting.Screen.{Screen}
-use Rattle.krs_screen.specs.declared.front.Front.{Front}
-use Rattle.krs_screen.specs.declared.front.Front.TheVariants.{Part, Fault, Other, Crowd, Hello}
-use Rattle.krs_screen.proofs.Queueing.{appended, taken}
-use Rattle.krs_screen.proofs.Numbering.{next_is, first_is, differ}
-use Rattle.krs_screen.proofs.Growing.{le32_more, with_more, take_with, drop_with, may_pass_more, front_taken}
-use Rattle.krs_screen.proofs.Growing.{IsSeated, seated}
-use Rattle.krs_screen.proofs.Running.{all_push, all_before, all_last, flat_push, flat_grown, length_push, ends}
-use Rattle.krs_screen.proofs.Running.{frames_pushed, frames_grown, numbers, if_marked, numbers_pushed, first_behind}
-use Rattle.krs_screen.proofs.Running.{IsSo, came_on, asks_go_on, asks_idle, replies_idle, client_sent, daemon_sent}
+use Rattle.std.proofs.Common.{[], ◌*◌, ◌++◌, ◌+◌, ◌-◌, ◌<◌, ◌∙◌, ◌∷◌, ◌≡◌, ◌≤◌, ap, append-nil, arith, Bool, cond, drop}
+use Rattle.std.proofs.Common.{false, flat_map, length, length-drop, length-set, length-take-le, List, map, min, nat_lt}
+use Rattle.std.proofs.Common.{refl, subst, suc, sym, take, take-append-drop, true, zero, ℕ}
+use Rattle.std.proofs.lemmas.Bool.{or_from, or_left, or_right}
+use Rattle.std.proofs.lemmas.List.{drop-append-le, length-map, map-append, take-append-le}
+use Rattle.krs_screen.specs.Claim.{is_void, may_name, voided}
+use Rattle.krs_screen.specs.Counting.{asked_more, most, next, refused_next, waiting}
+use Rattle.krs_screen.specs.{Front.{front_of, le32}, Reading.passed_of, Run.{AreFrames, asks_gone, crowded, gets_eperm}}
+use Rattle.krs_screen.specs.Run.{Heard, IsRight, IsRightOf, kept, Line, may_pass, named, passed_as, refused, Told}
+use Rattle.krs_screen.specs.{Step.{ask_step, Done, front_step, hello_step}, declared.claim.Peer.Peer}
+use Rattle.krs_screen.specs.declared.front.Front.{Front, TheVariants.{Crowd, Fault, Hello, Other, Part}}
+use Rattle.krs_screen.proofs.Growing.{drop_with, front_taken, IsSeated, le32_more, may_pass_more, seated, take_with}
+use Rattle.krs_screen.proofs.Numbering.{next_is}
+use Rattle.krs_screen.proofs.{Queueing.{appended, taken}, Running.{all_push, asks_go_on, asks_idle, came_on, flat_push}}
+use Rattle.krs_screen.proofs.Running.{frames_pushed, if_marked, IsSo, length_push, numbers, numbers_pushed}
 
 -- ---- an ask is passed on, or its beginning
 

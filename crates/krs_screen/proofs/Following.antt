@@ -1,15 +1,11 @@
 -- What stands at the front stays, whatever comes behind the bytes that were passed.
-use Rattle.std.proofs.Common.{arith, refl, sym, ap, subst, ◌≡◌, ◌+◌, ◌*◌, ◌≤◌, ◌<◌, ◌++◌, ℕ, List, length, take, ◌∙◌}
-use Rattle.std.proofs.Common.{Bool, true, false, cond, ◌==◌, ◌||◌, ◌&&◌, nat_lt}
-use Rattle.std.proofs.lemmas.Bool.{eqb-true}
-use Rattle.std.proofs.lemmas.List.{length-append, length-take-le}
-use Rattle.std.specs.Int.{w16, w32, from_le_bytes}
-use Rattle.krs_screen.specs.Front.{le16, le32, front_of, hello_by, is_known}
-use Rattle.krs_screen.specs.Reading.{passed_of}
-use Rattle.krs_screen.proofs.Staying.{at_of, layout, as_layout}
-use Rattle.krs_screen.proofs.Voiding.{before}
-use Rattle.krs_screen.specs.declared.front.Front.{Front}
-use Rattle.krs_screen.specs.declared.front.Front.TheVariants.{Part, Fault, Other, Crowd, Hello}
+use Rattle.std.proofs.Common.{◌&&◌, ◌*◌, ◌++◌, ◌+◌, ◌<◌, ◌==◌, ◌||◌, ◌∙◌, ◌≡◌, ◌≤◌, ap, arith, Bool, cond, eqb-true}
+use Rattle.std.proofs.Common.{false, length, length-append, length-take-le, List, nat_lt, refl, subst, sym, take, true}
+use Rattle.std.proofs.Common.{w16, w32, ℕ}
+use Rattle.std.specs.Int.{from_le_bytes}
+use Rattle.krs_screen.specs.{Front.{front_of, hello_by, is_known, le16, le32}, Reading.passed_of}
+use Rattle.krs_screen.specs.declared.front.Front.{Front, TheVariants.{Crowd, Fault, Hello, Other, Part}}
+use Rattle.krs_screen.proofs.{Staying.{as_layout, at_of, layout}, Voiding.before}
 
 pub record P (m : ℕ) (f : Front) : Type 0 where
   pub some : 0 < passed_of f

@@ -1,23 +1,17 @@
 -- What is said of some bytes stays so where more come behind them.
-use Rattle.std.proofs.Common.{arith, refl, sym, ap, subst, ◌≡◌, ◌+◌, ◌*◌, ◌-◌, ◌≤◌, ◌<◌, ◌++◌, ℕ, zero, suc, List, []}
-use Rattle.std.proofs.Common.{◌∷◌}
-use Rattle.std.proofs.Common.{length, take, drop, ◌∙◌, append_assoc, length-append, length-drop}
-use Rattle.std.proofs.Common.{Bool, true, false, cond, ◌==◌, ◌||◌, ◌&&◌, nat_lt}
-use Rattle.std.proofs.lemmas.Bool.{eqb-true}
-use Rattle.std.proofs.lemmas.List.{take-append-le, drop-append-le, take-append-drop, length-take-le, take_at, drop_at}
-use Rattle.std.proofs.lemmas.List.{take_all, append-nil}
-use Rattle.std.specs.Int.{w32, from_le_bytes, to_le_bytes}
+use Rattle.std.proofs.Common.{[], ◌&&◌, ◌*◌, ◌++◌, ◌+◌, ◌-◌, ◌<◌, ◌==◌, ◌||◌, ◌∙◌, ◌∷◌, ◌≡◌, ◌≤◌, ap, append-nil}
+use Rattle.std.proofs.Common.{append_assoc, arith, Bool, cond, drop, drop_at, eqb-true, false, length, length-append}
+use Rattle.std.proofs.Common.{length-drop, length-take-le, List, nat_lt, refl, subst, suc, sym, take, take-append-drop}
+use Rattle.std.proofs.Common.{take_all, take_at, true, w32, zero, ℕ}
+use Rattle.std.specs.Int.{from_le_bytes, to_le_bytes}
+use Rattle.std.proofs.lemmas.List.{drop-append-le, take-append-le}
 use Rattle.krs_types.specs.Caller.{no_id}
-use Rattle.krs_screen.specs.Front.{le16, le32, with_le32, front_of, hello_by, is_known}
-use Rattle.krs_screen.specs.Claim.{is_group, are_groups, is_own, may_name, some_nobody, is_void, voided}
-use Rattle.krs_screen.specs.Reading.{passed_of}
-use Rattle.krs_screen.specs.Run.{may_pass}
-use Rattle.krs_screen.specs.declared.claim.Peer.{Peer}
-use Rattle.krs_screen.specs.declared.front.Front.{Front}
-use Rattle.krs_screen.specs.declared.front.Front.TheVariants.{Part, Fault, Other, Crowd, Hello}
-use Rattle.krs_screen.proofs.Voiding.{front_only}
-use Rattle.krs_screen.proofs.Staying.{layout, as_layout, at_of, at_least}
-use Rattle.krs_screen.proofs.Following.{P, front_stays}
+use Rattle.krs_screen.specs.Claim.{are_groups, is_group, is_own, is_void, some_nobody}
+use Rattle.krs_screen.specs.Front.{front_of, is_known, le16, le32, with_le32}
+use Rattle.krs_screen.specs.{Reading.passed_of, Run.may_pass, declared.claim.Peer.Peer}
+use Rattle.krs_screen.specs.declared.front.Front.{Front, TheVariants.{Crowd, Fault, Hello, Other, Part}}
+use Rattle.krs_screen.proofs.Following.{front_stays, P}
+use Rattle.krs_screen.proofs.{Staying.{as_layout, at_least, at_of, layout}, Voiding.front_only}
 
 pub le32_more : (bytes ys : List ℕ) (i : ℕ) → i + 4 ≤ length bytes → le32 (bytes ++ ys) i ≡ le32 bytes i
 unfolding le32

@@ -1,13 +1,10 @@
 -- Which numbers have an operation.
-use Rattle.std.proofs.Common.{arith, refl, sym, ap, zero, nat_le, ◌≡◌, ◌+◌, ℕ, suc, List, [], ◌∷◌, ◌∙◌, Bool, true}
-use Rattle.std.proofs.Common.{false, cond, ◌==◌, ◌||◌, ◌&&◌, nat_lt, Result, map, Option, Some, None}
+use Rattle.std.proofs.Common.{[], ◌&&◌, ◌+◌, ◌==◌, ◌||◌, ◌∙◌, ◌∷◌, ◌≡◌, ap, arith, Bool, cond, false, List, map, nat_le}
+use Rattle.std.proofs.Common.{nat_lt, None, Option, refl, Result, Some, suc, sym, true, zero, ℕ}
 use Rattle.std.specs.List.{list_any}
 use Rattle.krs_types.specs.declared.ask.Op.{Op}
-use Rattle.krs_wire.specs.declared.fault.WireFault.{WireFault}
-use Rattle.krs_wire.specs.Bodies.{fields_of}
-use Rattle.krs_wire.specs.Faulting.{or_bad_body}
-use Rattle.krs_wire.specs.Field.{whole}
-use Rattle.krs_wire.specs.Frame.{op_of, Reading, read_by, readings}
+use Rattle.krs_wire.specs.{Bodies.fields_of, Faulting.or_bad_body, Field.whole}
+use Rattle.krs_wire.specs.{Frame.{op_of, read_by, Reading, readings}, declared.fault.WireFault.WireFault}
 use Rattle.krs_screen.specs.Front.{is_known, is_operation}
 
 -- the number of HELLO

@@ -1,12 +1,10 @@
 -- A reply gets EPERM where, and only where, its number is that of an ask that was made void.
-use Rattle.std.proofs.Common.{arith, sym, ap, subst, ◌≡◌, ◌≢◌, ◌+◌, ◌%◌, ◌≤◌, ◌<◌, inl, inr, ℕ, zero, suc, List, []}
-use Rattle.std.proofs.Common.{◌∷◌, ◌++◌, length, ◌∙◌}
-use Rattle.std.proofs.Common.{Bool, true, false, ◌&&◌, ◌==◌, nat_lt, slice_index}
-use Rattle.std.proofs.lemmas.Bool.{eq-eqb}
-use Rattle.krs_screen.specs.Counting.{waiting, waiting_from, asked_more, refused_next, answered_more, one_forgotten}
-use Rattle.krs_screen.specs.Counting.{is_refused, next, Between, IsCounted, Among, most}
-use Rattle.krs_screen.proofs.Queueing.{appended, taken}
+use Rattle.std.proofs.Common.{[], ◌%◌, ◌&&◌, ◌++◌, ◌+◌, ◌<◌, ◌==◌, ◌∙◌, ◌∷◌, ◌≡◌, ◌≢◌, ◌≤◌, ap, arith, Bool, eq-eqb}
+use Rattle.std.proofs.Common.{false, inl, inr, length, List, nat_lt, slice_index, subst, suc, sym, true, zero, ℕ}
+use Rattle.krs_screen.specs.Counting.{Among, answered_more, asked_more, Between, is_refused, IsCounted, most, next}
+use Rattle.krs_screen.specs.Counting.{one_forgotten, refused_next, waiting, waiting_from}
 use Rattle.krs_screen.specs.declared.counting.Screen.{Screen}
+use Rattle.krs_screen.proofs.Queueing.{appended, taken}
 
 pub next_is : (n : ℕ) → n < most → next n ≡ n + 1
 next_is n h = omega (arith, h)

@@ -1,10 +1,8 @@
 -- The ring of asks that get EPERM is a queue.
-use Rattle.std.proofs.Common.{arith, refl, sym, ap, subst, ◌≡◌, ◌≢◌, ◌+◌, ◌-◌, ◌%◌, ◌<◌, ℕ, zero, suc, List, [], ◌∷◌}
-use Rattle.std.proofs.Common.{◌++◌, length, ◌∙◌}
-use Rattle.std.proofs.Common.{Bool, true, false, ◌&&◌, ◌==◌, nat_lt, slice_index, slice_set}
-use Rattle.std.proofs.lemmas.Bool.{eqb-true}
+use Rattle.std.proofs.Common.{[], ◌%◌, ◌&&◌, ◌++◌, ◌+◌, ◌-◌, ◌<◌, ◌==◌, ◌∙◌, ◌∷◌, ◌≡◌, ◌≢◌, ap, arith, Bool, eqb-true}
+use Rattle.std.proofs.Common.{false, length, List, nat_lt, refl, slice_index, slice_set, subst, suc, sym, true, zero, ℕ}
 use Rattle.std.proofs.lemmas.Grind.{common_steps}
-use Rattle.krs_screen.specs.Counting.{waiting_from, waiting, refused_next, one_forgotten, is_refused, next}
+use Rattle.krs_screen.specs.Counting.{is_refused, next, one_forgotten, refused_next, waiting, waiting_from}
 use Rattle.krs_screen.specs.declared.counting.Screen.{Screen}
 
 here : (ring : List ℕ) (i j x : ℕ) → length ring ≡ 64 → i ≡ j → j < 64 → slice_index (slice_set ring i x) j ≡ x

@@ -1,25 +1,15 @@
 -- However a connection runs, what was passed on is what came, frame by frame.
-use Rattle.std.proofs.Common.{arith, refl, sym, ap, subst, ◌≡◌, ◌⊎◌, inl, inr, ◌+◌, ◌-◌, ◌≤◌, ◌<◌, ◌++◌, ℕ, zero, suc}
-use Rattle.std.proofs.Common.{List, [], ◌∷◌}
-use Rattle.std.proofs.Common.{length, map, take, drop, min, ◌∙◌, append_assoc, length-append, length-drop}
-use Rattle.std.proofs.Common.{Bool, true, false, cond, ◌==◌, ◌||◌, ◌&&◌, nat_lt}
-use Rattle.std.proofs.lemmas.List.{append-nil, map-append, take-append-drop, take-append-le, drop-append-le}
-use Rattle.std.proofs.lemmas.List.{length-take-le, length-map, take_more, drop_more, take_at, drop_at}
-use Rattle.std.specs.List.{flat_map, AllByRecursion}
-use Rattle.krs_screen.specs.Front.{le32, with_le32, front_of}
-use Rattle.krs_screen.specs.Claim.{voided}
-use Rattle.krs_screen.specs.Counting.{waiting, most}
-use Rattle.krs_screen.specs.Reading.{passed_of}
-use Rattle.krs_screen.specs.Run.{Event, Way, Line, more, gone, asks_gone, replies_gone, named, happens, run, start}
-use Rattle.krs_screen.specs.Run.{Verdict, kept, crowded, refused}
-use Rattle.krs_screen.specs.Run.{gets_eperm, Heard, passed_as, may_pass, IsRight, IsRightOf, Told, told_as, AreFrames}
-use Rattle.krs_screen.specs.Run.{AreAsks, AreReplies}
-use Rattle.krs_screen.specs.Step.{with_eperm}
+use Rattle.std.proofs.Common.{[], ◌++◌, ◌+◌, ◌-◌, ◌<◌, ◌∙◌, ◌∷◌, ◌≡◌, ◌≤◌, ◌⊎◌, ap, append-nil, append_assoc, arith}
+use Rattle.std.proofs.Common.{Bool, cond, drop, false, flat_map, inl, inr, length, length-append, length-take-le, List}
+use Rattle.std.proofs.Common.{map, refl, subst, suc, sym, take, take-append-drop, true, zero, ℕ}
+use Rattle.std.specs.List.{AllByRecursion}
+use Rattle.std.proofs.lemmas.List.{map-append}
+use Rattle.krs_screen.specs.{Claim.voided, Counting.waiting, Front.{front_of, le32}, Reading.passed_of, Run.AreAsks}
+use Rattle.krs_screen.specs.Run.{AreFrames, AreReplies, asks_gone, crowded, gets_eperm, gone, Heard, IsRight, IsRightOf}
+use Rattle.krs_screen.specs.Run.{kept, Line, may_pass, more, named, passed_as, refused, replies_gone, Told, Verdict}
 use Rattle.krs_screen.specs.declared.claim.Peer.{Peer}
-use Rattle.krs_screen.specs.declared.counting.Screen.{Screen}
-use Rattle.krs_screen.specs.declared.front.Front.{Front}
-use Rattle.krs_screen.specs.declared.front.Front.TheVariants.{Part, Fault, Other, Crowd, Hello}
-use Rattle.krs_screen.proofs.Growing.{le32_more, with_more, may_pass_more, front_more, IsSeated, seated}
+use Rattle.krs_screen.specs.declared.front.Front.{Front, TheVariants.{Crowd, Fault, Hello, Other, Part}}
+use Rattle.krs_screen.proofs.Growing.{front_more, IsSeated, le32_more, may_pass_more, seated, with_more}
 
 -- ---- lists that grow at their end
 

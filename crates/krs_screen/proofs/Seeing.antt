@@ -1,27 +1,16 @@
 -- What a daemon reads as HELLO is seen as HELLO.
-use Rattle.std.proofs.Common.{arith, refl, sym, ap, subst, ◌≡◌, ◌+◌, ◌*◌, ◌≤◌, ◌<◌, ◌^◌, ◌++◌, ℕ, List, length, ◌∙◌}
-use Rattle.std.proofs.Common.{Bool, true, false, nat_lt, cond, Option, Some, None, Ok, slice_index}
-use Rattle.std.proofs.lemmas.Grind.{common_steps}
-use Rattle.std.proofs.lemmas.List.{append-nil, length-append}
-use Rattle.std.proofs.Math.Seq.{drop-append-add}
-use Rattle.std.proofs.Common.{zero, suc, [], ◌∷◌, take, drop}
-use Rattle.std.specs.List.{flat_map, AllByRecursion}
-use Rattle.std.specs.Int.{w32, to_le_bytes, from_le_bytes}
-use Rattle.std.proofs.lemmas.Nat.{from_le_bytes-to_le_bytes_4}
-use Rattle.krs_types.specs.declared.ask.Ask.{Ask}
-use Rattle.krs_types.specs.declared.caller.Caller.{Caller}
-use Rattle.krs_types.specs.declared.ask.Op.TheVariants.{Hello as AsksHello}
+use Rattle.std.proofs.Common.{[], ◌*◌, ◌++◌, ◌+◌, ◌<◌, ◌^◌, ◌∙◌, ◌∷◌, ◌≡◌, ◌≤◌, ap, append-nil, arith, Bool, cond, drop}
+use Rattle.std.proofs.Common.{false, flat_map, length, length-append, List, nat_lt, None, Ok, Option, refl, slice_index}
+use Rattle.std.proofs.Common.{Some, subst, suc, sym, take, true, w32, zero, ℕ}
+use Rattle.std.specs.{Int.{from_le_bytes, to_le_bytes}, List.AllByRecursion}
+use Rattle.std.proofs.{Math.Seq.drop-append-add, lemmas.{Grind.common_steps, Nat.from_le_bytes-to_le_bytes_4}}
+use Rattle.krs_types.specs.declared.{ask.{Ask.Ask, Op.{Op, TheVariants.Hello as AsksHello}}, caller.Caller.Caller}
 use Rattle.krs_wire.specs.Encoding.{ask_frame, ask_text, FitsAsk}
-use Rattle.krs_wire.proofs.CountLemmas.{length_numbers}
-use Rattle.krs_wire.proofs.AskLemmas.{front_takes}
-use Rattle.krs_wire.specs.declared.framed.Framed.{Framed}
-use Rattle.krs_wire.specs.Frame.{front_of as read_front}
-use Rattle.krs_types.specs.declared.ask.Op.{Op}
-use Rattle.krs_screen.specs.Front.{le16, le32, front_of, front_by, hello_front, is_known}
-use Rattle.krs_screen.specs.Reading.{Sees}
+use Rattle.krs_wire.specs.{Frame.front_of as read_front, declared.framed.Framed.Framed}
+use Rattle.krs_wire.proofs.{AskLemmas.front_takes, CountLemmas.length_numbers}
+use Rattle.krs_screen.specs.Front.{front_by, front_of, hello_front, is_known, le16, le32}
+use Rattle.krs_screen.specs.{Reading.Sees, declared.front.Front.{Front, TheVariants.{Crowd, Hello}}}
 use Rattle.krs_screen.proofs.Knowing.{hello_is_known}
-use Rattle.krs_screen.specs.declared.front.Front.{Front}
-use Rattle.krs_screen.specs.declared.front.Front.TheVariants.{Crowd, Hello}
 
 abbrev choice : (b : Bool) (frame at count : ℕ) → Front
 choice b frame at count = cond b (Crowd frame at) (Hello at count)

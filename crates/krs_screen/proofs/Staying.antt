@@ -1,14 +1,10 @@
 -- A HELLO that was made void is the same HELLO but for its uid.
-use Rattle.std.proofs.Common.{arith, refl, sym, ap, subst, ◌≡◌, ◌+◌, ◌*◌, ◌≤◌, ℕ, List, length, take, drop, ◌∙◌, ◌==◌}
-use Rattle.std.proofs.Common.{◌||◌, ◌&&◌, nat_lt, if◌then◌else◌}
-use Rattle.std.proofs.Common.{Bool, true, false, cond}
-use Rattle.std.proofs.lemmas.List.{drop-drop}
-use Rattle.std.specs.Int.{w32, from_le_bytes}
-use Rattle.krs_screen.specs.Front.{le16, le32, front_of, front_by, hello_front, hello_by, is_known}
-use Rattle.krs_screen.specs.Claim.{voided}
-use Rattle.krs_screen.proofs.Voiding.{le32_before, le16_before, length_voided, drop_behind}
-use Rattle.krs_screen.specs.declared.front.Front.{Front}
-use Rattle.krs_screen.specs.declared.front.Front.TheVariants.{Part, Fault, Other, Crowd, Hello}
+use Rattle.std.proofs.Common.{◌&&◌, ◌*◌, ◌+◌, ◌==◌, ◌||◌, ◌∙◌, ◌≡◌, ◌≤◌, ap, arith, Bool, cond, drop, drop-drop, false}
+use Rattle.std.proofs.Common.{if◌then◌else◌, length, List, nat_lt, refl, subst, sym, take, true, w32, ℕ}
+use Rattle.std.specs.Int.{from_le_bytes}
+use Rattle.krs_screen.specs.{Claim.voided, Front.{front_by, front_of, hello_by, hello_front, is_known, le16, le32}}
+use Rattle.krs_screen.specs.declared.front.Front.{Front, TheVariants.{Crowd, Fault, Hello, Other, Part}}
+use Rattle.krs_screen.proofs.Voiding.{drop_behind, le16_before, le32_before, length_voided}
 
 pub le32_behind : (bytes : List ℕ) (at : ℕ) → at ≤ length bytes → le32 (voided bytes at) (at + 8) ≡ le32 bytes (at + 8)
 unfolding le32

@@ -1,13 +1,10 @@
 -- What a HELLO says that was made void: its uid is 4294967295, and nothing else has changed.
-use Rattle.std.proofs.Common.{arith, refl, sym, ap, subst, ◌≡◌, ◌+◌, ◌≤◌, ◌++◌, ℕ, List, [], ◌∷◌, length, take, drop}
-use Rattle.std.proofs.Common.{◌∙◌}
-use Rattle.std.proofs.lemmas.List.{length-append, drop-append-le, take-append-le, take-append-drop, length-drop}
-use Rattle.std.proofs.lemmas.List.{length-take-le}
-use Rattle.std.proofs.Math.Seq.{drop-append-add}
-use Rattle.std.specs.Int.{w16, w32, from_le_bytes}
-use Rattle.krs_screen.specs.Front.{le16, le32}
-use Rattle.krs_screen.specs.Claim.{voided, is_void, some_nobody}
-use Rattle.std.proofs.Common.{true, ◌==◌, ◌||◌}
+use Rattle.std.proofs.Common.{[], ◌++◌, ◌+◌, ◌==◌, ◌||◌, ◌∙◌, ◌∷◌, ◌≡◌, ◌≤◌, ap, arith, drop, length, length-append}
+use Rattle.std.proofs.Common.{length-drop, length-take-le, List, refl, subst, sym, take, take-append-drop, true, w16}
+use Rattle.std.proofs.Common.{w32, ℕ}
+use Rattle.std.specs.Int.{from_le_bytes}
+use Rattle.std.proofs.{Math.Seq.drop-append-add, lemmas.List.{drop-append-le, take-append-le}}
+use Rattle.krs_screen.specs.{Claim.{is_void, some_nobody, voided}, Front.{le16, le32}}
 
 abbrev nobody : List ℕ
 nobody = 255 ∷ 255 ∷ 255 ∷ 255 ∷ []

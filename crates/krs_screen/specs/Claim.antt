@@ -1,9 +1,7 @@
 -- Whom a HELLO names, and whether its peer may: profile, believed caller.
-use Rattle.std.specs.Prelude.{ℕ, zero, suc, List, Bool, true, false, not, ◌+◌, ◌*◌, ◌==◌, ◌||◌, ◌&&◌}
-use Rattle.std.specs.List.{list_any}
+use Rattle.std.specs.{Prelude.{◌&&◌, ◌*◌, ◌+◌, ◌==◌, ◌||◌, Bool, false, List, not, suc, true, zero, ℕ}, List.list_any}
 use Rattle.krs_types.specs.Caller.{no_id}
-use Rattle.krs_screen.specs.Front.{le32, with_le32}
-use Rattle.krs_screen.specs.declared.claim.Peer.{Peer}
+use Rattle.krs_screen.specs.{Front.{le32, with_le32}, declared.claim.Peer.Peer}
 
 -- the gid is the peer's or one of its groups, and no number that stands for unknown ones
 unfoldable pub is_group : Peer → List ℕ → ℕ → Bool

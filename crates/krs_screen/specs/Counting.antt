@@ -1,6 +1,6 @@
 -- Which asks were passed on, and which of them get EPERM.
-use Rattle.std.specs.Prelude.{◌≡◌, ◌≤◌, ◌<◌, ◌⊎◌, ◌++◌, [], ◌∷◌, zero, suc, length, true, false, ℕ, List, Bool, ◌+◌}
-use Rattle.std.specs.Prelude.{◌-◌, ◌%◌, ◌==◌, ◌&&◌, min, nat_lt, slice_index, slice_set}
+use Rattle.std.specs.Prelude.{[], ◌%◌, ◌&&◌, ◌++◌, ◌+◌, ◌-◌, ◌<◌, ◌==◌, ◌∷◌, ◌≡◌, ◌≤◌, ◌⊎◌, Bool, false, length, List}
+use Rattle.std.specs.Prelude.{min, nat_lt, slice_index, slice_set, suc, true, zero, ℕ}
 use Rattle.krs_screen.specs.declared.counting.Screen.{Screen}
 
 -- counting stops at the greatest number; a reply is a fault then

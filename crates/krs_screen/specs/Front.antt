@@ -1,13 +1,9 @@
 -- What stands at the front of a client's bytes: docs/FORMAT.md, "An ask's frame".
-use Rattle.std.specs.Prelude.{ℕ, List, [], ◌++◌, Bool, true, false, ◌+◌, ◌*◌, ◌==◌, ◌||◌, ◌&&◌, ◌≤◌, length, take, drop}
-use Rattle.std.specs.Prelude.{nat_lt, if◌then◌else◌, Result, Ok, Err}
-use Rattle.std.specs.Int.{w16, w32, from_le_bytes, to_le_bytes}
+use Rattle.std.specs.Prelude.{[], ◌&&◌, ◌*◌, ◌++◌, ◌+◌, ◌==◌, ◌||◌, ◌≤◌, Bool, drop, Err, false, if◌then◌else◌, length}
+use Rattle.std.specs.{Prelude.{List, nat_lt, Ok, Result, take, true, ℕ}, Int.{from_le_bytes, to_le_bytes, w16, w32}}
 use Rattle.krs_types.specs.declared.ask.Op.{Op}
-use Rattle.krs_wire.specs.declared.fault.WireFault.{WireFault}
-use Rattle.krs_wire.specs.declared.fault.WireFault.TheVariants.{BadOp}
-use Rattle.krs_wire.specs.Frame.{op_of, is_bad_length}
-use Rattle.krs_screen.specs.declared.front.Front.{Front}
-use Rattle.krs_screen.specs.declared.front.Front.TheVariants.{Part, Fault, Other, Crowd, Hello}
+use Rattle.krs_wire.specs.{Frame.{is_bad_length, op_of}, declared.fault.WireFault.{WireFault, TheVariants.BadOp}}
+use Rattle.krs_screen.specs.declared.front.Front.{Front, TheVariants.{Crowd, Fault, Hello, Other, Part}}
 
 -- the numbers of 16 and 32 bits at a place, little-endian
 unfoldable pub le16 : List ℕ → ℕ → ℕ

@@ -1,19 +1,12 @@
 -- What a daemon reads as HELLO is seen as HELLO, and names the same.
-use Rattle.std.specs.Prelude.{◌≡◌, ℕ, ◌<◌, ◌+◌, ◌*◌, List, length, Ok, Err, Some, slice_index}
-use Rattle.krs_types.specs.declared.caller.Caller.{Caller}
-use Rattle.krs_types.specs.declared.errno.Errno.TheVariants.{EINVAL}
-use Rattle.krs_types.specs.Caller.{caller_check}
-use Rattle.krs_types.specs.declared.ask.Op.TheVariants.{Hello as AsksHello}
-use Rattle.krs_wire.specs.declared.framed.Framed.{Framed}
-use Rattle.krs_wire.specs.Frame.{front_of as read_front}
-use Rattle.std.specs.Prelude.{true, false, ◌≤◌, ◌++◌, take}
-use Rattle.krs_screen.specs.declared.claim.Peer.{Peer}
-use Rattle.krs_screen.specs.Claim.{is_group}
-use Rattle.krs_screen.specs.Step.{Safe, ask_step}
-use Rattle.krs_screen.specs.declared.counting.Screen.{Screen}
-use Rattle.krs_screen.specs.Front.{le32, front_of, is_hello}
-use Rattle.krs_screen.specs.declared.front.Front.{Front}
-use Rattle.krs_screen.specs.declared.front.Front.TheVariants.{Part, Fault, Other, Crowd, Hello}
+use Rattle.std.specs.Prelude.{◌*◌, ◌++◌, ◌+◌, ◌<◌, ◌≡◌, ◌≤◌, Err, false, length, List, Ok, slice_index, Some, take}
+use Rattle.std.specs.Prelude.{true, ℕ}
+use Rattle.krs_types.specs.{Caller.caller_check, declared.ask.Op.TheVariants.Hello as AsksHello}
+use Rattle.krs_types.specs.declared.{caller.Caller.Caller, errno.Errno.TheVariants.EINVAL}
+use Rattle.krs_wire.specs.{Frame.front_of as read_front, declared.framed.Framed.Framed}
+use Rattle.krs_screen.specs.{Claim.is_group, Front.{front_of, is_hello, le32}, Step.{ask_step, Safe}}
+use Rattle.krs_screen.specs.declared.{claim.Peer.Peer, counting.Screen.Screen, front.Front.Front}
+use Rattle.krs_screen.specs.declared.front.Front.TheVariants.{Crowd, Fault, Hello, Other, Part}
 
 abbrev pub Sees : List ℕ → Caller → Front → Type 0
 Sees bytes caller Part = ⊥

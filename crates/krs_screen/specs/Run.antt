@@ -1,22 +1,13 @@
 -- A whole run of a connection. Whatever pieces it comes in, what is passed on to the daemon is what the client sent,
 -- frame by frame, but for the HELLOs that were made void; and what is passed on to the client is what the daemon
 -- answered, but for the statuses of the replies to those.
-use Rattle.std.specs.Prelude.{◌≡◌, ◌⊎◌, ◌≤◌, ◌<◌, ℕ, List, [], ◌∷◌, ◌++◌, Bool, true, false, ◌+◌, ◌||◌, length, map}
-use Rattle.std.specs.Prelude.{take, drop, replicate, slice_index, if◌then◌else◌}
-use Rattle.std.specs.List.{flat_map, AllByRecursion}
-use Rattle.krs_types.specs.declared.caller.Caller.{Caller}
-use Rattle.krs_types.specs.declared.ask.Op.TheVariants.{Hello as AsksHello}
-use Rattle.krs_wire.specs.declared.framed.Framed.{Framed}
-use Rattle.krs_wire.specs.Frame.{Frames, End}
-use Rattle.krs_screen.specs.Front.{le32, front_of}
-use Rattle.krs_screen.specs.Claim.{is_void, may_name, voided}
-use Rattle.krs_screen.specs.Counting.{most}
-use Rattle.krs_screen.specs.Reading.{Harmless}
-use Rattle.krs_screen.specs.Step.{Done, ask_step, reply_step, with_eperm}
-use Rattle.krs_screen.specs.declared.claim.Peer.{Peer}
-use Rattle.krs_screen.specs.declared.counting.Screen.{Screen}
-use Rattle.krs_screen.specs.declared.front.Front.{Front}
-use Rattle.krs_screen.specs.declared.front.Front.TheVariants.{Part, Fault, Other, Crowd, Hello}
+use Rattle.std.specs.Prelude.{[], ◌++◌, ◌+◌, ◌<◌, ◌||◌, ◌∷◌, ◌≡◌, Bool, drop, false, flat_map, if◌then◌else◌, length}
+use Rattle.std.specs.{Prelude.{List, map, replicate, slice_index, take, true, ℕ}, List.AllByRecursion}
+use Rattle.krs_types.specs.declared.{ask.Op.TheVariants.Hello as AsksHello, caller.Caller.Caller}
+use Rattle.krs_wire.specs.{Frame.{End, Frames}, declared.framed.Framed.Framed}
+use Rattle.krs_screen.specs.{Claim.{is_void, may_name, voided}, Counting.most, Front.{front_of, le32}, Reading.Harmless}
+use Rattle.krs_screen.specs.{Step.{ask_step, Done, reply_step, with_eperm}, declared.claim.Peer.Peer}
+use Rattle.krs_screen.specs.declared.{counting.Screen.Screen, front.Front.{Front, TheVariants.{Crowd, Hello, Other}}}
 
 -- What happens at a connection: a piece comes from one end or the other, or what waits there is judged once. The
 -- kernel has named the peer's groups for that, or hasn't, and the peer then has none but its gid.

@@ -1,19 +1,14 @@
 -- What is done with the front of a client's bytes and of the daemon's: how many may be passed on, the bytes as they
 -- then stand, and how far the connection has come.
-use Rattle.std.specs.Prelude.{◌≡◌, ◌⊎◌, ℕ, List, Bool, true, ◌+◌, ◌*◌, ◌-◌, ◌==◌, ◌||◌, ◌&&◌, min, length, nat_lt}
-use Rattle.std.specs.Prelude.{false, if◌then◌else◌}
-use Rattle.krs_types.specs.declared.errno.Errno.TheVariants.{EPERM}
-use Rattle.krs_types.specs.Errno.{number_of}
-use Rattle.krs_types.specs.Caller.{no_id}
+use Rattle.std.specs.Prelude.{◌&&◌, ◌*◌, ◌+◌, ◌-◌, ◌==◌, ◌||◌, ◌≡◌, ◌⊎◌, Bool, false, if◌then◌else◌, length, List, min}
+use Rattle.std.specs.Prelude.{nat_lt, true, ℕ}
+use Rattle.krs_types.specs.{Caller.no_id, Errno.number_of, declared.errno.Errno.TheVariants.EPERM}
 use Rattle.krs_wire.specs.Reply.{is_bad_reply_length}
-use Rattle.krs_screen.specs.Front.{le32, with_le32, front_of}
 use Rattle.krs_screen.specs.Claim.{is_void, may_name, voided}
-use Rattle.krs_screen.specs.Counting.{asked_more, refused_next, is_refused, answered_more, one_forgotten}
-use Rattle.krs_screen.specs.declared.claim.Peer.{Peer}
-use Rattle.krs_screen.specs.declared.passing.Claim.{Claim}
-use Rattle.krs_screen.specs.declared.counting.Screen.{Screen}
-use Rattle.krs_screen.specs.declared.front.Front.{Front}
-use Rattle.krs_screen.specs.declared.front.Front.TheVariants.{Part, Fault, Other, Crowd, Hello}
+use Rattle.krs_screen.specs.Counting.{answered_more, asked_more, is_refused, one_forgotten, refused_next}
+use Rattle.krs_screen.specs.Front.{front_of, le32, with_le32}
+use Rattle.krs_screen.specs.declared.{claim.Peer.Peer, counting.Screen.Screen, front.Front.Front}
+use Rattle.krs_screen.specs.declared.{front.Front.TheVariants.{Crowd, Fault, Hello, Other, Part}, passing.Claim.Claim}
 
 abbrev pub Done : Type 0
 Done = ℕ × (List ℕ × Screen)

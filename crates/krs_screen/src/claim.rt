@@ -1,7 +1,6 @@
-ghost use Rattle.std.specs.Prelude.{◌≡◌, ◌==◌, ◌+◌, ◌*◌, ◌≤◌, length};
-ghost use Rattle.std.specs.List.{list_any};
+ghost use Rattle.std.specs.{Prelude.{◌*◌, ◌+◌, ◌==◌, ◌≡◌, ◌≤◌, length}, List.list_any};
+ghost use Rattle.krs_screen.specs.Claim.{are_groups, is_group, is_own, is_void, may_name, some_nobody, voided};
 ghost use Rattle.krs_screen.specs.Front.{le32};
-ghost use Rattle.krs_screen.specs.Claim.{is_group, are_groups, is_own, may_name, some_nobody, is_void, voided};
 
 use crate::numbers::{put_u32, u32_in};
 

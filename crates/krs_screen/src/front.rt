@@ -1,5 +1,5 @@
-ghost use Rattle.std.specs.Prelude.{◌≡◌, ◌+◌, ◌≤◌, ◌<◌, length, if◌then◌else◌, ◌==◌};
-ghost use Rattle.krs_screen.specs.Front.{le16, le32, is_known, hello_front, front_by, front_of, Within};
+ghost use Rattle.std.specs.Prelude.{◌+◌, ◌<◌, ◌==◌, ◌≡◌, ◌≤◌, if◌then◌else◌, length};
+ghost use Rattle.krs_screen.specs.Front.{front_by, front_of, hello_front, is_known, le16, le32, Within};
 
 use crate::numbers::{u16_in, u32_in};
 

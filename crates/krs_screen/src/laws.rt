@@ -1,6 +1,5 @@
-ghost use Rattle.krs_screen.specs.Counting.{EachAskIsCounted, EachRefusalIsCounted, EachReplyIsCounted};
-ghost use Rattle.krs_screen.specs.Counting.{EachEpermIsCounted, EachRefusalGetsEperm};
-ghost use Rattle.krs_screen.specs.Counting.{EachIsAppended, EachIsTakenInTurn};
+ghost use Rattle.krs_screen.specs.Counting.{EachAskIsCounted, EachEpermIsCounted, EachIsAppended, EachIsTakenInTurn};
+ghost use Rattle.krs_screen.specs.Counting.{EachRefusalGetsEperm, EachRefusalIsCounted, EachReplyIsCounted};
 ghost use Rattle.krs_screen.specs.Reading.{EachFrontStays, EachHelloIsSeen, EachSafeHelloIsHarmless};
 ghost use Rattle.krs_screen.specs.Reading.{GroupsCountForHellosAlone};
 ghost use Rattle.krs_screen.specs.Run.{EachHelloOfARunIsHarmless, EachRunIsFaithful};

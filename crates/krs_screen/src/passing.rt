@@ -1,7 +1,6 @@
-ghost use Rattle.std.specs.Prelude.{◌≡◌, ◌⊎◌, true, false, ◌≤◌, ◌+◌, ◌*◌, ◌<◌, length, min};
+ghost use Rattle.std.specs.Prelude.{◌*◌, ◌+◌, ◌<◌, ◌≡◌, ◌≤◌, ◌⊎◌, false, length, min, true};
 ghost use Rattle.krs_screen.specs.Claim.{voided};
-ghost use Rattle.krs_screen.specs.Front.{front_of, is_hello};
-ghost use Rattle.krs_screen.specs.Step.{hello_step, ask_step, claim_at, Safe};
+ghost use Rattle.krs_screen.specs.{Front.{front_of, is_hello}, Step.{ask_step, claim_at, hello_step, Safe}};
 
 use crate::claim::{Peer, is_void, make_void, may_name};
 use crate::counting::{Screen, ask_more, refuse_next};

@@ -1,5 +1,5 @@
-ghost use Rattle.std.specs.Prelude.{◌≡◌, ◌≤◌, ◌<◌, true, false, length, min};
-ghost use Rattle.krs_screen.specs.Step.{with_eperm, is_bad_reply, head_step, reply_step};
+ghost use Rattle.std.specs.Prelude.{◌<◌, ◌≡◌, ◌≤◌, false, length, min, true};
+ghost use Rattle.krs_screen.specs.Step.{head_step, is_bad_reply, reply_step, with_eperm};
 
 use crate::counting::{Screen, answer_more, forget_refused, is_refused};
 use crate::numbers::{put_u32, u32_in};

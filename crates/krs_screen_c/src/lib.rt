@@ -2,9 +2,8 @@
 //! anything but that these are good.
 #![tactic(auto)]
 
-ghost use Rattle.std.specs.Prelude.{◌≡◌, ◌<◌, ◌==◌, false, length, replicate};
-ghost use Rattle.krs_screen.specs.Front.{front_of, is_hello};
-ghost use Rattle.krs_screen.specs.Step.{ask_step, claim_at, reply_step, Safe};
+ghost use Rattle.std.specs.Prelude.{◌<◌, ◌==◌, ◌≡◌, false, length, replicate};
+ghost use Rattle.krs_screen.specs.{Front.{front_of, is_hello}, Step.{ask_step, claim_at, reply_step, Safe}};
 
 use krs_screen::{Claim, Peer, Screen};
 

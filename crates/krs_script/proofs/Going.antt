@@ -1,18 +1,16 @@
 -- A script between two lines, and how it ends from there.
-use Rattle.std.proofs.Common.{ℕ, ◌≡◌, ◌⊎◌, ◌+◌, ◌<◌, inl, inr, Bool, List, [], ◌∷◌, ◌++◌, Option, None, Some}
-use Rattle.std.proofs.Common.{IfSome, Result, Ok, Err, refl, sym, ap, ◌∙◌, subst, append_assoc, append-nil}
-use Rattle.std.proofs.Common.{length, length-append, arith}
+use Rattle.std.proofs.Common.{[], ◌++◌, ◌+◌, ◌<◌, ◌∙◌, ◌∷◌, ◌≡◌, ◌⊎◌, ap, append-nil, append_assoc, arith, Bool, Err}
+use Rattle.std.proofs.Common.{IfSome, inl, inr, length, length-append, List, None, Ok, Option, refl, Result, Some}
+use Rattle.std.proofs.Common.{subst, sym, ℕ}
 use Rattle.std.specs.Io.KnownBytes.{Appends, IsAtEnd}
 use Rattle.std.proofs.KnownBytes.{Appends-trans}
-use Rattle.krs_commands.specs.declared.command.Command.{Command}
-use Rattle.krs_words.specs.declared.output.Output.{Output}
-use Rattle.krs_words.specs.declared.stop.Stop.{Stop}
-use Rattle.krs_words.specs.declared.stop.Stop.TheVariants.{Usage, Memory, Reading, TooLong, Printing, Connection}
 use Rattle.krs_words.specs.Lines.{lines_of, ReadsLines}
-use Rattle.krs_words.specs.Writing.{Prints, WritesFront}
+use Rattle.krs_words.specs.{Writing.{Prints, WritesFront}, declared.{output.Output.Output, stop.Stop.Stop}}
+use Rattle.krs_words.specs.declared.stop.Stop.TheVariants.{Connection, Memory, Printing, Reading, TooLong, Usage}
 use Rattle.krs_words.proofs.WritingLemmas.{Prints-nil, Prints-trans, WritesFront-behind}
-use Rattle.krs_script.specs.Ending.{most_lines, status_of, last_line, Says, Finishes}
-use Rattle.krs_script.specs.Running.{TakesLine, TakesLines, ObeysLine, BeginsWith, Runs, IsPrinted, IsShown, Ends}
+use Rattle.krs_commands.specs.declared.command.Command.{Command}
+use Rattle.krs_script.specs.Ending.{Finishes, last_line, most_lines, Says, status_of}
+use Rattle.krs_script.specs.Running.{BeginsWith, Ends, IsPrinted, IsShown, ObeysLine, Runs, TakesLine, TakesLines}
 use Rattle.krs_script.proofs.RunningLemmas.{TakesLines-more}
 
 -- so many lines were read and obeyed so far, and this was printed

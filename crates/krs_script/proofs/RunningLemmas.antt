@@ -1,18 +1,13 @@
 -- Lines of a script, one after the other.
-use Rattle.std.proofs.Common.{ℕ, ◌≡◌, ◌⊎◌, inl, inr, List, [], ◌∷◌, ◌++◌, true, false, Option, Some, Result, Ok, Err}
-use Rattle.std.proofs.Common.{OnOk, IfErr}
-use Rattle.std.proofs.Common.{refl, sym, ap, ◌∙◌, append_assoc, append-nil, ◌==◌, length, map, Bor}
-use Rattle.krs_words.specs.declared.output.Output.{Output}
-use Rattle.krs_commands.specs.declared.command.Command.{Command}
-use Rattle.krs_words.specs.declared.stop.Stop.{Stop}
-use Rattle.krs_words.specs.declared.stop.Stop.TheVariants.{Usage, Memory, Reading, TooLong, Printing, Connection}
+use Rattle.std.proofs.Common.{[], ◌++◌, ◌==◌, ◌∙◌, ◌∷◌, ◌≡◌, ◌⊎◌, ap, append-nil, append_assoc, Bor, Err, false, IfErr}
+use Rattle.std.proofs.Common.{inl, inr, length, List, map, Ok, OnOk, Option, refl, Result, Some, sym, true, ℕ}
 use Rattle.std.proofs.lemmas.List.{length-map}
-use Rattle.krs_words.specs.Words.{words_of, is_comment}
-use Rattle.krs_commands.specs.Command.{command_of}
-use Rattle.krs_words.specs.Printing.{shown}
-use Rattle.krs_words.specs.Writing.{Prints, WritesFront}
+use Rattle.krs_words.specs.{Printing.shown, Words.{is_comment, words_of}, Writing.{Prints, WritesFront}}
+use Rattle.krs_words.specs.declared.{output.Output.Output, stop.Stop.Stop}
+use Rattle.krs_words.specs.declared.stop.Stop.TheVariants.{Connection, Memory, Printing, Reading, TooLong, Usage}
 use Rattle.krs_words.proofs.WritingLemmas.{Prints-nil}
-use Rattle.krs_script.specs.Running.{is_skipped, TakesLine, TakesLines, ObeysLine}
+use Rattle.krs_commands.specs.{Command.command_of, declared.command.Command.Command}
+use Rattle.krs_script.specs.Running.{is_skipped, ObeysLine, TakesLine, TakesLines}
 
 module _ {S : Type 0} (acts : S → Command → Output → S → Type 0) (breaks : S → Command → Stop → S → Type 0) where
   -- a line that is a command, and was obeyed

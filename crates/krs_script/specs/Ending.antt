@@ -1,14 +1,10 @@
 -- How a script goes on and ends: keyretain(1), "Lines" and "EXIT STATUS".
-use Rattle.std.specs.Prelude.{ℕ, ◌≡◌, ◌⊎◌, ◌++◌, Bool, if◌then◌else◌, List, [], codes, Option, Result, Ok, Err}
+use Rattle.std.specs.Prelude.{[], ◌++◌, ◌≡◌, ◌⊎◌, Bool, codes, Err, if◌then◌else◌, List, Ok, Option, Result, ℕ}
 use Rattle.std.specs.Io.KnownBytes.{Appends}
-use Rattle.krs_types.specs.declared.errno.Errno.{Errno}
-use Rattle.krs_types.specs.declared.ask.Op.{Op}
+use Rattle.krs_types.specs.declared.{ask.{Answer.{Answer, TheVariants.Number}, Op.Op}, errno.Errno.Errno}
+use Rattle.krs_words.specs.{Writing.WritesFront, declared.stop.Stop.Stop}
+use Rattle.krs_words.specs.declared.stop.Stop.TheVariants.{Connection, Memory, Printing, Reading, TooLong, Usage}
 use Rattle.krs_types.specs.declared.ask.Op.TheVariants as op
-use Rattle.krs_types.specs.declared.ask.Answer.{Answer}
-use Rattle.krs_types.specs.declared.ask.Answer.TheVariants.{Number}
-use Rattle.krs_words.specs.declared.stop.Stop.{Stop}
-use Rattle.krs_words.specs.declared.stop.Stop.TheVariants.{Usage, Memory, Reading, TooLong, Printing, Connection}
-use Rattle.krs_words.specs.Writing.{WritesFront}
 
 -- how many lines are read at most: profile, limits
 abbrev pub most_lines : ℕ

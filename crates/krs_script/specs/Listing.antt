@@ -1,12 +1,8 @@
 -- How the bytes of a key or a queue are listed: keyretain(1), "Commands"; profile, hidden describe.
-use Rattle.std.specs.Prelude.{ℕ, ◌==◌, ◌%◌, ◌&&◌, List, Bool, false, length, nat_eq, if◌then◌else◌, codes}
-use Rattle.std.specs.Prelude.{Result, Ok, Err}
-use Rattle.std.specs.List.{starts_with}
-use Rattle.krs_types.specs.declared.errno.Errno.{Errno}
-use Rattle.krs_types.specs.declared.ask.Answer.{Answer}
-use Rattle.krs_types.specs.declared.ask.Answer.TheVariants.{Nothing, Number, Bytes}
-use Rattle.krs_words.specs.declared.output.Output.{Output}
-use Rattle.krs_words.specs.declared.output.Output.TheVariants.{Reply, Serials, Records}
+use Rattle.std.specs.Prelude.{◌%◌, ◌&&◌, ◌==◌, Bool, codes, Err, false, if◌then◌else◌, length, List, nat_eq, Ok, Result}
+use Rattle.std.specs.{Prelude.ℕ, List.starts_with}
+use Rattle.krs_types.specs.declared.{ask.Answer.{Answer, TheVariants.{Bytes, Nothing, Number}}, errno.Errno.Errno}
+use Rattle.krs_words.specs.declared.output.Output.{Output, TheVariants.{Records, Reply, Serials}}
 
 -- DESCRIBE was accepted, and the key's type, which stands before the first `;`, is that of a keyring
 abbrev pub is_keyring : Result Answer Errno → Bool

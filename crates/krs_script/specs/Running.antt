@@ -1,18 +1,13 @@
 -- What a script does and prints, whatever carries its commands out: keyretain(1), "Lines", "Commands" and "EXIT
 -- STATUS". `acts` says what a command does, from one state to another, and what it comes to; `breaks` says what one did
 -- that broke off, and for which cause.
-use Rattle.std.specs.Prelude.{ℕ, ◌≡◌, ◌≤◌, ◌⊎◌, ◌==◌, ◌||◌, List, [], ◌∷◌, ◌++◌, Bool, false, length, MatchBool}
-use Rattle.std.specs.Prelude.{IfSome, Option, Some, None, Result, Ok, Err}
-use Rattle.krs_commands.specs.declared.command.Command.{Command}
-use Rattle.krs_commands.specs.Command.{command_of}
-use Rattle.krs_words.specs.declared.output.Output.{Output}
-use Rattle.krs_words.specs.declared.stop.Stop.{Stop}
-use Rattle.krs_words.specs.declared.stop.Stop.TheVariants.{Usage, Memory, Reading, TooLong, Printing, Connection}
-use Rattle.krs_words.specs.Words.{words_of, is_comment}
-use Rattle.krs_words.specs.Lines.{lines_of}
-use Rattle.krs_words.specs.Printing.{shown}
-use Rattle.krs_words.specs.Writing.{Prints, WritesFront}
-use Rattle.krs_script.specs.Ending.{most_lines, status_of, last_line, Says}
+use Rattle.std.specs.Prelude.{[], ◌++◌, ◌==◌, ◌||◌, ◌∷◌, ◌≡◌, ◌≤◌, ◌⊎◌, Bool, Err, false, IfSome, length, List}
+use Rattle.std.specs.Prelude.{MatchBool, None, Ok, Option, Result, Some, ℕ}
+use Rattle.krs_words.specs.{Lines.lines_of, Printing.shown, Words.{is_comment, words_of}, Writing.{Prints, WritesFront}}
+use Rattle.krs_words.specs.declared.{output.Output.Output, stop.Stop.Stop}
+use Rattle.krs_words.specs.declared.stop.Stop.TheVariants.{Connection, Memory, Printing, Reading, TooLong, Usage}
+use Rattle.krs_commands.specs.{Command.command_of, declared.command.Command.Command}
+use Rattle.krs_script.specs.Ending.{last_line, most_lines, Says, status_of}
 
 -- comments and lines without words are skipped
 abbrev pub is_skipped : List ℕ → Bool

@@ -1,13 +1,9 @@
 -- What is told on standard error where a program stopped, which no program reads: keyretain(1), "EXIT STATUS".
-use Rattle.std.specs.Prelude.{ℕ, ◌++◌, if◌then◌else◌, List, [], codes, length, nat_lt, take, get_or}
-use Rattle.std.specs.Char.Escape.{escape_ascii}
-use Rattle.std.specs.Fmt.{decimal}
-use Rattle.std.specs.List.{flat_map}
-use Rattle.std.specs.Option.{is_some}
+use Rattle.std.specs.Prelude.{[], ◌++◌, codes, decimal, flat_map, get_or, if◌then◌else◌, is_some, length, List, nat_lt}
+use Rattle.std.specs.{Prelude.{take, ℕ}, Char.Escape.escape_ascii}
+use Rattle.krs_words.specs.{Words.words_of, declared.stop.Stop.Stop}
+use Rattle.krs_words.specs.declared.stop.Stop.TheVariants.{Connection, Memory, Printing, Reading, TooLong, Usage}
 use Rattle.krs_commands.specs.Command.{command_of, row_of}
-use Rattle.krs_words.specs.declared.stop.Stop.{Stop}
-use Rattle.krs_words.specs.declared.stop.Stop.TheVariants.{Usage, Memory, Reading, TooLong, Printing, Connection}
-use Rattle.krs_words.specs.Words.{words_of}
 
 -- how many bytes of a word are quoted at most
 abbrev pub most_quoted : ℕ

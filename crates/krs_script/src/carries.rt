@@ -1,7 +1,6 @@
-ghost use Rattle.std.specs.Prelude.{◌≡◌, ◌+◌, ◌<◌, ◌≤◌, ◌^◌, ℕ, Bool, IfOk, IfErr};
+ghost use Rattle.std.specs.Prelude.{◌+◌, ◌<◌, ◌^◌, ◌≡◌, ◌≤◌, Bool, IfErr, IfOk, ℕ};
+ghost use Rattle.krs_words.specs.declared.{output.Output.Output, stop.Stop.Stop};
 ghost use Rattle.krs_commands.specs.declared.command.Command.{Command};
-ghost use Rattle.krs_words.specs.declared.output.Output.{Output};
-ghost use Rattle.krs_words.specs.declared.stop.Stop.{Stop};
 ghost use Rattle.krs_script.specs.Running.{IsCause};
 
 use krs_commands::Command;

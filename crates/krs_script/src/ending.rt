@@ -1,7 +1,6 @@
-ghost use Rattle.std.specs.Prelude.{◌≡◌, ◌++◌, Ok, Err, OnOk, OnErr};
-ghost use Rattle.std.specs.Io.KnownBytes.{Appends};
+ghost use Rattle.std.specs.{Prelude.{◌++◌, ◌≡◌, Err, Ok, OnErr, OnOk}, Io.KnownBytes.Appends};
 ghost use Rattle.krs_words.specs.Writing.{WritesFront};
-ghost use Rattle.krs_script.specs.Ending.{status_of, last_line, Finishes, Says};
+ghost use Rattle.krs_script.specs.Ending.{Finishes, last_line, Says, status_of};
 
 use krs_words::{Stop, write_out, write_text};
 use std::io::Write;

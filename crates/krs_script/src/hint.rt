@@ -1,8 +1,7 @@
 //! What to do next, told behind why a line or a single call is no command.
-ghost use Rattle.std.specs.Prelude.{◌≡◌, ℕ, List, IfOk, map, get_or, if◌then◌else◌, []};
-ghost use Rattle.std.specs.Option.{is_some};
-ghost use Rattle.krs_commands.specs.Command.{command_of, row_of};
+ghost use Rattle.std.specs.Prelude.{[], ◌≡◌, get_or, IfOk, if◌then◌else◌, is_some, List, map, ℕ};
 ghost use Rattle.krs_words.specs.Words.{words_of};
+ghost use Rattle.krs_commands.specs.Command.{command_of, row_of};
 ghost use Rattle.krs_script.specs.Telling.{call_hint, hint_text, line_hint, listed_text};
 
 use crate::telling::{first_of, is_one, push_quoted};

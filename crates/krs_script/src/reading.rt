@@ -1,6 +1,5 @@
-ghost use Rattle.std.specs.Prelude.{◌≡◌, ◌⊎◌, ◌+◌, ◌∷◌, min, [], true, false, Ok, IfErr};
-ghost use Rattle.std.specs.Io.Buffered.{reader_remaining};
-ghost use Rattle.std.specs.Io.KnownBytes.{IsAtEnd};
+ghost use Rattle.std.specs.Prelude.{[], ◌+◌, ◌∷◌, ◌≡◌, ◌⊎◌, false, IfErr, min, Ok, true};
+ghost use Rattle.std.specs.Io.{Buffered.reader_remaining, KnownBytes.IsAtEnd};
 ghost use Rattle.krs_words.specs.Lines.{ReadsLines};
 
 use crate::waiting::READ_AHEAD;

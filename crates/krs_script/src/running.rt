@@ -1,5 +1,4 @@
-ghost use Rattle.std.specs.Prelude.{◌≡◌, ◌+◌, ◌<◌, ◌≤◌, ◌^◌, Ok};
-ghost use Rattle.std.specs.Io.Buffered.{reader_remaining};
+ghost use Rattle.std.specs.{Prelude.{◌+◌, ◌<◌, ◌^◌, ◌≡◌, ◌≤◌, Ok}, Io.Buffered.reader_remaining};
 ghost use Rattle.krs_script.specs.Running.{Ends, ObeysLine, Runs};
 
 use crate::carries::Carries;

@@ -1,12 +1,9 @@
-ghost use Rattle.std.specs.Prelude.{Ok, ◌≡◌, ◌++◌, ℕ, List, IfOk, IfErr, OnOk, get_or, map, codes, if◌then◌else◌, []};
-ghost use Rattle.std.specs.Char.Escape.{escape_ascii};
-ghost use Rattle.std.specs.List.{flat_map};
-ghost use Rattle.std.specs.Option.{is_some};
+ghost use Rattle.std.specs.Prelude.{[], ◌++◌, ◌≡◌, codes, flat_map, get_or, IfErr, IfOk, if◌then◌else◌, is_some, List};
+ghost use Rattle.std.specs.{Prelude.{map, Ok, OnOk, ℕ}, Char.Escape.escape_ascii};
+ghost use Rattle.krs_words.specs.{Saying.{heard, Says}, Words.words_of};
 ghost use Rattle.krs_commands.specs.Command.{command_of, row_of};
-ghost use Rattle.krs_words.specs.Words.{words_of};
-ghost use Rattle.krs_words.specs.Saying.{heard, Says};
-ghost use Rattle.krs_script.specs.Telling.{cause_text, no_command_text, quoted, reason_text, refusal_text, stop_text};
-ghost use Rattle.krs_script.specs.Telling.{hinted_refusal, hinted_text};
+ghost use Rattle.krs_script.specs.Telling.{cause_text, hinted_refusal, hinted_text, no_command_text, quoted};
+ghost use Rattle.krs_script.specs.Telling.{reason_text, refusal_text, stop_text};
 
 use crate::hint::{call_hint, hint_of};
 use crate::reading::Place;

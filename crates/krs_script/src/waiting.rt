@@ -1,5 +1,4 @@
-ghost use Rattle.std.specs.Prelude.{◌≡◌, [], Contains, OnOk, OnErr, IfErr};
-ghost use Rattle.std.specs.Io.Buffered.{reader_buffer};
+ghost use Rattle.std.specs.{Prelude.{[], ◌≡◌, Contains, IfErr, OnErr, OnOk}, Io.Buffered.reader_buffer};
 ghost use Rattle.krs_words.specs.Writing.{Prints, WritesFront};
 
 use krs_words::{Stop, has_line_at_hand, write_out};

@@ -1,9 +1,9 @@
 -- The seats of a new desk.
-use Rattle.std.proofs.Common.{◌≡◌, ℕ, zero, suc, All, List, refl}
-use Rattle.std.proofs.lemmas.List.Elements.{All-nil, All-push, All-same}
+use Rattle.std.proofs.Common.{◌≡◌, All, List, refl, suc, zero, ℕ}
 use Rattle.atomic_table.specs.Seated.{TableId}
+use Rattle.std.proofs.lemmas.List.Elements.{All-nil, All-push, All-same}
 use Rattle.krs_model.specs.State.{State}
-use Rattle.krs_desk.specs.Sitting.{Sitting, fresh_seat, fresh_seats}
+use Rattle.krs_desk.specs.Sitting.{fresh_seat, fresh_seats, Sitting}
 use Rattle.krs_serve.specs.Visits.{IsNew}
 
 fresh_opened : (table : TableId) (a : State) (n : ℕ) → All (λ s. s.opening ≡ a) (fresh_seats table a n)

@@ -1,29 +1,22 @@
 -- Seats that meet, and the one history that they learn of.
-use Rattle.std.proofs.Common.{◌≡◌, ◌≢◌, ◌<◌, ℕ, suc, ◌+◌, List, [], ◌∷◌, ◌++◌, length, All}
-use Rattle.std.proofs.Common.{arith, refl, sym, ap, subst, ◌∙◌, append_assoc}
-use Rattle.std.specs.Prelude.{None, flat_map}
+use Rattle.std.proofs.Common.{[], ◌++◌, ◌+◌, ◌<◌, ◌∙◌, ◌∷◌, ◌≡◌, ◌≢◌, All, ap, append-nil, append_assoc, arith}
+use Rattle.std.proofs.Common.{flat_map, length, length-append, List, None, refl, subst, suc, sym, ℕ}
 use Rattle.std.specs.List.{AllZip}
-use Rattle.std.proofs.lemmas.List.{append-nil, length-append}
 use Rattle.std.proofs.lemmas.List.Concat.{flat_map-append}
-use Rattle.std.proofs.lemmas.List.Elements.{AllZip-push, All-nil, All-cons, All-push, All-head, All-tail}
+use Rattle.std.proofs.lemmas.List.Elements.{All-cons, All-head, All-nil, All-push, All-tail, AllZip-push}
 use Rattle.krs_types.specs.declared.event.Event.{Event}
-use Rattle.krs_model.specs.State.{State, starting_at}
-use Rattle.krs_model.specs.Lists.{Begins}
-use Rattle.krs_model.specs.History.{IsLegal}
+use Rattle.krs_model.specs.{History.IsLegal, Lists.Begins, State.{starting_at, State}}
 use Rattle.krs_model.proofs.History.Legal.{legal_none}
-use Rattle.krs_world.specs.declared.view.Part.{Part}
-use Rattle.krs_world.specs.Knowing.{events_of}
-use Rattle.krs_world.proofs.Keeping.{prefix_self, prefix_trans, prefix_both, events_prefix}
-use Rattle.krs_desk.specs.Sitting.{Sitting, Meets}
-use Rattle.krs_desk.specs.Seen.{IsOneHistory}
-use Rattle.krs_session.specs.declared.clock.Clock as clocks
+use Rattle.krs_world.specs.{Knowing.events_of, declared.view.Part.Part}
+use Rattle.krs_world.proofs.Keeping.{events_prefix, prefix_both, prefix_self, prefix_trans}
+use Rattle.krs_desk.specs.{Seen.IsOneHistory, Sitting.{Meets, Sitting}}
 use Rattle.krs_session.specs.declared.ended.Ended.{Ended}
+use Rattle.krs_serve.specs.OneDesk.{HasMet, HaveOneHistory, MeetsEach, SeesMore, ServeInOneHistory, StandsIn}
+use Rattle.krs_serve.specs.Sessions.{ServesAtDesk}
+use Rattle.krs_serve.specs.{Visits.{HasJustItsCalls, IsNew, IsVisited, Visit}, declared.entry.Entry.Entry}
+use Rattle.krs_session.specs.declared.clock.Clock as clocks
 use Rattle.krs_session.specs.declared.source_and_sink.Sink as sinks
 use Rattle.krs_session.specs.declared.source_and_sink.Source as sources
-use Rattle.krs_serve.specs.declared.entry.Entry.{Entry}
-use Rattle.krs_serve.specs.Sessions.{ServesAtDesk}
-use Rattle.krs_serve.specs.Visits.{Visit, IsVisited, HasJustItsCalls, IsNew}
-use Rattle.krs_serve.specs.OneDesk.{ServeInOneHistory, SeesMore, HasMet, MeetsEach, StandsIn, HaveOneHistory}
 
 pub sees_itself : (s : Sitting) → SeesMore s s
 sees_itself s = record {

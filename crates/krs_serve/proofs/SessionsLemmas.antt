@@ -1,9 +1,8 @@
 -- Two lists, place by place.
-use Rattle.std.proofs.Common.{◌≡◌, ◌<◌, ℕ, suc, List, [], ◌∷◌, ◌++◌, length, arith, slice_index_or, reverse, refl}
-use Rattle.std.proofs.Common.{Option, Some, option_to_list, ap, map}
-use Rattle.std.specs.List.{AllZip, zip}
-use Rattle.std.proofs.lemmas.List.{reverse-append, append_assoc}
-use Rattle.std.proofs.lemmas.Slice.Zip.{length-zip}
+use Rattle.std.proofs.Common.{[], ◌++◌, ◌<◌, ◌∷◌, ◌≡◌, ap, append_assoc, arith, length, List, map, Option}
+use Rattle.std.proofs.Common.{option_to_list, refl, reverse, slice_index_or, Some, suc, zip, ℕ}
+use Rattle.std.specs.List.{AllZip}
+use Rattle.std.proofs.lemmas.{List.reverse-append, Slice.Zip.length-zip}
 
 -- what holds at each place holds of the two lists
 pub all_zip_at : {X Y : Type 0} (xs : List X) (ys : List Y) (R : X → Y → Type 0) → length ys ≡ length xs

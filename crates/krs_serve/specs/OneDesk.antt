@@ -1,17 +1,13 @@
 -- That all connections of a desk stand in one history, from bytes to bytes. The claim is `ServeInOneHistory`; the other
 -- definitions say how seats that meet come to know of it. The form is this project's own.
-use Rattle.std.specs.Prelude.{◌≡◌, ℕ, List, All}
-use Rattle.std.specs.List.{AllZip}
+use Rattle.std.specs.{Prelude.{◌≡◌, All, List, ℕ}, List.AllZip}
 use Rattle.krs_types.specs.declared.event.Event.{Event}
-use Rattle.krs_model.specs.State.{State, starting_at}
-use Rattle.krs_model.specs.Lists.{Begins}
-use Rattle.krs_model.specs.History.{IsLegal}
+use Rattle.krs_model.specs.{History.IsLegal, Lists.Begins, State.{starting_at, State}}
 use Rattle.krs_world.specs.Knowing.{events_of}
-use Rattle.krs_desk.specs.Sitting.{Sitting}
-use Rattle.krs_desk.specs.Seen.{IsOneHistory}
+use Rattle.krs_desk.specs.{Seen.IsOneHistory, Sitting.Sitting}
+use Rattle.krs_serve.specs.Visits.{HasJustItsCalls, IsVisited}
 use Rattle.krs_session.specs.declared.source_and_sink.Sink as sinks
 use Rattle.krs_session.specs.declared.source_and_sink.Source as sources
-use Rattle.krs_serve.specs.Visits.{IsVisited, HasJustItsCalls}
 
 -- There is one legal history from the empty store. Of each of these seats it has just the calls, in order, and those are
 -- the calls of one connection after another, each from the bytes that it sent to those that it was told.

@@ -1,16 +1,14 @@
 -- What many sessions at once did, each on a seat of its own.
-use Rattle.std.specs.Prelude.{ℕ, List, ◌≢◌, ◌≤◌, ◌+◌, ◌-◌}
+use Rattle.std.specs.Prelude.{◌+◌, ◌-◌, ◌≢◌, ◌≤◌, List, ℕ}
 use Rattle.krs_types.specs.declared.event.Event.{Event}
 use Rattle.krs_desk.specs.Sitting.{Sitting}
 use Rattle.krs_wire.specs.declared.fault.WireFault.TheVariants.{Memory}
-use Rattle.krs_session.specs.declared.clock.Clock as clocks
-use Rattle.krs_session.specs.declared.ended.Ended.{Ended}
+use Rattle.krs_session.specs.{Leads.Leads, Session.{Counts, counts_of, EndsBy, Session}, declared.ended.Ended.Ended}
 use Rattle.krs_session.specs.declared.ended.Ended.TheVariants.{Wire}
+use Rattle.krs_serve.specs.declared.entry.Entry.{Entry}
+use Rattle.krs_session.specs.declared.clock.Clock as clocks
 use Rattle.krs_session.specs.declared.source_and_sink.Sink as sinks
 use Rattle.krs_session.specs.declared.source_and_sink.Source as sources
-use Rattle.krs_session.specs.Leads.{Leads}
-use Rattle.krs_session.specs.Session.{Session, Counts, EndsBy, counts_of}
-use Rattle.krs_serve.specs.declared.entry.Entry.{Entry}
 
 -- two ends and a clock
 abbrev pub entry : {R W C : Type 0} → R → W → C → Entry R W C

@@ -1,13 +1,12 @@
 -- What was asked on a seat of the daemon: what one connection after another asked. The form is this project's own.
-use Rattle.std.specs.Prelude.{◌≡◌, ◌-◌, ℕ, List, [], All, flat_map, ⊤}
+use Rattle.std.specs.Prelude.{[], ⊤, ◌-◌, ◌≡◌, All, flat_map, List, ℕ}
 use Rattle.krs_types.specs.declared.event.Event.{Event}
 use Rattle.krs_world.specs.Knowing.{events_of}
 use Rattle.krs_desk.specs.Sitting.{Sitting}
-use Rattle.krs_session.specs.declared.ended.Ended.{Ended}
+use Rattle.krs_session.specs.{Session.{EndsBy, Session}, declared.ended.Ended.Ended}
+use Rattle.krs_serve.specs.Sessions.{ends_count}
 use Rattle.krs_session.specs.declared.source_and_sink.Sink as sinks
 use Rattle.krs_session.specs.declared.source_and_sink.Source as sources
-use Rattle.krs_session.specs.Session.{Session, EndsBy}
-use Rattle.krs_serve.specs.Sessions.{ends_count}
 
 -- One connection, from bytes to bytes: a session from its reader to its writer (`Session` of krs_session) that made
 -- these calls. They are what its frames ask, in order, and then LEAVE. What readers and writers show is told by their

@@ -1,4 +1,4 @@
-ghost use Rattle.std.specs.Prelude.{◌≡◌, ◌<◌, ◌+◌, ℕ, OnOk, IfErr, OnErr};
+ghost use Rattle.std.specs.Prelude.{◌+◌, ◌<◌, ◌≡◌, IfErr, OnErr, OnOk, ℕ};
 ghost use Rattle.krs_listen.specs.Accepting.{accepted_by, failed_at};
 
 use crate::connection::guest_of;

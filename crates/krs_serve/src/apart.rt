@@ -1,5 +1,5 @@
 //! Guests, each in a thread of its own.
-ghost use Rattle.std.specs.Prelude.{◌≡◌, ◌<◌, ◌+◌};
+ghost use Rattle.std.specs.Prelude.{◌+◌, ◌<◌, ◌≡◌};
 
 use crate::{AtDesk, SocketGuest, SocketSitting, SystemClock, serve_connection};
 use krs_listen::{FreeSeats, Latest};

@@ -23,7 +23,7 @@ impl<'r, R: time::Clock> SystemClock<'r, R> {
 }
 
 impl<'r, R: time::Clock> Clock for SystemClock<'r, R> {
-    ghost use Rattle.krs_listen.specs.Clock.{IsKept, kept_none, kept_both};
+    ghost use Rattle.krs_listen.specs.Clock.{IsKept, kept_both, kept_none};
 
     // What is answered is kept, and no answer falls behind the one before it. No contract tells what the system's clocks
     // read, nor that they are read.

@@ -1,18 +1,14 @@
 //! A seat of the daemon's desk, a guest who is served there, and its session. Nothing else in this crate reaches a seat
 //! that was dealt, or a guest's ends.
-ghost use Rattle.std.specs.Prelude.{◌≡◌, [], List, All, IfOk, vec_len};
+ghost use Rattle.std.specs.Prelude.{[], ◌≡◌, All, IfOk, List, vec_len};
 ghost use Rattle.krs_types.specs.declared.event.Event.{Event};
 ghost use Rattle.krs_model.specs.State.{starting_at};
-ghost use Rattle.krs_desk.specs.Seen.{IsOneHistory};
-ghost use Rattle.krs_desk.specs.Sitting.{IsIdleAt, Meets};
+ghost use Rattle.krs_desk.specs.{Seen.IsOneHistory, Sitting.{IsIdleAt, Meets}};
 ghost use Rattle.krs_wire.specs.declared.framed.Framed.{Framed};
-ghost use Rattle.krs_session.specs.declared.ended.Ended.{Ended};
-ghost use Rattle.krs_listen.specs.Ends.{reader_of, writer_of};
 ghost use Rattle.krs_session.specs.Leads.{GainsSession};
-ghost use Rattle.krs_session.specs.Over.{over_end};
-ghost use Rattle.krs_session.specs.Session.{HaveRoom, counts_of};
-ghost use Rattle.krs_serve.specs.Sessions.{ServesAtDesk, entry};
-ghost use Rattle.krs_serve.specs.Visits.{IsVisited, HasJustItsCalls, IsNew};
+ghost use Rattle.krs_session.specs.{Over.over_end, Session.{counts_of, HaveRoom}, declared.ended.Ended.Ended};
+ghost use Rattle.krs_listen.specs.Ends.{reader_of, writer_of};
+ghost use Rattle.krs_serve.specs.{Sessions.{entry, ServesAtDesk}, Visits.{HasJustItsCalls, IsNew, IsVisited}};
 
 use crate::{Entry, OpenGate, serve_entry};
 use krs_desk::{Desk, Seat};

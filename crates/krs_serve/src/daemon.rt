@@ -1,13 +1,11 @@
-ghost use Rattle.std.specs.Prelude.{◌≡◌, [], All, IfOk, IfErr, IsErr, OnErr, map, string_bytes};
-ghost use Rattle.std.specs.IoError.{error_kind};
-ghost use Rattle.std.specs.Vec.Iter.{into_iter_items};
+ghost use Rattle.std.specs.Prelude.{[], ◌≡◌, All, IfErr, IfOk, IsErr, map, OnErr, string_bytes};
+ghost use Rattle.std.specs.{IoError.error_kind, Vec.Iter.into_iter_items};
 ghost use Rattle.krs_model.specs.State.{starting_at};
 ghost use Rattle.krs_links.specs.Seeded.{random_seed};
-ghost use Rattle.krs_desk.specs.Sitting.{IsIdleAt, fresh_seats};
-ghost use Rattle.krs_listen.specs.declared.choice.Choice.{Choice as ChoiceIs};
+ghost use Rattle.krs_desk.specs.Sitting.{fresh_seats, IsIdleAt};
 ghost use Rattle.krs_listen.specs.Choice.{IsUnread, LeadsTo};
-ghost use Rattle.krs_listen.specs.Daemon.{Answers, EndsAs, Serves, connections_of, served_line};
-ghost use Rattle.krs_listen.specs.Saying.{heard};
+ghost use Rattle.krs_listen.specs.Daemon.{Answers, connections_of, EndsAs, served_line, Serves};
+ghost use Rattle.krs_listen.specs.{Saying.heard, declared.choice.Choice.Choice as ChoiceIs};
 ghost use Rattle.krs_serve.specs.Visits.{IsNew};
 
 use crate::AtDesk;

@@ -1,5 +1,5 @@
 ghost use Rattle.std.specs.Prelude.{◌≡◌};
-ghost use Rattle.krs_session.specs.Session.{HaveRoom, counts_of};
+ghost use Rattle.krs_session.specs.Session.{counts_of, HaveRoom};
 ghost use Rattle.krs_serve.specs.Sessions.{ServesEntry};
 
 use krs_session::{Clock, Ended, Gate, Keeper, Sink, Source, run};

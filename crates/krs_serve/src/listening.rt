@@ -1,8 +1,6 @@
-ghost use Rattle.std.specs.Prelude.{◌≡◌, ◌<◌, ◌+◌, ◌^◌, map, vec_len};
+ghost use Rattle.std.specs.Prelude.{◌+◌, ◌<◌, ◌^◌, ◌≡◌, map, vec_len};
 ghost use Rattle.krs_listen.specs.Accepting.{seat_count};
-ghost use Rattle.krs_listen.specs.Daemon.{AcceptsBy, TellsAccepted};
-ghost use Rattle.krs_listen.specs.Saying.{heard};
-ghost use Rattle.krs_listen.specs.Telling.{TellsFailure};
+ghost use Rattle.krs_listen.specs.{Daemon.{AcceptsBy, TellsAccepted}, Saying.heard, Telling.TellsFailure};
 ghost use Rattle.krs_serve.specs.OneDesk.{ServeInOneHistory};
 
 use crate::apart::{Hosted, Hosting, serve_apart};

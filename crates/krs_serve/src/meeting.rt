@@ -1,10 +1,9 @@
 //! Seats that meet after their connections, and so learn that these stand in one history.
-ghost use Rattle.std.specs.Prelude.{◌≡◌, map, vec_len};
-ghost use Rattle.std.specs.VecDeque.{deque_len, deque_capacity};
+ghost use Rattle.std.specs.{Prelude.{◌≡◌, map, vec_len}, VecDeque.{deque_capacity, deque_len}};
 ghost use Rattle.krs_model.specs.State.{starting_at};
 ghost use Rattle.krs_desk.specs.Seen.{IsOneHistory};
 ghost use Rattle.krs_listen.specs.Accepting.{seat_count};
-ghost use Rattle.krs_serve.specs.OneDesk.{MeetsEach, HaveOneHistory, ServeInOneHistory};
+ghost use Rattle.krs_serve.specs.OneDesk.{HaveOneHistory, MeetsEach, ServeInOneHistory};
 
 use crate::connection::{meet_two, see_one_history};
 use crate::{AtDesk, Sitting};

@@ -1,7 +1,6 @@
-ghost use Rattle.std.specs.Prelude.{◌≡◌, ◌<◌, ℕ, All, IfOk, IfErr, map, vec_len, slice_index_or};
-ghost use Rattle.std.specs.List.{AllZip, zip};
+ghost use Rattle.std.specs.{Prelude.{◌<◌, ◌≡◌, All, IfErr, IfOk, map, slice_index_or, vec_len, zip, ℕ}, List.AllZip};
 ghost use Rattle.krs_types.specs.declared.errno.Errno.TheVariants.{ENOMEM};
-ghost use Rattle.krs_session.specs.Session.{HaveRoom, counts_of};
+ghost use Rattle.krs_session.specs.Session.{counts_of, HaveRoom};
 ghost use Rattle.krs_serve.specs.Sessions.{EndsSession, ServesEntry};
 
 use crate::{Entry, serve_entry};

@@ -1,25 +1,17 @@
 -- What answers two sessions that are asked alike.
-use Rattle.std.proofs.Common.{◌≡◌, ◌≢◌, ℕ, ◌==◌, List, [], ◌∷◌, ◌++◌, Bool, true, false, cond, Result}
-use Rattle.std.proofs.Common.{refl, ap, subst, ◌∙◌, length, ⊎_elim}
-use Rattle.std.specs.Prelude.{◌⊎◌}
-use Rattle.krs_types.specs.declared.ask.Answer.{Answer}
-use Rattle.krs_types.specs.declared.errno.Errno.{Errno}
-use Rattle.krs_types.specs.declared.event.Event.{Event}
-use Rattle.krs_model.specs.Lists.{Begins}
-use Rattle.krs_model.specs.Secrecy.{DifferInReads, IsRead}
+use Rattle.std.proofs.Common.{[], ⊎_elim, ◌++◌, ◌==◌, ◌∙◌, ◌∷◌, ◌≡◌, ◌≢◌, ◌⊎◌, ap, Bool, cond, false, length, List}
+use Rattle.std.proofs.Common.{refl, Result, subst, true, ℕ}
+use Rattle.krs_types.specs.declared.{ask.Answer.Answer, errno.Errno.Errno, event.Event.Event}
+use Rattle.krs_model.specs.{Lists.Begins, Secrecy.{DifferInReads, IsRead}}
 use Rattle.krs_model.proofs.Hiding.Clients.{differ_in_reads}
 use Rattle.krs_world.specs.Knowing.{events_of}
-use Rattle.krs_world.proofs.Keeping.{prefix_self}
-use Rattle.krs_world.proofs.Orders.{either_begins}
+use Rattle.krs_world.proofs.{Keeping.prefix_self, Orders.either_begins}
 use Rattle.krs_desk.specs.Sitting.{Sitting}
-use Rattle.krs_wire.specs.declared.framed.Framed.{Framed}
-use Rattle.krs_wire.specs.Reply.{reply_frame}
-use Rattle.krs_session.specs.declared.ended.Ended.{Ended}
-use Rattle.krs_session.specs.declared.ended.Ended.TheVariants.{Closed, Wire, Read, Write, Memory, Turns}
-use Rattle.krs_session.specs.Events.{tags_in, replies_of, session_text}
-use Rattle.krs_session.specs.Session.{ServesBytes, TookFront, AreAll, AreFirst}
-use Rattle.krs_session.specs.Leads.{GainsSession}
-use Rattle.krs_session.specs.Alike.{AnswersDifferInReads, ReadAlike, AnswersByReadsAlone, WritesByReadsAlone}
+use Rattle.krs_wire.specs.{Reply.reply_frame, declared.framed.Framed.Framed}
+use Rattle.krs_session.specs.Alike.{AnswersByReadsAlone, AnswersDifferInReads, ReadAlike, WritesByReadsAlone}
+use Rattle.krs_session.specs.Events.{replies_of, session_text, tags_in}
+use Rattle.krs_session.specs.{Leads.GainsSession, Session.{AreAll, AreFirst, ServesBytes, TookFront}}
+use Rattle.krs_session.specs.declared.ended.Ended.{Ended, TheVariants.{Closed, Memory, Read, Turns, Wire, Write}}
 
 not_none : (xs : List Event) (x : Event) → xs ++ x ∷ [] ≢ []
 not_none [] x = λ e. absurd (cc)

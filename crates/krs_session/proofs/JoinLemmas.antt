@@ -1,26 +1,17 @@
 -- How what was read, asked and written joins.
-use Rattle.std.proofs.Common.{◌≡◌, ◌≢◌, Bool, true, false, ℕ, List, [], ◌∷◌, ◌++◌, length, take, drop}
-use Rattle.std.proofs.Common.{arith, sym, ap, subst, ◌∙◌, append_assoc, refl}
-use Rattle.std.proofs.lemmas.List.{append-nil, map-append, take-append-drop}
-use Rattle.std.specs.Prelude.{Option, Some, None, Ok}
-use Rattle.krs_wire.specs.declared.framed.Framed.{Framed}
-use Rattle.krs_types.specs.declared.event.Event.{Event}
-use Rattle.krs_types.specs.declared.ask.Ask.{Ask}
-use Rattle.krs_types.specs.declared.ask.Answer.TheVariants.{Bytes}
-use Rattle.krs_model.specs.History.{event_of}
-use Rattle.krs_store.specs.declared.told.Told.{Told}
-use Rattle.krs_store.specs.declared.told.Told.TheVariants as tolds
-use Rattle.krs_store.specs.Told.{reply_of, bytes_of}
-use Rattle.krs_wire.specs.Reply.{reply_frame}
+use Rattle.std.proofs.Common.{[], ◌++◌, ◌∙◌, ◌∷◌, ◌≡◌, ◌≢◌, ap, append-nil, append_assoc, arith, Bool, drop, false}
+use Rattle.std.proofs.Common.{length, List, None, Ok, Option, refl, Some, subst, sym, take, take-append-drop, true, ℕ}
+use Rattle.std.proofs.lemmas.List.{map-append}
+use Rattle.krs_types.specs.declared.{ask.{Answer.TheVariants.Bytes, Ask.Ask}, event.Event.Event}
+use Rattle.krs_model.specs.{History.event_of, Lists.Begins}
+use Rattle.krs_store.specs.{Told.{bytes_of, reply_of}, declared.told.Told.Told}
+use Rattle.krs_wire.specs.{Reply.reply_frame, declared.framed.Framed.Framed}
+use Rattle.krs_session.specs.Events.{AllOfLane, asks_in, asks_of, moments_of, replies_of, reply_text, session_text}
+use Rattle.krs_session.specs.{Replies.{HoldsFrame, TellsNext}, Serving.{Answers, Asked, Holds, IsAskedAnew, Pending}}
+use Rattle.krs_session.specs.{Serving.{PendingNext, StopsBy, StopsNext, Wrote}, Session.TookFront}
+use Rattle.krs_session.specs.declared.ended.Ended.{Ended, TheVariants.{Closed, Memory, Read, Turns, Wire, Write}}
 use Rattle.krs_session.specs.declared.replies.Replies.{Replies}
-use Rattle.krs_session.specs.Replies.{HoldsFrame, TellsNext}
-use Rattle.krs_session.specs.declared.ended.Ended.{Ended}
-use Rattle.krs_session.specs.declared.ended.Ended.TheVariants.{Closed, Wire, Read, Write, Memory, Turns}
-use Rattle.krs_model.specs.Lists.{Begins}
-use Rattle.krs_session.specs.Events.{asks_of, asks_in, moments_of, replies_of, reply_text, session_text, AllOfLane}
-use Rattle.krs_session.specs.Session.{TookFront}
-use Rattle.krs_session.specs.Serving.{Asked, Wrote, Pending, PendingNext, StopsBy, StopsNext, Answers, Holds}
-use Rattle.krs_session.specs.Serving.{IsAskedAnew}
+use Rattle.krs_store.specs.declared.told.Told.TheVariants as tolds
 
 -- a part of the bytes was taken, and these are left
 pub record Taken {W : Type 0} (took : W → List ℕ → W → Type 0) (old new : W) (bytes left : List ℕ) : Type 0 where

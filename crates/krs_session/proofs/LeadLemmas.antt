@@ -1,18 +1,14 @@
 -- What a seat gains by the calls that lead to another.
-use Rattle.std.proofs.Common.{◌≡◌, ℕ, List, [], ◌∷◌, ◌++◌, refl, sym, ap, subst, ◌∙◌, append_assoc}
-use Rattle.std.proofs.lemmas.List.{append-nil, map-append}
-use Rattle.krs_types.specs.declared.event.Event.{Event}
-use Rattle.krs_types.specs.declared.ask.Ask.{Ask}
-use Rattle.krs_model.specs.State.{State}
-use Rattle.krs_model.specs.Lists.{Begins}
-use Rattle.krs_model.specs.History.{IsLegal}
+use Rattle.std.proofs.Common.{[], ◌++◌, ◌∙◌, ◌∷◌, ◌≡◌, ap, append-nil, append_assoc, List, refl, subst, sym, ℕ}
+use Rattle.std.proofs.lemmas.List.{map-append}
+use Rattle.krs_types.specs.declared.{ask.Ask.Ask, event.Event.Event}
+use Rattle.krs_model.specs.{History.IsLegal, Lists.Begins, State.State}
 use Rattle.krs_world.specs.Knowing.{events_of}
 use Rattle.krs_world.proofs.Keeping.{prefix_self, prefix_trans}
-use Rattle.krs_desk.specs.Sitting.{Sitting, Adds}
+use Rattle.krs_desk.specs.Sitting.{Adds, Sitting}
 use Rattle.krs_wire.specs.declared.framed.Framed.{Framed}
-use Rattle.krs_session.specs.Events.{asks_of, asks_in}
-use Rattle.krs_session.specs.Session.{leave}
-use Rattle.krs_session.specs.Leads.{Leads, SeesUpTo, Gains, GainsTheirCalls, GainsSession}
+use Rattle.krs_session.specs.Events.{asks_in, asks_of}
+use Rattle.krs_session.specs.{Leads.{Gains, GainsSession, GainsTheirCalls, Leads, SeesUpTo}, Session.leave}
 
 no_call : (s t : Sitting) (before after : List Event) (call : Event) → [] ≡ before ++ call ∷ after → SeesUpTo s call t
 no_call s t [] after call is = absurd cc

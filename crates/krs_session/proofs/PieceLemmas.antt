@@ -1,22 +1,15 @@
 -- How pieces and turns join into a session.
-use Rattle.std.proofs.Common.{◌≡◌, ◌≤◌, ℕ, ◌+◌, ◌*◌, List, [], ◌++◌, length, length-append, refl, sym, ap, subst, ◌∙◌}
-use Rattle.std.proofs.Common.{inl, inr, arith}
-use Rattle.std.proofs.lemmas.List.{append-nil, map-append}
-use Rattle.std.specs.Prelude.{Some, None}
-use Rattle.krs_types.specs.declared.ask.Ask.{Ask}
-use Rattle.krs_types.specs.declared.event.Event.{Event}
-use Rattle.krs_wire.specs.declared.framed.Framed.{Framed}
-use Rattle.krs_wire.specs.declared.fault.WireFault.{WireFault}
+use Rattle.std.proofs.Common.{[], ◌*◌, ◌++◌, ◌+◌, ◌∙◌, ◌≡◌, ◌≤◌, ap, append-nil, arith, inl, inr, length, length-append}
+use Rattle.std.proofs.{Common.{List, None, refl, Some, subst, sym, ℕ}, lemmas.List.map-append}
+use Rattle.krs_types.specs.declared.{ask.Ask.Ask, event.Event.Event}
+use Rattle.krs_wire.specs.Feeding.{fault_of, Feeds, Refuses}
+use Rattle.krs_wire.specs.{Frame.{bad, End, Frames, rest}, declared.{fault.WireFault.WireFault, framed.Framed.Framed}}
+use Rattle.krs_session.specs.Events.{asks_in, asks_of, replies_of, session_text}
+use Rattle.krs_session.specs.Serving.{Asked, FeedsMore, Finished, PieceEndsBy, PieceServes, Served, StopsBy, TurnEndsBy}
+use Rattle.krs_session.specs.{Serving.Wrote, Session.{AreFirst, counted, Counts, EndsBy, ServesBytes}}
+use Rattle.krs_session.specs.declared.ended.Ended.{Ended, TheVariants.{Closed, Memory, Read, Turns, Wire, Write}}
+use Rattle.krs_session.proofs.JoinLemmas.{asked_joins, front_joins, Joins, text_joins}
 use Rattle.krs_wire.specs.declared.fault.WireFault.TheVariants as faults
-use Rattle.krs_wire.specs.Frame.{End, rest, bad, Frames}
-use Rattle.krs_wire.specs.Feeding.{Feeds, Refuses, fault_of}
-use Rattle.krs_session.specs.declared.ended.Ended.{Ended}
-use Rattle.krs_session.specs.declared.ended.Ended.TheVariants.{Closed, Wire, Read, Write, Memory, Turns}
-use Rattle.krs_session.specs.Events.{asks_of, asks_in, replies_of, session_text}
-use Rattle.krs_session.specs.Session.{AreFirst, ServesBytes, Counts, EndsBy, counted}
-use Rattle.krs_session.specs.Serving.{Asked, Wrote, StopsBy, PieceEndsBy, TurnEndsBy, PieceServes, FeedsMore, Served}
-use Rattle.krs_session.specs.Serving.{Finished}
-use Rattle.krs_session.proofs.JoinLemmas.{Joins, asked_joins, front_joins, text_joins}
 
 pub refused_more : (old : End) (piece : List ℕ) (fault : WireFault) → fault_of old ≡ None → Refuses old piece fault
     → FeedsMore old piece []

@@ -1,15 +1,11 @@
 -- Two sessions that are asked alike, but for payloads that are hidden: krs_model/specs/Secrecy.antt.
-use Rattle.std.specs.Prelude.{◌≡◌, ◌⊎◌, ℕ, List, ◌∷◌, [], ◌++◌, length}
+use Rattle.std.specs.Prelude.{[], ◌++◌, ◌∷◌, ◌≡◌, ◌⊎◌, length, List, ℕ}
 use Rattle.krs_types.specs.declared.event.Event.{Event}
-use Rattle.krs_model.specs.Lists.{Begins}
-use Rattle.krs_model.specs.Hiding.{Hiding, Hides}
-use Rattle.krs_model.specs.Secrecy.{AreAskedAlike, DifferInReads, IsRead}
+use Rattle.krs_model.specs.{Hiding.{Hides, Hiding}, Lists.Begins, Secrecy.{AreAskedAlike, DifferInReads, IsRead}}
 use Rattle.krs_desk.specs.Sitting.{Sitting}
 use Rattle.krs_wire.specs.declared.framed.Framed.{Framed}
-use Rattle.krs_session.specs.declared.ended.Ended.{Ended}
-use Rattle.krs_session.specs.Events.{tags_in, replies_of, session_text}
-use Rattle.krs_session.specs.Session.{ServesBytes}
-use Rattle.krs_session.specs.Leads.{GainsSession}
+use Rattle.krs_session.specs.Events.{replies_of, session_text, tags_in}
+use Rattle.krs_session.specs.{Leads.GainsSession, Session.ServesBytes, declared.ended.Ended.Ended}
 
 -- Two sessions of one lane: from the seat s to t, which asked these frames by these events and then LEAVE, and from u
 -- to v. The seats had made as many calls before, and what they have then seen, with all others' calls, are histories

@@ -1,12 +1,7 @@
 -- What a session's events say.
-use Rattle.std.specs.Prelude.{◌≡◌, ℕ, List, map, Option, Result}
-use Rattle.std.specs.List.{flat_map, zip, AllByRecursion}
-use Rattle.krs_types.specs.declared.ask.Ask.{Ask}
-use Rattle.krs_types.specs.declared.ask.Answer.{Answer}
-use Rattle.krs_types.specs.declared.errno.Errno.{Errno}
-use Rattle.krs_types.specs.declared.event.Event.{Event}
-use Rattle.krs_wire.specs.declared.framed.Framed.{Framed}
-use Rattle.krs_wire.specs.Reply.{reply_frame}
+use Rattle.std.specs.{Prelude.{◌≡◌, flat_map, List, map, Option, Result, zip, ℕ}, List.AllByRecursion}
+use Rattle.krs_types.specs.declared.{ask.{Answer.Answer, Ask.Ask}, errno.Errno.Errno, event.Event.Event}
+use Rattle.krs_wire.specs.{Reply.reply_frame, declared.framed.Framed.Framed}
 
 abbrev pub asks_of : List Event → List Ask
 asks_of events = map (λ e. e.ask) events

@@ -1,15 +1,12 @@
 -- Which calls lead from one seat of a desk to another, and what the seat gains by them. The form is this project's own.
-use Rattle.std.specs.Prelude.{◌≡◌, ◌≢◌, List, [], ◌∷◌, ◌++◌, refl}
+use Rattle.std.specs.Prelude.{[], ◌++◌, ◌∷◌, ◌≡◌, ◌≢◌, List, refl}
 use Rattle.std.proofs.Common.{◌∙◌, ap, subst, sym}
 use Rattle.krs_types.specs.declared.event.Event.{Event}
-use Rattle.krs_model.specs.State.{State}
-use Rattle.krs_model.specs.Lists.{Begins}
-use Rattle.krs_model.specs.History.{IsLegal}
+use Rattle.krs_model.specs.{History.IsLegal, Lists.Begins, State.State}
 use Rattle.krs_world.specs.Knowing.{events_of}
-use Rattle.krs_desk.specs.Sitting.{Sitting, Adds, rested}
+use Rattle.krs_desk.specs.Sitting.{Adds, rested, Sitting}
 use Rattle.krs_wire.specs.declared.framed.Framed.{Framed}
-use Rattle.krs_session.specs.Events.{asks_of, asks_in}
-use Rattle.krs_session.specs.Session.{leave}
+use Rattle.krs_session.specs.{Events.{asks_in, asks_of}, Session.leave}
 
 -- each call is made at the seat that the one before it left, or that has rested since
 abbrev pub Leads : Sitting → List Event → Sitting → Type 0

@@ -1,8 +1,7 @@
 -- Behind which asks others don't wait for more of the same connection. The choice is this project's own.
-use Rattle.std.specs.Prelude.{Bool, true, false}
-use Rattle.krs_types.specs.declared.ask.Op.{Op}
-use Rattle.krs_types.specs.declared.ask.Op.TheVariants.{Link, Move, Search, Request, Revoke, Invalidate, Clear, Join}
-use Rattle.krs_types.specs.declared.ask.Op.TheVariants.{CloseQueue, Exec, Exit, Leave}
+use Rattle.std.specs.Prelude.{Bool, false, true}
+use Rattle.krs_types.specs.declared.ask.Op.{Op, TheVariants.{Clear, CloseQueue, Exec, Exit, Invalidate, Join, Leave}}
+use Rattle.krs_types.specs.declared.ask.Op.TheVariants.{Link, Move, Request, Revoke, Search}
 
 -- those that may walk far, or make or drop many keys
 abbrev pub is_long : Op → Bool

@@ -1,12 +1,9 @@
 -- What a session holds of its replies.
-use Rattle.std.specs.Prelude.{◌≡◌, ℕ, List, ◌++◌, Option, Some, None, Ok}
+use Rattle.std.specs.Prelude.{◌++◌, ◌≡◌, List, None, Ok, Option, Some, ℕ}
 use Rattle.krs_types.specs.declared.ask.Answer.TheVariants.{Bytes}
-use Rattle.krs_store.specs.declared.told.Told.{Told}
-use Rattle.krs_store.specs.declared.told.Told.TheVariants.{Reply, Taken}
+use Rattle.krs_store.specs.declared.told.Told.{Told, TheVariants.{Reply, Taken}}
 use Rattle.krs_wire.specs.Reply.{reply_frame}
-use Rattle.krs_session.specs.declared.ended.Ended.{Ended}
-use Rattle.krs_session.specs.declared.replies.Replies.{Replies}
-use Rattle.krs_session.specs.Serving.{PendingNext}
+use Rattle.krs_session.specs.{Serving.PendingNext, declared.{ended.Ended.Ended, replies.Replies.Replies}}
 
 -- behind what was held the frame of a reply that is these bytes, with the tag of its ask; or nothing
 abbrev pub HoldsFrame : Replies → Option (List ℕ) → Replies → Type 0

@@ -1,13 +1,10 @@
 -- What the parts of a session did: relations between what its ends, its seat and its clock were before and after.
-use Rattle.std.specs.Prelude.{◌≡◌, ◌≢◌, ◌+◌, ◌*◌, ◌≤◌, length, ℕ, List, [], ◌++◌, ◌⊎◌, Option, Some, None}
+use Rattle.std.specs.Prelude.{[], ◌*◌, ◌++◌, ◌+◌, ◌≡◌, ◌≢◌, ◌≤◌, ◌⊎◌, length, List, None, Option, Some, ℕ}
 use Rattle.krs_types.specs.declared.event.Event.{Event}
-use Rattle.krs_wire.specs.declared.framed.Framed.{Framed}
-use Rattle.krs_wire.specs.Frame.{End, rest, bad, Frames}
-use Rattle.krs_wire.specs.Feeding.{Feeds, fault_of}
-use Rattle.krs_session.specs.declared.ended.Ended.{Ended}
-use Rattle.krs_session.specs.declared.ended.Ended.TheVariants.{Closed, Wire, Read, Write, Memory, Turns}
-use Rattle.krs_session.specs.Events.{asks_of, asks_in, moments_of, replies_of, session_text, AllOfLane}
-use Rattle.krs_session.specs.Session.{TookFront, ServesBytes, Counts, counted}
+use Rattle.krs_wire.specs.{Feeding.{fault_of, Feeds}, Frame.{bad, End, Frames, rest}, declared.framed.Framed.Framed}
+use Rattle.krs_session.specs.Events.{AllOfLane, asks_in, asks_of, moments_of, replies_of, session_text}
+use Rattle.krs_session.specs.Session.{counted, Counts, ServesBytes, TookFront}
+use Rattle.krs_session.specs.declared.ended.Ended.{Ended, TheVariants.{Closed, Memory, Read, Turns, Wire, Write}}
 
 -- the seat's new events: its lane's, at the clock's answers in order
 pub record Asked {S C : Type 0} (leads : S → List Event → S → Type 0) (ticked : C → List ℕ → C → Type 0) (lane : ℕ)

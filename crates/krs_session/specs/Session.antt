@@ -1,14 +1,10 @@
 -- What a whole session did: docs/FORMAT.md, "A connection".
-use Rattle.std.specs.Prelude.{◌≡◌, ◌+◌, ◌*◌, ◌^◌, ◌<◌, ◌≤◌, length, ℕ, List, [], ◌∷◌, ◌++◌, ◌⊎◌}
-use Rattle.krs_types.specs.declared.event.Event.{Event}
-use Rattle.krs_types.specs.declared.ask.Ask.{Ask}
-use Rattle.krs_types.specs.declared.ask.Op.TheVariants.{Leave}
-use Rattle.krs_wire.specs.declared.framed.Framed.{Framed}
-use Rattle.krs_wire.specs.Frame.{End, rest, bad, Frames}
-use Rattle.krs_session.specs.declared.ended.Ended.{Ended}
-use Rattle.krs_session.specs.declared.ended.Ended.TheVariants.{Closed, Wire, Read, Write, Memory, Turns}
+use Rattle.std.specs.Prelude.{[], ◌*◌, ◌++◌, ◌+◌, ◌<◌, ◌^◌, ◌∷◌, ◌≡◌, ◌≤◌, ◌⊎◌, length, List, ℕ}
+use Rattle.krs_types.specs.declared.{ask.{Ask.Ask, Op.TheVariants.Leave}, event.Event.Event}
 use Rattle.krs_model.specs.Lists.{Begins}
-use Rattle.krs_session.specs.Events.{asks_of, asks_in, moments_of, replies_of, session_text, AllOfLane}
+use Rattle.krs_wire.specs.{Frame.{bad, End, Frames, rest}, declared.framed.Framed.Framed}
+use Rattle.krs_session.specs.Events.{AllOfLane, asks_in, asks_of, moments_of, replies_of, session_text}
+use Rattle.krs_session.specs.declared.ended.Ended.{Ended, TheVariants.{Closed, Memory, Read, Turns, Wire, Write}}
 
 -- the bytes are cut into these frames, and a rest or a fault
 abbrev pub AreAll : List ℕ → List Framed → Type 0

@@ -1,12 +1,11 @@
 // The asks of a session.
-ghost use Rattle.std.specs.Prelude.{◌≡◌, ◌≢◌, ◌<◌, true, false, [], ◌∷◌, Some, None};
+ghost use Rattle.std.specs.Prelude.{[], ◌<◌, ◌∷◌, ◌≡◌, ◌≢◌, false, None, Some, true};
 ghost use Rattle.krs_types.specs.declared.event.Event.{Event};
 ghost use Rattle.krs_model.specs.History.{event_of};
-ghost use Rattle.krs_store.specs.Told.{reply_of, bytes_of};
+ghost use Rattle.krs_store.specs.Told.{bytes_of, reply_of};
 ghost use Rattle.krs_wire.specs.Reply.{reply_frame};
-ghost use Rattle.krs_session.specs.Long.{is_long};
-ghost use Rattle.krs_session.specs.Replies.{HoldsFrame, TellsNext};
-ghost use Rattle.krs_session.specs.Serving.{Asked, Answers, Holds, IsAskedAnew, PendingNext, StopsBy, StopsNext};
+ghost use Rattle.krs_session.specs.{Long.is_long, Replies.{HoldsFrame, TellsNext}};
+ghost use Rattle.krs_session.specs.Serving.{Answers, Asked, Holds, IsAskedAnew, PendingNext, StopsBy, StopsNext};
 
 use crate::writing::{flush, forget, send_reply};
 use crate::{Clock, Ended, Gate, Keeper, Point, Replies, Sink};

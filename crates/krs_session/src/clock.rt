@@ -1,4 +1,4 @@
-ghost use Rattle.std.specs.Prelude.{ℕ, List, [], ◌∷◌, ◌++◌};
+ghost use Rattle.std.specs.Prelude.{[], ◌++◌, ◌∷◌, List, ℕ};
 
 /// Moments in seconds.
 pub trait Clock {

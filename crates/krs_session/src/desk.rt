@@ -9,7 +9,7 @@ use std::sync::Wait;
 
 impl<R: Wait> Keeper<Seat, R> for Desk {
     ghost use Rattle.std.specs.Prelude.{◌≡◌};
-    ghost use Rattle.krs_session.specs.Leads.{Leads, leads_none, leads_both};
+    ghost use Rattle.krs_session.specs.Leads.{Leads, leads_both, leads_none};
 
     ghost ready = { IsIdleAt };
 

@@ -1,11 +1,10 @@
 //! What sessions do to the seats of a desk.
-ghost use Rattle.std.specs.Prelude.{ℕ, ◌++◌, ◌∷◌, [], List};
+ghost use Rattle.std.specs.Prelude.{[], ◌++◌, ◌∷◌, List, ℕ};
 ghost use Rattle.krs_types.specs.declared.event.Event.{Event};
 ghost use Rattle.krs_desk.specs.Sitting.{Sitting};
-ghost use Rattle.krs_session.specs.declared.ended.Ended.{Ended};
-ghost use Rattle.krs_session.specs.Session.{Session};
-ghost use Rattle.krs_session.specs.Leads.{Leads, GainsTheirCalls, GainsSession};
-ghost use Rattle.krs_session.specs.Alike.{AnswersDifferInReads, AnswersByReadsAlone, WritesByReadsAlone};
+ghost use Rattle.krs_session.specs.Alike.{AnswersByReadsAlone, AnswersDifferInReads, WritesByReadsAlone};
+ghost use Rattle.krs_session.specs.Leads.{GainsSession, GainsTheirCalls, Leads};
+ghost use Rattle.krs_session.specs.{Session.Session, declared.ended.Ended.Ended};
 
 use crate::{Clock, Sink, Source};
 

@@ -1,5 +1,5 @@
 ghost use Rattle.std.specs.Prelude.{◌≡◌};
-ghost use Rattle.krs_session.specs.Over.{over_end, over_reads, over_empties, over_failures};
+ghost use Rattle.krs_session.specs.Over.{over_empties, over_end, over_failures, over_reads};
 
 use crate::{Failed, Sink, Source};
 use std::io::{Read, Write};

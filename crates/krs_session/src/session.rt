@@ -1,9 +1,8 @@
 // A session: turns of one read each, and LEAVE.
-ghost use Rattle.std.specs.Prelude.{◌≡◌, ◌≢◌, ◌<◌, ◌≤◌, ◌+◌, ◌-◌, ℕ, List, [], length, All, IfOk, IfErr, IsSome};
-ghost use Rattle.krs_wire.specs.Frame.{Frames, rest, bad};
-ghost use Rattle.krs_wire.specs.Feeding.{Feeds, Refuses, fault_of};
-ghost use Rattle.krs_session.specs.Session.{Session, EndsBy, HaveRoom, counts_of};
-ghost use Rattle.krs_session.specs.Serving.{Answers, Served, StopsBy, PieceEndsBy, TurnEndsBy, Finished};
+ghost use Rattle.std.specs.Prelude.{[], ◌+◌, ◌-◌, ◌<◌, ◌≡◌, ◌≢◌, ◌≤◌, All, IfErr, IfOk, IsSome, length, List, ℕ};
+ghost use Rattle.krs_wire.specs.{Feeding.{fault_of, Feeds, Refuses}, Frame.{bad, Frames, rest}};
+ghost use Rattle.krs_session.specs.Serving.{Answers, Finished, PieceEndsBy, Served, StopsBy, TurnEndsBy};
+ghost use Rattle.krs_session.specs.Session.{counts_of, EndsBy, HaveRoom, Session};
 
 use crate::asking::{Setting, answer_all, ask_one};
 use crate::lack::Lack;

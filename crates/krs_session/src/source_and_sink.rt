@@ -1,5 +1,5 @@
 //! The two ends of a connection, as a session meets them.
-ghost use Rattle.std.specs.Prelude.{◌≡◌, ◌<◌, ◌≤◌, ◌+◌, ℕ, List, [], ◌++◌, length, take, IfOk, OnOk, OnErr};
+ghost use Rattle.std.specs.Prelude.{[], ◌++◌, ◌+◌, ◌<◌, ◌≡◌, ◌≤◌, IfOk, length, List, OnErr, OnOk, take, ℕ};
 
 /// An end of a connection failed.
 #[derive(Clone, Copy, Debug, PartialEq, Eq)]

@@ -1,8 +1,7 @@
 // The writing end of a session.
-ghost use Rattle.std.specs.Prelude.{◌≡◌, ◌≢◌, ◌<◌, ◌+◌, ◌++◌, [], All, vec_len, Some, OnOk, OnErr};
+ghost use Rattle.std.specs.Prelude.{[], ◌++◌, ◌+◌, ◌<◌, ◌≡◌, ◌≢◌, All, OnErr, OnOk, Some, vec_len};
 ghost use Rattle.krs_wire.specs.Reply.{reply_frame};
-ghost use Rattle.krs_session.specs.Session.{TookFront};
-ghost use Rattle.krs_session.specs.Serving.{Wrote, Pending, StopsBy};
+ghost use Rattle.krs_session.specs.{Serving.{Pending, StopsBy, Wrote}, Session.TookFront};
 
 use crate::asking::Setting;
 use crate::{Ended, Failed, Gate, Keeper, Sink};

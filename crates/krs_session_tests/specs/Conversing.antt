@@ -1,9 +1,8 @@
 -- What the tests say of a session: which bytes its ends gave and took, and which seconds its clock answered.
-use Rattle.std.specs.Prelude.{◌≡◌, ℕ, List, [], ◌∷◌, ◌++◌}
+use Rattle.std.specs.Prelude.{[], ◌++◌, ◌∷◌, ◌≡◌, List, ℕ}
 use Rattle.krs_types.specs.declared.event.Event.{Event}
 use Rattle.krs_wire.specs.declared.framed.Framed.{Framed}
-use Rattle.krs_session.specs.Events.{asks_of, asks_in, moments_of, replies_of, session_text}
-use Rattle.krs_session.specs.Session.{AreWhole}
+use Rattle.krs_session.specs.{Events.{asks_in, asks_of, moments_of, replies_of, session_text}, Session.AreWhole}
 use Rattle.krs_session_tests.specs.Ticks.{Ticks}
 
 -- A session that was closed, from second 100 on: a front of the input is cut into frames, the events are what these

@@ -1,5 +1,5 @@
 -- What a clock answers that is asked once a second, and that its answers join.
-use Rattle.std.specs.Prelude.{◌≡◌, ℕ, ◌+◌, ◌%◌, ◌^◌, List, [], ◌∷◌, ◌++◌, refl}
+use Rattle.std.specs.Prelude.{[], ◌%◌, ◌++◌, ◌+◌, ◌^◌, ◌∷◌, ◌≡◌, List, refl, ℕ}
 use Rattle.std.proofs.Common.{subst, sym}
 
 -- these are the seconds from one to another, each once: after the last that fits 64 bits comes 0

@@ -1,37 +1,24 @@
 -- An ask and its notes: what is told is known before the ask, and posted after it.
-use Rattle.std.proofs.Common.{◌≡◌, ℕ, ℤ, List, [], Option, None, Some, Result, Ok, Err, nat_lt, cond, true, false}
-use Rattle.std.proofs.Common.{refl, ap, ◌∙◌, sym, subst, ◌⊎◌, inl, inr, ⊎_elim, flat_map, map, filter, ◌++◌, ◌∷◌}
-use Rattle.std.specs.Option.{option_to_list, option_map, is_some}
+use Rattle.std.proofs.Common.{[], ⊎_elim, ◌++◌, ◌∙◌, ◌∷◌, ◌≡◌, ◌⊎◌, ap, append-nil, cond, Err, false, filter, flat_map}
+use Rattle.std.proofs.Common.{inl, inr, is_some, List, map, nat_lt, None, Ok, Option, option_map, option_to_list, refl}
+use Rattle.std.proofs.Common.{Result, Some, subst, sym, true, true≢false, ℕ, ℤ}
 use Rattle.std.specs.Result.{result_ok}
-use Rattle.std.proofs.lemmas.List.{append-nil}
-use Rattle.std.proofs.lemmas.Bool.{true≢false}
+use Rattle.krs_types.specs.declared.ask.Answer.{Answer, TheVariants.{Bytes, Nothing, Number}}
+use Rattle.krs_types.specs.declared.ask.Op.{Op, TheVariants.{Add, Chown, Clear, Invalidate, Link, Move, Request}}
+use Rattle.krs_types.specs.declared.ask.Op.TheVariants.{Revoke, Search, SetPerm, SetTimeout, Unlink, Update, Watch}
 use Rattle.krs_types.specs.declared.errno.Errno.{Errno}
-use Rattle.krs_types.specs.declared.fault.Fault.{Fault}
-use Rattle.krs_types.specs.declared.ask.Answer.{Answer}
-use Rattle.krs_types.specs.declared.ask.Answer.TheVariants.{Nothing, Number, Bytes}
-use Rattle.krs_types.specs.declared.ask.Op.{Op}
-use Rattle.krs_types.specs.declared.ask.Op.TheVariants.{Search, Request, Add, Update, Revoke, Invalidate, Chown, SetPerm}
-use Rattle.krs_types.specs.declared.ask.Op.TheVariants.{SetTimeout, Link, Unlink, Move, Clear, Watch}
-use Rattle.krs_types.specs.declared.note.KeyEvent.TheVariants.{Updated, Linked}
-use Rattle.krs_model.specs.Table.{Table, at}
-use Rattle.krs_model.specs.State.{State, Key, Queue}
+use Rattle.krs_types.specs.declared.{fault.Fault.Fault, note.{KeyEvent.TheVariants.{Linked, Updated}, Record.Record}}
+use Rattle.krs_model.specs.Notes.{Filter.passes_if_any, Posting.{after_note, after_notes, Note, note_for, passes_at}}
+use Rattle.krs_model.specs.Notes.Posting.{Post, post_all, posted_in, posts, posts_of, records_for, watches_at}
+use Rattle.krs_model.specs.Notes.Telling.{about, about_added, about_found, about_link, ended_by, named, notes_of}
+use Rattle.krs_model.specs.{Outcome.{Is, Leads}, Queues.{Queues, queues_of}, Sound.IsSound, State.{Key, Queue, State}}
+use Rattle.krs_model.specs.{Step.outcome_of, Table.{at, Table}}
+use Rattle.krs_model.proofs.{Asks.NotedKeys.{add_serial, added_before}, Notes.Posts.{at_post_all, post_all-append}}
+use Rattle.krs_tables.specs.Serving.{LeadsTold, Tells}
+use Rattle.krs_tables.proofs.PostsAndSweep.{posted_nothing, tells_after, tells_nothing}
+use Rattle.krs_store.specs.Telling.{added_note, Foretells, may_tell, new_note, only, posts_told, Runs, told_by}
+use Rattle.krs_store.specs.{Telling.updated_note, declared.telling.{Telling.TheVariants.OfAdded, Tellings.Tellings}}
 use Rattle.krs_model.specs.Queues as queues
-use Rattle.krs_model.specs.Queues.{Queues, queues_of}
-use Rattle.krs_model.specs.Outcome.{Leads, Is}
-use Rattle.krs_model.specs.Sound.{IsSound}
-use Rattle.krs_model.specs.Step.{outcome_of}
-use Rattle.krs_tables.specs.Serving.{Tells, LeadsTold}
-use Rattle.krs_types.specs.declared.note.Record.{Record}
-use Rattle.krs_model.specs.Notes.Posting.{Note, Post, posts, posts_of, posted_in, note_for, watches_at, passes_at}
-use Rattle.krs_model.specs.Notes.Posting.{after_note, after_notes, post_all, records_for}
-use Rattle.krs_model.specs.Notes.Filter.{passes_if_any}
-use Rattle.krs_model.proofs.Notes.Posts.{at_post_all, post_all-append}
-use Rattle.krs_model.specs.Notes.Telling.{named, about, about_link, about_added, about_found, notes_of, ended_by}
-use Rattle.krs_model.proofs.Asks.NotedKeys.{add_serial, added_before}
-use Rattle.krs_tables.proofs.PostsAndSweep.{tells_after, tells_nothing, posted_nothing}
-use Rattle.krs_store.specs.declared.telling.Tellings.{Tellings}
-use Rattle.krs_store.specs.declared.telling.Telling.TheVariants.{OfAdded}
-use Rattle.krs_store.specs.Telling.{only, told_by, added_note, new_note, updated_note, posts_told, may_tell, Foretells, Runs}
 
 -- an ask that ends no watch
 record EndsNone (s : State) (client context : ℕ) (op : Op) (r : Result Answer Fault) (new : State) : Type 0 where

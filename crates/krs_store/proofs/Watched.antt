@@ -1,25 +1,18 @@
 -- WATCH, from what the store has looked up to what it comes to and tells.
-use Rattle.std.proofs.Common.{◌≡◌, ℕ, ℤ, [], ◌∷◌, Option, Some, None, Ok, FitsSigned, to_z, of_z, refl, ap, ◌∙◌, sym}
-use Rattle.std.specs.Int.{w32}
-use Rattle.std.proofs.lemmas.Int.{to_z-of_z}
-use Rattle.krs_types.specs.declared.ask.Answer.TheVariants.{Nothing}
-use Rattle.krs_types.specs.declared.ask.Op.TheVariants as op
-use Rattle.krs_types.specs.declared.context.Context.{Context}
-use Rattle.krs_types.specs.declared.rights.Want.TheVariants.{Granted}
-use Rattle.krs_types.specs.Rights.{VIEW}
-use Rattle.krs_model.specs.State.{State, Key}
-use Rattle.krs_model.specs.Queues.{Queues, Watch, queues_of, with_queues, watch_at}
+use Rattle.std.proofs.Common.{[], ◌∙◌, ◌∷◌, ◌≡◌, ap, FitsSigned, None, of_z, Ok, Option, refl, Some, sym, to_z, w32, ℕ}
+use Rattle.std.proofs.{Common.ℤ, lemmas.Int.to_z-of_z}
+use Rattle.krs_types.specs.{Rights.VIEW, declared.ask.Answer.TheVariants.Nothing}
+use Rattle.krs_types.specs.declared.{context.Context.Context, rights.Want.TheVariants.Granted}
+use Rattle.krs_model.specs.Asks.Watching.{Change, unwatched, watch, watch_id_of, watched}
 use Rattle.krs_model.specs.Lookup.{context_of, look_up}
-use Rattle.krs_tables.specs.Serving.{Tells}
-use Rattle.krs_model.specs.Notes.Posting.{posted, removal_for}
-use Rattle.krs_model.specs.Notes.Telling.{named, ended_by}
-use Rattle.krs_model.specs.Asks.Watching.{Change, watch, watched, unwatched, watch_id_of}
-use Rattle.krs_model.proofs.Asks.Later.{bind_ok, same_ok}
-use Rattle.krs_model.proofs.Lookups.Serials.{found_serial}
+use Rattle.krs_model.specs.Notes.{Posting.{posted, removal_for}, Telling.{ended_by, named}}
+use Rattle.krs_model.specs.{Queues.{Queues, queues_of, Watch, watch_at, with_queues}, State.{Key, State}}
 use Rattle.krs_model.proofs.Asks.Effects.{unwatched_is}
-use Rattle.krs_model.proofs.Sound.Queues.{ended_set}
-use Rattle.krs_tables.proofs.PostsAndSweep.{tells_nothing, tells_ended}
+use Rattle.krs_model.proofs.{Asks.Later.{bind_ok, same_ok}, Lookups.Serials.found_serial, Sound.Queues.ended_set}
 use Rattle.krs_watch.specs.Changes.{watch_ended}
+use Rattle.krs_tables.specs.Serving.{Tells}
+use Rattle.krs_tables.proofs.PostsAndSweep.{tells_ended, tells_nothing}
+use Rattle.krs_types.specs.declared.ask.Op.TheVariants as op
 
 -- what WATCH has looked up
 pub record LooksAt

@@ -1,25 +1,16 @@
 -- What the store tells of an ask that it accepts: known before the ask is served, but for its answer.
-use Rattle.std.specs.Prelude.{◌≡◌, ℕ, nat_lt, List, [], ◌++◌, Option, None, Some, Result, Ok, Bool, true, false, if◌then◌else◌}
-use Rattle.std.specs.Option.{option_to_list}
-use Rattle.krs_types.specs.declared.ask.Answer.{Answer}
-use Rattle.krs_types.specs.declared.ask.Answer.TheVariants.{Nothing, Number, Bytes}
-use Rattle.krs_types.specs.declared.ask.Op.{Op}
-use Rattle.krs_types.specs.declared.ask.Op.TheVariants.{Search, Request, Add, Update, Revoke, Invalidate, Chown, SetPerm}
-use Rattle.krs_types.specs.declared.ask.Op.TheVariants.{SetTimeout, Link, Unlink, Move, Clear, Watch}
-use Rattle.krs_types.specs.Growth.{has_destination}
-use Rattle.krs_types.specs.declared.fault.Fault.{Fault}
-use Rattle.krs_types.specs.declared.note.KeyEvent.TheVariants.{Updated, Linked}
-use Rattle.krs_model.specs.State.{State}
-use Rattle.krs_model.specs.Queues.{Queues}
-use Rattle.krs_model.specs.Outcome.{Leads}
-use Rattle.krs_model.specs.Step.{outcome_of}
-use Rattle.krs_tables.specs.Serving.{LeadsTold}
+use Rattle.std.specs.Prelude.{[], ◌++◌, ◌≡◌, Bool, false, if◌then◌else◌, List, nat_lt, None, Ok, Option, option_to_list}
+use Rattle.std.specs.Prelude.{Result, Some, true, ℕ}
+use Rattle.krs_types.specs.{Growth.has_destination, declared.ask.Answer.{Answer, TheVariants.{Bytes, Nothing, Number}}}
+use Rattle.krs_types.specs.declared.ask.Op.{Op, TheVariants.{Add, Chown, Clear, Invalidate, Link, Move, Request}}
+use Rattle.krs_types.specs.declared.ask.Op.TheVariants.{Revoke, Search, SetPerm, SetTimeout, Unlink, Update, Watch}
+use Rattle.krs_types.specs.declared.{fault.Fault.Fault, note.KeyEvent.TheVariants.{Linked, Updated}}
 use Rattle.krs_model.specs.Notes.Posting.{Note, Post, posts_of}
-use Rattle.krs_model.specs.Notes.Telling.{notes_of}
+use Rattle.krs_model.specs.{Notes.Telling.notes_of, Outcome.Leads, Queues.Queues, State.State, Step.outcome_of}
+use Rattle.krs_tables.specs.Serving.{LeadsTold}
 use Rattle.krs_store.specs.declared.telling.KeyNote.{KeyNote}
-use Rattle.krs_store.specs.declared.telling.Telling.{Telling}
+use Rattle.krs_store.specs.declared.telling.Telling.{Telling, TheVariants.{OfAdded, OfFound, OfKey, OfLink, Quiet}}
 use Rattle.krs_store.specs.declared.telling.Tellings.{Tellings}
-use Rattle.krs_store.specs.declared.telling.Telling.TheVariants.{Quiet, OfKey, OfLink, OfFound, OfAdded}
 
 -- the note of the definitions
 abbrev pub meant_note : KeyNote → Note

@@ -1,10 +1,7 @@
 -- The reply to an ask whose bytes a taker may have.
-use Rattle.std.specs.Prelude.{ℕ, List, Option, Some, None, Result, Ok}
-use Rattle.krs_types.specs.declared.errno.Errno.{Errno}
-use Rattle.krs_types.specs.declared.ask.Answer.{Answer}
-use Rattle.krs_types.specs.declared.ask.Answer.TheVariants.{Bytes}
-use Rattle.krs_store.specs.declared.told.Told.{Told}
-use Rattle.krs_store.specs.declared.told.Told.TheVariants.{Reply, Taken}
+use Rattle.std.specs.Prelude.{List, None, Ok, Option, Result, Some, ℕ}
+use Rattle.krs_types.specs.declared.{ask.Answer.{Answer, TheVariants.Bytes}, errno.Errno.Errno}
+use Rattle.krs_store.specs.declared.told.Told.{Told, TheVariants.{Reply, Taken}}
 
 -- the reply that was told
 abbrev pub reply_of : Told → Result Answer Errno

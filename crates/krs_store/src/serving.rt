@@ -1,7 +1,7 @@
 ghost use Rattle.std.specs.Prelude.{◌≡◌, IsErrOf, true};
 ghost use Rattle.krs_types.specs.Growth.{grows};
-ghost use Rattle.krs_tables.specs.Serving.{LeadsTold};
 ghost use Rattle.krs_model.specs.Sound.{IsSound};
+ghost use Rattle.krs_tables.specs.Serving.{LeadsTold};
 ghost use Rattle.krs_key_asks.specs.Taking.{answered, taken_of};
 ghost use Rattle.krs_store.specs.Telling.{Runs};
 

@@ -1,17 +1,10 @@
-ghost use Rattle.std.specs.Prelude.{◌≡◌, ◌≤◌, ◌≢◌, ℕ, List, Bool, false};
-ghost use Rattle.krs_store.specs.Told.{reply_of, bytes_of};
-ghost use Rattle.krs_types.specs.declared.errno.Errno.TheVariants.{ENOMEM};
-ghost use Rattle.krs_types.specs.declared.event.Event.{Event};
-ghost use Rattle.krs_types.specs.Growth.{grows};
-ghost use Rattle.krs_model.specs.State.{State, starting_at, raised};
-ghost use Rattle.krs_model.specs.Step.{Step};
+ghost use Rattle.std.specs.Prelude.{◌≡◌, ◌≢◌, ◌≤◌, Bool, false, List, ℕ};
+ghost use Rattle.krs_types.specs.{Growth.grows, declared.{errno.Errno.TheVariants.ENOMEM, event.Event.Event}};
+ghost use Rattle.krs_model.specs.Confidentiality.{HasToItself, KeepsPrivate, LeavesAlone, ReadsAlone, TellsNoStranger};
 ghost use Rattle.krs_model.specs.History.{event_of};
-ghost use Rattle.krs_model.specs.Sound.{IsSound};
-ghost use Rattle.krs_model.specs.Revocation.{StaysUnread};
-ghost use Rattle.krs_model.specs.Receiving.{GivesStreams};
-ghost use Rattle.krs_model.specs.Secrecy.{KeepsSecrets, ReadsByRight};
-ghost use Rattle.krs_model.specs.Confidentiality.{HasToItself, KeepsPrivate, ReadsAlone};
-ghost use Rattle.krs_model.specs.Confidentiality.{LeavesAlone, TellsNoStranger};
+ghost use Rattle.krs_model.specs.{Receiving.GivesStreams, Revocation.StaysUnread, Secrecy.{KeepsSecrets, ReadsByRight}};
+ghost use Rattle.krs_model.specs.{Sound.IsSound, State.{raised, starting_at, State}, Step.Step};
+ghost use Rattle.krs_store.specs.Told.{bytes_of, reply_of};
 
 use crate::Told;
 use crate::serving::{serve, serve_into};
@@ -30,8 +23,7 @@ pub struct Store {
 }
 
 impl Model for Store {
-    ghost use Rattle.krs_model.specs.State.{State};
-    ghost use Rattle.krs_model.specs.Sound.{IsSound};
+    ghost use Rattle.krs_model.specs.{Sound.IsSound, State.State};
 
     ghost Value = { State };
 

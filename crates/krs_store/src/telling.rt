@@ -1,18 +1,12 @@
-ghost use Rattle.std.specs.Prelude.{◌≡◌, flat_map};
-ghost use Rattle.std.specs.Option.{option_map, option_to_list};
-ghost use Rattle.krs_types.specs.declared.ask.Answer.{Answer};
-ghost use Rattle.std.specs.Result.{result_ok};
-ghost use Rattle.krs_model.specs.Outcome.{Is};
-ghost use Rattle.krs_model.specs.Queues.{queues_of};
-ghost use Rattle.krs_model.specs.Sound.{IsSound};
+ghost use Rattle.std.specs.{Prelude.{◌≡◌, flat_map, option_map, option_to_list}, Result.result_ok};
 ghost use Rattle.krs_types.specs.Growth.{has_destination};
+ghost use Rattle.krs_types.specs.declared.{ask.Answer.Answer, note.KeyEvent.TheVariants.{Linked, Unlinked}};
 ghost use Rattle.krs_model.specs.Notes.Posting.{posted_in, posts_of};
-ghost use Rattle.krs_types.specs.declared.note.KeyEvent.TheVariants.{Linked, Unlinked};
-ghost use Rattle.krs_model.specs.Notes.Telling.{named, about, about_link, about_moved, about_found};
-ghost use Rattle.krs_model.specs.Notes.Telling.{is_one_ring};
-ghost use Rattle.krs_store.specs.Telling.{told_of, told_by, only, meant_note, linked_note, number_of, posts_told};
-ghost use Rattle.krs_store.specs.Telling.{Says, Foretells, may_tell};
-ghost use Rattle.krs_store.specs.declared.telling.Telling.TheVariants.{Quiet, OfAdded};
+ghost use Rattle.krs_model.specs.Notes.Telling.{about, about_found, about_link, about_moved, is_one_ring, named};
+ghost use Rattle.krs_model.specs.{Outcome.Is, Queues.queues_of, Sound.IsSound};
+ghost use Rattle.krs_store.specs.Telling.{Foretells, linked_note, may_tell, meant_note, number_of, only, posts_told};
+ghost use Rattle.krs_store.specs.Telling.{Says, told_by, told_of};
+ghost use Rattle.krs_store.specs.declared.telling.Telling.TheVariants.{OfAdded, Quiet};
 
 use krs_tables::Tables;
 use krs_types::{Answer, Errno, KeyEvent, Op, Serial};

@@ -13,7 +13,7 @@ pub enum Told {
 
 impl Told {
     ghost use Rattle.krs_key_asks.specs.Taking.{answer_of, taken_of};
-    ghost use Rattle.krs_store.specs.Told.{reply_of, bytes_of};
+    ghost use Rattle.krs_store.specs.Told.{bytes_of, reply_of};
 
     /// The reply to an ask that was accepted.
     #[inline(always)]

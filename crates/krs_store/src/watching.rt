@@ -1,10 +1,8 @@
-ghost use Rattle.std.specs.Prelude.{◌≡◌, ◌≢◌, Err, IsErrOf, false};
+ghost use Rattle.std.specs.Prelude.{◌≡◌, ◌≢◌, Err, false, IsErrOf};
 ghost use Rattle.krs_types.specs.Growth.{ends_watch};
-ghost use Rattle.krs_types.specs.declared.ask.Op.TheVariants.{Watch};
-ghost use Rattle.krs_types.specs.declared.fault.Fault.TheVariants.{Memory};
-ghost use Rattle.krs_model.specs.Outcome.{Leads};
+ghost use Rattle.krs_types.specs.declared.{ask.Op.TheVariants.Watch, fault.Fault.TheVariants.Memory};
+ghost use Rattle.krs_model.specs.{Asks.Watching.{close_queue, open_queue, read_queue, set_filter}, Outcome.Leads};
 ghost use Rattle.krs_tables.specs.Serving.{LeadsTold};
-ghost use Rattle.krs_model.specs.Asks.Watching.{open_queue, set_filter, read_queue, close_queue};
 
 use krs_tables::Tables;
 use krs_types::{Answer, Fault, FilterEntries, Rights, Serial, Want};

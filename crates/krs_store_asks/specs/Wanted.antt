@@ -1,9 +1,7 @@
 -- What a test wants of a reply.
-use Rattle.std.specs.Prelude.{◌==◌, Bool, true, false, bytes_eq, Result, Ok, Err}
-use Rattle.krs_types.specs.declared.errno.Errno.{Errno}
-use Rattle.krs_types.specs.declared.ask.Answer.{Answer}
-use Rattle.krs_types.specs.declared.ask.Answer.TheVariants.{Nothing, Number, Bytes}
+use Rattle.std.specs.Prelude.{◌==◌, Bool, bytes_eq, Err, false, Ok, Result, true}
 use Rattle.krs_types.specs.Errno.{number_of}
+use Rattle.krs_types.specs.declared.{ask.Answer.{Answer, TheVariants.{Bytes, Nothing, Number}}, errno.Errno.Errno}
 use Rattle.krs_store_asks.specs.declared.Want.{Want}
 use Rattle.krs_store_asks.specs.declared.Want.TheVariants as want
 

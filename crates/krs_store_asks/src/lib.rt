@@ -1,9 +1,9 @@
 //! Asks in few words, and what they are answered with, for the tests of the store and the desk.
 #![tactic(auto)]
 
-ghost use Rattle.std.specs.Prelude.{◌≡◌, [], IfOk};
+ghost use Rattle.std.specs.Prelude.{[], ◌≡◌, IfOk};
+ghost use Rattle.krs_types.specs.declared.ask.Op.TheVariants.{Add, Describe, Hello, Leave, Read, Update};
 ghost use Rattle.krs_store_asks.specs.Wanted.{is_wanted};
-ghost use Rattle.krs_types.specs.declared.ask.Op.TheVariants.{Hello, Add, Read, Describe, Update, Leave};
 
 use krs_types::{Answer, Ask, Blob, Caller, Errno, Groups, Op, Reply, TypeName};
 use std::alloc::{AllocError, Global};

@@ -1,46 +1,30 @@
 -- What the store's own steps come to in the definitions.
-use Rattle.std.proofs.Common.{◌≡◌, ℕ, ℤ, ◌+◌, ◌≤◌, Ok, length, ◌==◌, List, [], ◌∷◌, Option, Some, None, Bool, true}
-use Rattle.std.proofs.Common.{refl, ap, ◌∙◌, sym, subst, arith, ⊎_elim}
-use Rattle.std.specs.Prelude.{codes}
-use Rattle.std.specs.Option.{IsSome, option_map}
+use Rattle.std.proofs.Common.{[], ⊎_elim, ◌+◌, ◌==◌, ◌∙◌, ◌∷◌, ◌≡◌, ◌≤◌, ap, arith, Bool, codes, IsSome, length, List}
+use Rattle.std.proofs.Common.{None, Ok, Option, option_map, refl, Some, subst, sym, true, ℕ, ℤ}
 use Rattle.std.specs.Cmp.{unsigned_tied}
-use Rattle.std.proofs.lemmas.Bool.Decides.{nat_tests}
-use Rattle.std.proofs.lemmas.Option.{none-some, same_Some}
-use Rattle.krs_types.specs.declared.name.Name.{Name}
-use Rattle.krs_types.specs.declared.kind.Kind.{Kind}
-use Rattle.krs_types.specs.declared.kind.Kind.TheVariants.{User, Logon, Keyring}
-use Rattle.krs_types.specs.declared.context.Context.{Context}
-use Rattle.krs_types.specs.declared.rights.Want.TheVariants.{Granted}
-use Rattle.krs_types.specs.Rights.{WRITE}
-use Rattle.krs_types.specs.Kind.{kind_name}
-use Rattle.krs_types.specs.declared.caller.Caller.{Caller}
-use Rattle.krs_model.specs.Table.{Table, at, put, alter, IsBelow}
-use Rattle.krs_model.specs.State as model
-use Rattle.krs_model.specs.Possession.{links_of_content}
-use Rattle.krs_model.specs.Levels.{is_in}
-use Rattle.krs_model.specs.Linking.{link_named, linking}
-use Rattle.krs_model.specs.Sweep.{IsHeld, Linked, PicksHeld, IsSweep, live_watches, roots}
-use Rattle.krs_model.specs.Asks.Hello.{uid_ring, with_uid}
-use Rattle.krs_model.specs.Lookup.{look_up}
-use Rattle.krs_model.specs.Asks.Adding.{made, new_key, IsKeyringAt, place_of, by_match}
-use Rattle.krs_model.proofs.Tables.Changes.{at_map, put_map, alter_map, filter_map_keys, below_put, at_put_same, at_put_other}
-use Rattle.krs_model.proofs.Tables.Changes.{at_or_apart}
-use Rattle.krs_model.proofs.Reach.Levels.{or_true, same_is}
-use Rattle.krs_tables.specs.declared.tables.Tables.TheInside.{Inside}
-use Rattle.krs_keys.specs.declared.key.Key.{Key}
-use Rattle.krs_keys.specs.declared.key.Content.{Content}
-use Rattle.krs_keys.specs.declared.key.Content.TheVariants.{Payload, Links}
-use Rattle.krs_links.specs.Links.{LinkList, serials, serial_named}
-use Rattle.krs_keys.specs.Keys.{seen, seen_content, shown, named_links_of_content, name_at, AreNamed, AreFit, IsOfKind}
-use Rattle.krs_keys.specs.Keys.{AreOfKind, with_entry, entered, FindsByName, displaced_at, displaced_by}
-use Rattle.krs_tables.specs.Making.{maker_key, first_content, uid_key}
-use Rattle.krs_model.specs.Asks.Adding as adding
+use Rattle.std.proofs.lemmas.{Bool.Decides.nat_tests, Option.{none-some, same_Some}}
+use Rattle.krs_types.specs.{Kind.kind_name, Rights.WRITE, declared.caller.Caller.Caller}
+use Rattle.krs_types.specs.declared.{context.Context.Context, kind.Kind.{Kind, TheVariants.{Keyring, Logon, User}}}
+use Rattle.krs_types.specs.declared.{name.Name.Name, rights.Want.TheVariants.Granted}
+use Rattle.krs_model.specs.Asks.{Adding.{by_match, IsKeyringAt, made, new_key, place_of}, Hello.{uid_ring, with_uid}}
+use Rattle.krs_model.specs.{Levels.is_in, Linking.{link_named, linking}, Lookup.look_up, Possession.links_of_content}
+use Rattle.krs_model.specs.Sweep.{IsHeld, IsSweep, Linked, live_watches, PicksHeld, roots}
+use Rattle.krs_model.specs.Table.{alter, at, IsBelow, put, Table}
+use Rattle.krs_model.proofs.{Reach.Levels.{or_true, same_is}, Tables.Changes.{alter_map, at_map, at_or_apart}}
+use Rattle.krs_model.proofs.Tables.Changes.{at_put_other, at_put_same, below_put, filter_map_keys, put_map}
+use Rattle.krs_links.specs.Links.{LinkList, serial_named, serials}
 use Rattle.krs_keys.specs.Kept.{Sweeps}
+use Rattle.krs_keys.specs.Keys.{AreFit, AreNamed, AreOfKind, displaced_at, displaced_by, entered, FindsByName, IsOfKind}
+use Rattle.krs_keys.specs.Keys.{name_at, named_links_of_content, seen, seen_content, shown, with_entry}
 use Rattle.krs_keys.specs.Table.{Keys, with_key}
-use Rattle.krs_tables.specs.View.{state_of, IsConsistent}
-use Rattle.krs_keys.proofs.KeysLemmas.{seen-with_entry, found_named, serials-content}
-use Rattle.krs_keys.proofs.KindsLemmas.{kinds_alter, kinds_put, kinds_kept, linked_kind}
-use Rattle.krs_keys.proofs.LinkNames.{fit_alter, fit_put, fit_kept, named_linked, LinksKept}
+use Rattle.krs_keys.specs.declared.key.{Content.{Content, TheVariants.{Links, Payload}}, Key.Key}
+use Rattle.krs_keys.proofs.KeysLemmas.{found_named, seen-with_entry, serials-content}
+use Rattle.krs_keys.proofs.KindsLemmas.{kinds_alter, kinds_kept, kinds_put, linked_kind}
+use Rattle.krs_keys.proofs.LinkNames.{fit_alter, fit_kept, fit_put, LinksKept, named_linked}
+use Rattle.krs_tables.specs.Making.{first_content, maker_key, uid_key}
+use Rattle.krs_tables.specs.{View.{IsConsistent, state_of}, declared.tables.Tables.TheInside.Inside}
+use Rattle.krs_model.specs.Asks.Adding as adding
+use Rattle.krs_model.specs.State as model
 
 key_shown : (o : Option Key) (x : model.Key) → option_map seen o ≡ Some x
     → (key : Key) × (o ≡ Some key) × (seen key ≡ x)

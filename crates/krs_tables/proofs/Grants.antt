@@ -1,17 +1,12 @@
 -- What is granted without possession is granted with it.
-use Rattle.std.proofs.Common.{◌≡◌, ℕ, ◌||◌, Bool, true, false, refl, sym, ap, ◌∙◌, min, max, arith}
-use Rattle.std.proofs.lemmas.Bool.{eq-eqb, eqb-true}
-use Rattle.std.proofs.lemmas.Nat.Bits.{bit_at_and, bit_at_or, bit_at-zero, same_from_bits}
+use Rattle.std.proofs.Common.{◌||◌, ◌∙◌, ◌≡◌, ap, arith, bit_and, bit_or, Bool, eq-eqb, eqb-true, false, max, min, refl}
+use Rattle.std.proofs.Common.{sym, true, ℕ}
 use Rattle.std.specs.Int.{bit_at}
-use Rattle.std.specs.Int.RustNames.{bit_and, bit_or}
-use Rattle.krs_types.specs.declared.caller.Caller.{Caller}
-use Rattle.krs_types.specs.declared.rights.Rights.{Rights}
-use Rattle.krs_types.specs.declared.rights.Want.{Want}
-use Rattle.krs_types.specs.declared.rights.Want.TheVariants.{Granted, Either, ToRead}
+use Rattle.std.proofs.lemmas.Nat.Bits.{bit_at-zero, bit_at_and, bit_at_or, same_from_bits}
 use Rattle.krs_types.specs.Perm.{class_byte, possessor_byte}
-use Rattle.krs_types.specs.Rights.{READ, SEARCH, has_all, allows}
-use Rattle.krs_model.specs.Access.{rights_on}
-use Rattle.krs_model.specs.State.{Key}
+use Rattle.krs_types.specs.{Rights.{allows, has_all, READ, SEARCH}, declared.caller.Caller.Caller}
+use Rattle.krs_types.specs.declared.rights.{Rights.Rights, Want.{Want, TheVariants.{Either, Granted, ToRead}}}
+use Rattle.krs_model.specs.{Access.rights_on, State.Key}
 
 -- more bits have all that the fewer have
 more_bits : (own class wanted : ℕ) → bit_and (bit_or 0 class) wanted ≡ wanted → bit_and (bit_or own class) wanted ≡ wanted

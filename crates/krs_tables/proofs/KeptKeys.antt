@@ -1,23 +1,15 @@
 -- A key as it is kept, and what the definitions see of it.
-use Rattle.std.proofs.Common.{◌≡◌, ℕ, ℤ, Option, Some, None, Result, Ok, Err, true, false, refl, ap, sym, ◌∙◌}
-use Rattle.std.specs.Option.{option_map}
-use Rattle.krs_types.specs.declared.context.Context.{Context}
-use Rattle.krs_types.specs.declared.errno.Errno.{Errno}
-use Rattle.krs_types.specs.declared.errno.Errno.TheVariants.{ENOKEY, EKEYREVOKED, EKEYEXPIRED, EACCES}
+use Rattle.std.proofs.Common.{◌∙◌, ◌≡◌, ap, Err, false, None, Ok, Option, option_map, refl, Result, Some, sym, true, ℕ}
+use Rattle.std.proofs.Common.{ℤ}
+use Rattle.krs_types.specs.{Refusing.{◌>>=◌, or_refuse}, declared.context.Context.Context}
+use Rattle.krs_types.specs.declared.errno.Errno.{Errno, TheVariants.{EACCES, EKEYEXPIRED, EKEYREVOKED, ENOKEY}}
 use Rattle.krs_types.specs.declared.rights.Want.{Want}
-use Rattle.krs_types.specs.Refusing.{◌>>=◌, or_refuse}
 use Rattle.krs_model.specs.Access.{is_over}
-use Rattle.krs_model.specs.Lookup.{serial_of, look_up, if_usable}
-use Rattle.krs_model.specs.State as state
-use Rattle.krs_model.specs.Table.{at}
-use Rattle.krs_model.specs.State.{State}
-use Rattle.krs_model.specs.Possession.{possessed}
+use Rattle.krs_model.specs.{Lookup.{if_usable, look_up, serial_of}, Possession.possessed, State.State, Table.at}
 use Rattle.krs_model.proofs.Tables.Changes.{at_map}
-use Rattle.krs_keys.specs.declared.key.Key.{Key}
-use Rattle.krs_keys.specs.Keys.{seen}
-use Rattle.krs_tables.specs.Granting.{allows_held}
-use Rattle.krs_tables.specs.View.{state_of}
-use Rattle.krs_tables.specs.declared.tables.Tables.TheInside.{Inside}
+use Rattle.krs_keys.specs.{Keys.seen, declared.key.Key.Key}
+use Rattle.krs_tables.specs.{Granting.allows_held, View.state_of, declared.tables.Tables.TheInside.Inside}
+use Rattle.krs_model.specs.State as state
 
 -- a key that is kept is there
 pub kept_there : (s : Inside) (t : State) (serial : ℕ) (key : Key) → state_of s ≡ t

@@ -1,37 +1,24 @@
 -- What one link more, or one less, comes to in the definitions.
-use Rattle.std.proofs.Common.{◌≡◌, ℕ, ◌==◌, ◌&&◌, ◌||◌, List, [], ◌∷◌, Option, Some, None, Bool, true, false, cond}
-use Rattle.std.proofs.Common.{Ok, Err, length, suc, ◌*◌, refl, ap, ◌∙◌, sym}
-use Rattle.std.proofs.Common.{subst}
-use Rattle.std.specs.Option.{option_map}
-use Rattle.std.specs.Prelude.{nat_le}
+use Rattle.std.proofs.Common.{[], ◌&&◌, ◌*◌, ◌==◌, ◌||◌, ◌∙◌, ◌∷◌, ◌≡◌, ap, Bool, cond, Err, false, length, List}
+use Rattle.std.proofs.Common.{nat_le, None, Ok, Option, option_map, refl, Some, subst, suc, sym, true, ℕ}
 use Rattle.std.proofs.lemmas.Option.{none-some, same_Some}
-use Rattle.krs_types.specs.declared.errno.Errno.TheVariants.{ENFILE, ENOMEM}
-use Rattle.krs_types.specs.declared.name.Name.{Name}
-use Rattle.krs_types.specs.declared.kind.Kind.{Kind}
-use Rattle.krs_types.specs.declared.kind.Kind.TheVariants.{Keyring}
-use Rattle.krs_types.specs.Kind.{same_kind}
-use Rattle.krs_model.specs.Table.{Table, at, alter}
-use Rattle.krs_model.specs.State as model
-use Rattle.krs_model.specs.Levels.{is_in}
-use Rattle.krs_model.specs.Sweep.{links_of_key}
-use Rattle.krs_model.specs.Reach.{links_of_key_at, is_ring}
-use Rattle.krs_model.specs.Linking.{has_room, link_named, linking}
-use Rattle.krs_model.specs.Asks.Linked.{name_of}
-use Rattle.krs_model.proofs.Tables.Changes.{at_map, alter_map}
+use Rattle.krs_types.specs.{Kind.same_kind, declared.errno.Errno.TheVariants.{ENFILE, ENOMEM}}
+use Rattle.krs_types.specs.declared.{kind.Kind.{Kind, TheVariants.Keyring}, name.Name.Name}
+use Rattle.krs_model.specs.Asks.{Adding.IsKeyringAt, Linked.name_of, Reading.serial_bytes}
+use Rattle.krs_model.specs.{Levels.is_in, Linking.{has_room, link_named, linking}, Reach.{is_ring, links_of_key_at}}
+use Rattle.krs_model.specs.{Sweep.links_of_key, Table.{alter, at, Table}}
+use Rattle.krs_model.proofs.Tables.Changes.{alter_map, at_map}
+use Rattle.krs_links.specs.Links.{has_link, is_refused, LinkList, serial_named, serials}
 use Rattle.krs_links.proofs.LinksLemmas.{length-bytes_of}
-use Rattle.krs_links.specs.Links.{has_link, LinkList, serial_named, serials, is_refused}
-use Rattle.krs_keys.specs.declared.key.Key.{Key}
-use Rattle.krs_keys.specs.declared.key.Content.{Content}
-use Rattle.krs_keys.specs.declared.key.Content.TheVariants.{Payload, Links}
-use Rattle.krs_keys.specs.Keys.{named_links_of_content, seen, seen_content, shown, name_at, named_links_of_key, named_links_of_key_at, AreNamed}
-use Rattle.krs_keys.specs.Keys.{AreFit, IsOfKind, AreOfKind, with_entry, entered, displaced_at, displaced_by}
+use Rattle.krs_keys.specs.Keys.{AreFit, AreNamed, AreOfKind, displaced_at, displaced_by, entered, IsOfKind, name_at}
+use Rattle.krs_keys.specs.Keys.{named_links_of_content, named_links_of_key, named_links_of_key_at, seen, seen_content}
+use Rattle.krs_keys.specs.Keys.{shown, with_entry}
+use Rattle.krs_keys.specs.declared.key.{Content.{Content, TheVariants.{Links, Payload}}, Key.Key}
+use Rattle.krs_keys.proofs.KeysLemmas.{found_named, seen-with_entry, serials-content}
 use Rattle.krs_keys.proofs.LinkNames.{fit_alter, named_linked, ring_named}
-use Rattle.krs_keys.proofs.KeysLemmas.{serials-content, found_named, seen-with_entry}
-use Rattle.krs_tables.specs.declared.tables.Tables.TheInside.{Inside}
-use Rattle.krs_model.specs.Asks.Reading.{serial_bytes}
-use Rattle.krs_model.specs.Asks.Adding.{IsKeyringAt}
-use Rattle.krs_tables.specs.View.{state_of}
-use Rattle.krs_tables.specs.Linked.{name_in, room_in, displaced_in}
+use Rattle.krs_tables.specs.Linked.{displaced_in, name_in, room_in}
+use Rattle.krs_tables.specs.{View.state_of, declared.tables.Tables.TheInside.Inside}
+use Rattle.krs_model.specs.State as model
 
 name_shown : (o : Option Key) (name : Name) → option_map name_of (option_map seen o) ≡ Some name
     → option_map (λ (k : Key). k.name) o ≡ Some name

@@ -1,52 +1,31 @@
 -- Asks that make a thread or process keyring, told by the store before it was made.
-use Rattle.std.proofs.Common.{◌≡◌, ◌≢◌, ℕ, ℤ, ◌+◌, ◌==◌, List, [], ◌++◌, Option, Some, None, Bool, true, false, cond}
-use Rattle.std.proofs.Common.{Result, Ok, Err, refl, ap, ◌∙◌, sym, subst, arith}
-use Rattle.std.specs.Prelude.{IfOk, nat_lt}
-use Rattle.std.specs.Option.{IsSome, option_to_list}
-use Rattle.std.proofs.lemmas.Bool.{true≢false, eqb-true}
-use Rattle.std.proofs.lemmas.Option.{none-some}
-use Rattle.krs_types.specs.declared.errno.Errno.{Errno}
-use Rattle.krs_types.specs.declared.errno.Errno.TheVariants.{ENOKEY, EDEADLK, ELOOP, ENOSPC}
-use Rattle.krs_types.specs.declared.ask.Answer.{Answer}
+use Rattle.std.proofs.Common.{[], ◌++◌, ◌+◌, ◌==◌, ◌∙◌, ◌≡◌, ◌≢◌, ap, arith, Bool, cond, eqb-true, Err, false, IfOk}
+use Rattle.std.proofs.Common.{IsSome, List, nat_lt, None, Ok, Option, option_to_list, refl, Result, Some, subst, sym}
+use Rattle.std.proofs.{Common.{true, true≢false, ℕ, ℤ}, lemmas.Option.none-some}
+use Rattle.krs_types.specs.{KeyId.key_id_of, Refusing.{◌>>=◌, or_refuse}, Rights.LINK, declared.ask.Answer.Answer}
 use Rattle.krs_types.specs.declared.ask.Answer.TheVariants.{Nothing, Number}
-use Rattle.krs_types.specs.declared.caller.Caller.{Caller}
-use Rattle.krs_types.specs.declared.name.Name.{Name}
-use Rattle.krs_types.specs.declared.context.Context.{Context}
-use Rattle.krs_types.specs.declared.context.UidRings.{UidRings}
-use Rattle.krs_types.specs.declared.key_id.KeyId.{KeyId}
-use Rattle.krs_types.specs.declared.key_id.KeyId.TheVariants as id
-use Rattle.krs_types.specs.declared.rights.Want.TheVariants.{Granted}
-use Rattle.krs_types.specs.Rights.{LINK}
-use Rattle.krs_types.specs.KeyId.{key_id_of}
-use Rattle.krs_types.specs.Refusing.{◌>>=◌, or_refuse}
-use Rattle.krs_model.specs.Table.{at}
-use Rattle.krs_model.specs.State.{State, Key}
-use Rattle.krs_model.specs.Levels.{is_in}
-use Rattle.krs_model.specs.Possession.{attached, process_ring}
-use Rattle.krs_model.specs.Lookup.{context_of, attachment, user_ring, user_session_ring, serial_of, look_up}
-use Rattle.krs_model.specs.Linking.{linking}
-use Rattle.krs_model.specs.Reach.{has_chain, nesting_depth}
-use Rattle.krs_model.specs.Making.{made_for, thread_to, special_ring, within_serials}
-use Rattle.krs_model.specs.Asks.Adding.{Place, Made, admitted, new_key, made, added, added_serial, added_in, add}
-use Rattle.krs_model.specs.Asks.Changing.{changed}
-use Rattle.krs_model.specs.Asks.Linked.{unless, name_of, linked_into, linked, link}
-use Rattle.krs_model.specs.Asks.Finding.{got, get_id}
-use Rattle.krs_model.specs.Outcome.{Outcome}
-use Rattle.krs_model.specs.Sound as model
-use Rattle.krs_model.proofs.Reach.Levels.{same_is, in_left, in_right}
-use Rattle.krs_model.proofs.Sound.Attached.{uid_keys, attached_at, in_uid}
-use Rattle.krs_model.proofs.Sound.Changes.{not_there}
-use Rattle.krs_model.proofs.Lookups.Laws.{look_up_usable}
-use Rattle.krs_model.proofs.MadeKeyring.Which.{made_thread, made_process}
-use Rattle.krs_model.proofs.MadeKeyring.State.{HasMade, HasMadeFor, MadeNone, MadeOne, thread_has, process_has, made_for_has}
-use Rattle.krs_model.proofs.MadeKeyring.Lookups.{look_up_other, look_up_new}
-use Rattle.krs_model.proofs.MadeKeyring.Links.{IsFit, sound_fit, linked_new, linked_into_new, linked_into_self, place_of_new}
-use Rattle.krs_model.proofs.MadeKeyring.Links.{got_new}
-use Rattle.krs_tables.specs.declared.making.Special.{Special}
-use Rattle.krs_tables.specs.declared.making.Special.TheVariants.{Thread, Process}
-use Rattle.krs_tables.specs.Specials.{special_name, with_ring, IsMissing, id_of, Makes, is_coming_as, is_coming}
-use Rattle.krs_tables.specs.Specials.{ring_made, linking_made, adding_made}
+use Rattle.krs_types.specs.declared.{caller.Caller.Caller, context.{Context.Context, UidRings.UidRings}}
+use Rattle.krs_types.specs.declared.errno.Errno.{Errno, TheVariants.{EDEADLK, ELOOP, ENOKEY, ENOSPC}}
+use Rattle.krs_types.specs.declared.{key_id.KeyId.KeyId, name.Name.Name, rights.Want.TheVariants.Granted}
+use Rattle.krs_model.specs.Asks.Adding.{add, added, added_in, added_serial, admitted, Made, made, new_key, Place}
+use Rattle.krs_model.specs.Asks.{Changing.changed, Finding.{get_id, got}}
+use Rattle.krs_model.specs.{Asks.Linked.{link, linked, linked_into, name_of, unless}, Levels.is_in, Linking.linking}
+use Rattle.krs_model.specs.Lookup.{attachment, context_of, look_up, serial_of, user_ring, user_session_ring}
+use Rattle.krs_model.specs.Making.{made_for, special_ring, thread_to, within_serials}
+use Rattle.krs_model.specs.{Outcome.Outcome, Possession.{attached, process_ring}, Reach.{has_chain, nesting_depth}}
+use Rattle.krs_model.specs.{State.{Key, State}, Table.at}
+use Rattle.krs_model.proofs.{Lookups.Laws.look_up_usable, MadeKeyring.Links.{got_new, IsFit, linked_into_new}}
+use Rattle.krs_model.proofs.MadeKeyring.Links.{linked_into_self, linked_new, place_of_new, sound_fit}
+use Rattle.krs_model.proofs.MadeKeyring.{Lookups.{look_up_new, look_up_other}, State.HasMade}
+use Rattle.krs_model.proofs.MadeKeyring.State.{HasMadeFor, made_for_has, MadeNone, MadeOne, process_has, thread_has}
+use Rattle.krs_model.proofs.{MadeKeyring.Which.{made_process, made_thread}, Reach.Levels.{in_left, in_right, same_is}}
+use Rattle.krs_model.proofs.Sound.{Attached.{attached_at, in_uid, uid_keys}, Changes.not_there}
+use Rattle.krs_tables.specs.Specials.{adding_made, id_of, is_coming, is_coming_as, IsMissing, linking_made, Makes}
+use Rattle.krs_tables.specs.Specials.{ring_made, special_name, with_ring}
+use Rattle.krs_tables.specs.declared.making.Special.{Special, TheVariants.{Process, Thread}}
 use Rattle.krs_tables.proofs.Owners.{own_there}
+use Rattle.krs_model.specs.Sound as model
+use Rattle.krs_types.specs.declared.key_id.KeyId.TheVariants as id
 
 -- the context with the keyring that is made for it
 abbrev pub context_with : Special → State → Context → Context

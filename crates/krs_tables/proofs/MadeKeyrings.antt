@@ -1,57 +1,32 @@
 -- A thread or process keyring that is made and attached: what it comes to in the definitions, and who holds what.
-use Rattle.std.proofs.Common.{◌≡◌, ◌+◌, ◌≤◌, ℕ, List, [], ◌∷◌, ◌++◌, Option, Some, None, true, false}
-use Rattle.std.proofs.Common.{refl, ap, ◌∙◌, sym, subst, arith, ⊎_elim}
-use Rattle.std.specs.Prelude.{nat_lt, Result, Ok, codes, IfOk, IsOk}
-use Rattle.std.specs.Option.{IsSome, option_map, option_to_list, unwrap_or}
-use Rattle.std.specs.Ordering.{nat_cmp}
+use Rattle.std.proofs.Common.{[], ⊎_elim, ◌++◌, ◌+◌, ◌∙◌, ◌∷◌, ◌≡◌, ◌≤◌, ap, arith, codes, false, IfOk, IsOk, IsSome}
+use Rattle.std.proofs.Common.{List, nat_cmp, nat_lt, None, Ok, Option, option_map, option_to_list, refl, Result, Some}
+use Rattle.std.proofs.Common.{subst, sym, true, true≢false, unwrap_or, ℕ}
 use Rattle.std.specs.BTreeMap.{is_at}
-use Rattle.std.proofs.lemmas.Option.{none-some}
-use Rattle.std.proofs.lemmas.Bool.{true≢false}
-use Rattle.std.proofs.lemmas.Bool.Decides.{nat_tests}
-use Rattle.krs_types.specs.declared.context.Context.{Context}
-use Rattle.krs_types.specs.declared.name.Name.{Name}
-use Rattle.krs_types.specs.declared.kind.Kind.TheVariants.{Keyring}
-use Rattle.krs_types.specs.Kind.{same_kind}
-use Rattle.krs_types.specs.declared.ask.Answer.{Answer}
-use Rattle.krs_types.specs.declared.ask.Answer.TheVariants.{Number}
-use Rattle.krs_types.specs.declared.errno.Errno.{Errno}
-use Rattle.krs_model.specs.Table.{Table, at, put, alter, IsBelow}
-use Rattle.krs_model.specs.State as model
-use Rattle.krs_model.specs.Sweep.{roots, context_roots, process_roots, uid_roots}
-use Rattle.krs_model.specs.Linking.{linking}
-use Rattle.krs_model.specs.Making.{thread_to, special_ring, with_thread, with_process, within_serials}
-use Rattle.krs_model.specs.Lookup.{context_of}
-use Rattle.krs_model.specs.Reach.{has_chain, nesting_depth}
-use Rattle.krs_model.specs.Sound as standing
-use Rattle.krs_model.specs.Asks.Changing.{changed}
-use Rattle.krs_model.specs.Asks.Linked.{name_of}
-use Rattle.krs_model.proofs.Tables.Changes.{at_map, put_map, at_put_other, at_or_apart, is_at_same}
-use Rattle.krs_keys.specs.declared.key.Key.{Key}
-use Rattle.krs_keys.specs.Keys.{seen, shown, name_at, AreNamed}
-use Rattle.krs_keys.specs.Table.{Keys, with_key}
-use Rattle.krs_keys.proofs.LinkNames.{fit_put}
-use Rattle.krs_keys.proofs.KindsLemmas.{kinds_put}
-use Rattle.krs_links.specs.Links.{LinkList, serials}
-use Rattle.krs_ctx.specs.Anchors.{Anchors, anchored, anchors_of}
-use Rattle.krs_hold.specs.Tally.{times, number_at, with_number, one_more, IsTallied}
-use Rattle.krs_hold.proofs.Times.{times-append, times-cons}
-use Rattle.krs_hold.proofs.Gathered.{times-alter}
-use Rattle.krs_hold.proofs.Places.{alter_put, is_some_alter}
-use Rattle.krs_hold.proofs.Tallies.{tallied_with, tallied_hold, tallied_attached, some_with, number_with}
-use Rattle.krs_hold.proofs.Tallies.{number_other}
-use Rattle.krs_hold.proofs.KeyTallies.{tallied_insert}
-use Rattle.krs_tables.specs.declared.making.Special.{Special}
-use Rattle.krs_tables.specs.declared.making.Special.TheVariants.{Thread, Process}
-use Rattle.krs_tables.specs.declared.making.Maker.{Maker}
-use Rattle.krs_tables.specs.declared.tables.Tables.TheInside.{Inside}
-use Rattle.krs_tables.specs.Holding.{HasRoom, more_of}
-use Rattle.krs_tables.specs.Specials.{with_ring, special_name, ring_key, IsMissing, HasPlace, attached_as, AreLinksTo}
-use Rattle.krs_tables.specs.Specials.{ring_at, ring_made, linking_made, maker_of}
-use Rattle.krs_tables.specs.View.{state_of, IsConsistent}
-use Rattle.krs_tables.proofs.Owners.{own_there}
+use Rattle.std.proofs.lemmas.{Bool.Decides.nat_tests, Option.none-some}
+use Rattle.krs_types.specs.{Kind.same_kind, declared.{ask.Answer.{Answer, TheVariants.Number}, context.Context.Context}}
+use Rattle.krs_types.specs.declared.{errno.Errno.Errno, kind.Kind.TheVariants.Keyring, name.Name.Name}
+use Rattle.krs_model.specs.{Asks.{Changing.changed, Linked.name_of}, Linking.linking, Lookup.context_of}
+use Rattle.krs_model.specs.Making.{special_ring, thread_to, with_process, with_thread, within_serials}
+use Rattle.krs_model.specs.{Reach.{has_chain, nesting_depth}, Sweep.{context_roots, process_roots, roots, uid_roots}}
+use Rattle.krs_model.specs.Table.{alter, at, IsBelow, put, Table}
 use Rattle.krs_model.proofs.Sound.NewContexts.{own_process_there}
-use Rattle.krs_tables.proofs.Links.{name_kept}
-use Rattle.krs_tables.proofs.Wanting.{accepted}
+use Rattle.krs_model.proofs.Tables.Changes.{at_map, at_or_apart, at_put_other, is_at_same, put_map}
+use Rattle.krs_ctx.specs.Anchors.{anchored, Anchors, anchors_of}
+use Rattle.krs_links.specs.Links.{LinkList, serials}
+use Rattle.krs_keys.specs.{Keys.{AreNamed, name_at, seen, shown}, Table.{Keys, with_key}, declared.key.Key.Key}
+use Rattle.krs_keys.proofs.{KindsLemmas.kinds_put, LinkNames.fit_put}
+use Rattle.krs_hold.specs.Tally.{IsTallied, number_at, one_more, times, with_number}
+use Rattle.krs_hold.proofs.{Gathered.times-alter, KeyTallies.tallied_insert, Places.{alter_put, is_some_alter}}
+use Rattle.krs_hold.proofs.Tallies.{number_other, number_with, some_with, tallied_attached, tallied_hold, tallied_with}
+use Rattle.krs_hold.proofs.Times.{times-append, times-cons}
+use Rattle.krs_tables.specs.{Holding.{HasRoom, more_of}, Specials.{AreLinksTo, attached_as, HasPlace, IsMissing}}
+use Rattle.krs_tables.specs.Specials.{linking_made, maker_of, ring_at, ring_key, ring_made, special_name, with_ring}
+use Rattle.krs_tables.specs.{View.{IsConsistent, state_of}, declared.making.{Maker.Maker, Special.Special}}
+use Rattle.krs_tables.specs.declared.{making.Special.TheVariants.{Process, Thread}, tables.Tables.TheInside.Inside}
+use Rattle.krs_tables.proofs.{Links.name_kept, Owners.own_there, Wanting.accepted}
+use Rattle.krs_model.specs.Sound as standing
+use Rattle.krs_model.specs.State as model
 
 -- the new keyring is attached once, and all else as often as before
 pub attached_times :

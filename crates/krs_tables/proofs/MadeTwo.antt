@@ -1,40 +1,25 @@
 -- A thread or process keyring that is made, and a new key that it links.
-use Rattle.std.proofs.Common.{◌≡◌, ℕ, ◌+◌, ◌<◌, ◌≤◌, List, [], ◌∷◌, Option, Some, None, true, false, cond, Ok}
-use Rattle.std.proofs.Common.{refl, ap, ◌∙◌, sym, subst, arith}
-use Rattle.std.specs.Option.{option_to_list, is_some, option_map}
-use Rattle.std.specs.Prelude.{nat_lt, IsOk}
-use Rattle.std.specs.Ordering.{nat_cmp, match_ordering}
-use Rattle.std.specs.declared.cmp.Ordering.TheVariants.{Less, Equal, Greater}
-use Rattle.std.specs.BTreeMap.{is_at}
-use Rattle.std.specs.Cmp.{unsigned_tied, ranked}
+use Rattle.std.proofs.Common.{[], ◌+◌, ◌<◌, ◌∙◌, ◌∷◌, ◌≡◌, ◌≤◌, ap, arith, cond, false, is_some, IsOk, List, nat_cmp}
+use Rattle.std.proofs.Common.{nat_lt, None, Ok, Option, option_map, option_to_list, refl, Some, subst, sym, true, ℕ}
+use Rattle.std.specs.{BTreeMap.is_at, Cmp.{ranked, unsigned_tied}, Ordering.match_ordering}
+use Rattle.std.specs.declared.cmp.Ordering.TheVariants.{Equal, Greater, Less}
 use Rattle.std.proofs.lemmas.Bool.Decides.{nat_tests}
-use Rattle.krs_types.specs.declared.name.Name.{Name}
-use Rattle.krs_types.specs.declared.ask.Answer.TheVariants.{Number}
-use Rattle.krs_types.specs.declared.context.Context.{Context}
-use Rattle.krs_model.specs.Table.{Table, at, put, alter, IsBelow}
-use Rattle.krs_model.specs.State as model
-use Rattle.krs_model.specs.Sweep.{roots}
-use Rattle.krs_model.specs.Lookup.{context_of}
-use Rattle.krs_model.specs.Asks.Adding.{made, new_key, IsKeyringAt}
-use Rattle.krs_model.proofs.Tables.Changes.{at_map, at_put_same, at_put_other, below_put}
-use Rattle.krs_keys.specs.declared.key.Key.{Key}
-use Rattle.krs_keys.specs.Keys.{seen, with_entry, displaced_at, displaced_by}
-use Rattle.krs_keys.specs.Table.{Keys, with_key}
-use Rattle.krs_hold.specs.Tally.{number_at, with_number, one_more, all_less, AreExact}
-use Rattle.krs_hold.proofs.Tallies.{number_other}
-use Rattle.krs_hold.proofs.Places.{alter_put, is_some_alter}
+use Rattle.krs_types.specs.declared.{ask.Answer.TheVariants.Number, context.Context.Context, name.Name.Name}
+use Rattle.krs_model.specs.Asks.Adding.{IsKeyringAt, made, new_key}
+use Rattle.krs_model.specs.{Lookup.context_of, Sweep.roots, Table.{alter, at, IsBelow, put, Table}}
+use Rattle.krs_model.proofs.Tables.Changes.{at_map, at_put_other, at_put_same, below_put}
 use Rattle.krs_ctx.specs.Anchors.{Anchors}
-use Rattle.krs_tables.proofs.Wanting.{accepted}
-use Rattle.krs_tables.specs.declared.tables.Tables.TheInside.{Inside}
-use Rattle.krs_tables.specs.declared.making.Special.{Special}
-use Rattle.krs_tables.specs.declared.making.Maker.{Maker}
+use Rattle.krs_keys.specs.Keys.{displaced_at, displaced_by, seen, with_entry}
+use Rattle.krs_keys.specs.{Table.{Keys, with_key}, declared.key.Key.Key}
+use Rattle.krs_hold.specs.Tally.{all_less, AreExact, number_at, one_more, with_number}
+use Rattle.krs_hold.proofs.{Places.{alter_put, is_some_alter}, Tallies.number_other}
 use Rattle.krs_tables.specs.Making.{maker_key}
-use Rattle.krs_tables.specs.Specials.{ring_key, ring_at, attached_as, maker_of}
-use Rattle.krs_tables.specs.Specials.{HasPlace, adding_made}
-use Rattle.krs_tables.specs.View.{state_of, IsConsistent}
-use Rattle.krs_tables.proofs.MadeKeyrings.{ring_alone, ring_sound, ring_told}
-use Rattle.krs_tables.proofs.OwedHolders.{made_tallied, first_links}
-use Rattle.krs_tables.proofs.Definitions.{made_told, seen-maker_key}
+use Rattle.krs_tables.specs.Specials.{adding_made, attached_as, HasPlace, maker_of, ring_at, ring_key}
+use Rattle.krs_tables.specs.View.{IsConsistent, state_of}
+use Rattle.krs_tables.specs.declared.{making.{Maker.Maker, Special.Special}, tables.Tables.TheInside.Inside}
+use Rattle.krs_tables.proofs.{Definitions.{made_told, seen-maker_key}, MadeKeyrings.{ring_alone, ring_sound, ring_told}}
+use Rattle.krs_tables.proofs.{OwedHolders.{first_links, made_tallied}, Wanting.accepted}
+use Rattle.krs_model.specs.State as model
 
 -- a change at another number, before or after
 alter_put_other :

@@ -1,22 +1,13 @@
 -- A key is out of reach where all keyrings that link it are: these were all found where they are as many as its links.
-use Rattle.std.proofs.Common.{◌≡◌, ◌<◌, ◌≤◌, ◌-◌, ◌+◌, ℕ, suc, List, [], ◌∷◌, length, true, false}
-use Rattle.std.proofs.Common.{sym, subst, refl, ◌∙◌, ⊎_elim, arith, ◌==◌, ◌||◌, cond, Option, Some, None}
-use Rattle.std.specs.Option.{option_to_list}
-use Rattle.std.proofs.lemmas.Bool.{true≢false}
+use Rattle.std.proofs.Common.{[], ⊎_elim, ◌+◌, ◌-◌, ◌<◌, ◌==◌, ◌||◌, ◌∙◌, ◌∷◌, ◌≡◌, ◌≤◌, arith, cond, false, length}
+use Rattle.std.proofs.Common.{List, None, Option, option_to_list, refl, Some, subst, suc, sym, true, true≢false, ℕ}
 use Rattle.krs_types.specs.declared.context.Context.{Context}
-use Rattle.krs_model.specs.Table.{Table, at, without}
-use Rattle.krs_model.specs.State.{State, Key}
-use Rattle.krs_model.specs.Levels.{levels, is_in}
-use Rattle.krs_model.specs.Possession.{attached, followed_in}
-use Rattle.krs_model.specs.Reach.{links_of_key_at}
-use Rattle.krs_model.specs.Sweep.{links_of_key}
-use Rattle.krs_hold.specs.Tally.{times, all_links}
-use Rattle.krs_hold.proofs.Times.{in-times, times-cons}
-use Rattle.krs_hold.proofs.Places.{without_other}
-use Rattle.krs_hold.proofs.Exact.{links-without}
-use Rattle.krs_walk.proofs.ListsLemmas.{in_head, in_tail, in_cons, in_none}
+use Rattle.krs_model.specs.{Levels.{is_in, levels}, Possession.{attached, followed_in}, Reach.links_of_key_at}
+use Rattle.krs_model.specs.{State.{Key, State}, Sweep.links_of_key, Table.{at, Table, without}}
+use Rattle.krs_hold.specs.Tally.{all_links, times}
+use Rattle.krs_hold.proofs.{Exact.links-without, Places.without_other, Times.{in-times, times-cons}}
 use Rattle.krs_walk.proofs.LevelsLemmas.{levels_from}
-use Rattle.krs_walk.proofs.PossessionLemmas.{followed_linked}
+use Rattle.krs_walk.proofs.{ListsLemmas.{in_cons, in_head, in_none, in_tail}, PossessionLemmas.followed_linked}
 
 -- these fall, all of them below a bound, and each is so
 abbrev pub FallBelow : (ℕ → Type 0) → ℕ → List ℕ → Type 0

@@ -1,47 +1,29 @@
 -- What the store's own steps owe the numbers of holders.
-use Rattle.std.proofs.Common.{◌≡◌, ℕ, List, [], ◌∷◌, Option, Some, None, Bool, true, refl, ap, ◌∙◌, sym, subst}
-use Rattle.std.proofs.Common.{⊎_elim}
-use Rattle.krs_types.specs.declared.kind.Kind.{Kind}
-use Rattle.krs_types.specs.declared.kind.Kind.TheVariants.{User, Logon, Keyring}
-use Rattle.krs_tables.specs.Making.{first_content}
-use Rattle.krs_hold.proofs.Tallies.{tallied_with, some_with, more_with, number_other}
-use Rattle.std.specs.Option.{option_map, option_to_list, unwrap_or, IsSome, IfSome}
-use Rattle.std.proofs.Common.{◌+◌, ◌≤◌, ◌++◌, not, filter, arith}
-use Rattle.krs_types.specs.declared.context.UidRings.{UidRings}
-use Rattle.krs_types.specs.declared.context.Context.{Context}
-use Rattle.krs_model.specs.Levels.{is_in}
-use Rattle.krs_model.specs.Sweep.{context_roots, process_roots, uid_roots}
-use Rattle.krs_hold.specs.Tally.{times, all_links, number_at, IsTallied}
-use Rattle.krs_hold.proofs.Times.{in-times, times-append, times-cons}
-use Rattle.krs_hold.proofs.Places.{is_some_alter}
-use Rattle.krs_model.proofs.Reach.Levels.{in_right, same_is}
-use Rattle.krs_model.proofs.Sound.Attached.{in_uid, attached_at, uid_keys}
-use Rattle.krs_hold.proofs.Gathered.{times-put, times-filter}
-use Rattle.krs_hold.proofs.Tallies.{tallied_hold, tallied_attached, tallied_let_go_all, all_less-append}
-use Rattle.krs_tables.specs.Holding.{more_of}
-use Rattle.std.proofs.lemmas.Bool.{true≢false}
-use Rattle.std.proofs.lemmas.Option.{none-some, same_Some}
-use Rattle.krs_types.specs.declared.name.Name.{Name}
-use Rattle.krs_model.specs.Table.{Table, at, put, alter}
-use Rattle.krs_model.specs.State as model
-use Rattle.krs_model.specs.Sweep.{roots, links_of_key}
-use Rattle.krs_model.specs.Reach.{links_of_key_at}
-use Rattle.krs_keys.proofs.KeysLemmas.{serials-content}
-use Rattle.krs_model.specs.Asks.Adding.{IsKeyringAt}
-use Rattle.krs_model.proofs.Tables.Changes.{at_map, alter_none, at_put_other, at_or_apart}
-use Rattle.krs_keys.specs.declared.key.Key.{Key}
-use Rattle.krs_keys.specs.declared.key.Content.{Content}
-use Rattle.krs_keys.specs.declared.key.Content.TheVariants.{Payload, Links}
-use Rattle.krs_keys.specs.declared.key.Change.{Change}
-use Rattle.krs_keys.specs.Keys.{seen, seen_content, shown, named_links_of_content, AreFit, name_at, with_entry, without_key}
-use Rattle.krs_keys.specs.Keys.{displaced_at}
-use Rattle.krs_keys.specs.Changes.{changed}
+use Rattle.std.proofs.Common.{[], ⊎_elim, ◌++◌, ◌+◌, ◌∙◌, ◌∷◌, ◌≡◌, ◌≤◌, ap, arith, Bool, filter, IfSome, IsSome, List}
+use Rattle.std.proofs.Common.{None, not, Option, option_map, option_to_list, refl, Some, subst, sym, true, true≢false}
+use Rattle.std.proofs.{Common.{unwrap_or, ℕ}, lemmas.Option.{none-some, same_Some}}
+use Rattle.krs_types.specs.declared.context.{Context.Context, UidRings.UidRings}
+use Rattle.krs_types.specs.declared.{kind.Kind.{Kind, TheVariants.{Keyring, Logon, User}}, name.Name.Name}
+use Rattle.krs_model.specs.{Asks.Adding.IsKeyringAt, Levels.is_in, Reach.links_of_key_at}
+use Rattle.krs_model.specs.Sweep.{context_roots, links_of_key, process_roots, roots, uid_roots}
+use Rattle.krs_model.specs.Table.{alter, at, put, Table}
+use Rattle.krs_model.proofs.{Reach.Levels.{in_right, same_is}, Sound.Attached.{attached_at, in_uid, uid_keys}}
+use Rattle.krs_model.proofs.Tables.Changes.{alter_none, at_map, at_or_apart, at_put_other}
 use Rattle.krs_links.specs.Links.{LinkList, serials}
-use Rattle.krs_hold.specs.Tally.{AreExact, with_number, one_more, one_less, all_less}
-use Rattle.krs_hold.specs.Taken.{taken_at}
-use Rattle.krs_hold.proofs.KeyTallies.{tallied_change, tallied_link, tallied_unlink, tallied_insert}
-use Rattle.krs_tables.specs.declared.tables.Tables.TheInside.{Inside}
-use Rattle.krs_tables.specs.View.{state_of}
+use Rattle.krs_keys.specs.{Changes.changed, Keys.{AreFit, displaced_at, name_at, named_links_of_content, seen}}
+use Rattle.krs_keys.specs.Keys.{seen_content, shown, with_entry, without_key}
+use Rattle.krs_keys.specs.declared.key.{Change.Change, Content.{Content, TheVariants.{Links, Payload}}, Key.Key}
+use Rattle.krs_keys.proofs.KeysLemmas.{serials-content}
+use Rattle.krs_hold.specs.{Taken.taken_at, Tally.all_less}
+use Rattle.krs_hold.specs.Tally.{all_links, AreExact, IsTallied, number_at, one_less, one_more, times, with_number}
+use Rattle.krs_hold.proofs.Gathered.{times-filter, times-put}
+use Rattle.krs_hold.proofs.KeyTallies.{tallied_change, tallied_insert, tallied_link, tallied_unlink}
+use Rattle.krs_hold.proofs.Places.{is_some_alter}
+use Rattle.krs_hold.proofs.Tallies.{all_less-append, more_with, number_other, some_with, tallied_attached, tallied_hold}
+use Rattle.krs_hold.proofs.{Tallies.{tallied_let_go_all, tallied_with}, Times.{in-times, times-append, times-cons}}
+use Rattle.krs_tables.specs.Holding.{more_of}
+use Rattle.krs_tables.specs.{Making.first_content, View.state_of, declared.tables.Tables.TheInside.Inside}
+use Rattle.krs_model.specs.State as model
 
 pub changed_tallied : (keys : Table Key) (attached : List ℕ) (numbers : Table ℕ) (k : ℕ) (c : Change)
     → AreExact keys numbers attached → AreExact (alter keys k (changed c))

@@ -1,11 +1,8 @@
 -- The contexts of a client.
-use Rattle.std.proofs.Common.{◌≡◌, ◌==◌, ℕ, true, false, if◌then◌else◌, Option, None, Some, Ok, Err}
-use Rattle.krs_types.specs.declared.errno.Errno.TheVariants.{ESRCH}
-use Rattle.krs_types.specs.declared.context.Context.{Context}
+use Rattle.std.proofs.Common.{◌==◌, ◌≡◌, Err, false, if◌then◌else◌, None, Ok, Option, Some, true, ℕ}
 use Rattle.krs_types.specs.Refusing.{◌>>=◌, or_refuse}
-use Rattle.krs_model.specs.Table.{at}
-use Rattle.krs_model.specs.State.{State}
-use Rattle.krs_model.specs.Lookup.{context_of, if_own}
+use Rattle.krs_types.specs.declared.{context.Context.Context, errno.Errno.TheVariants.ESRCH}
+use Rattle.krs_model.specs.{Lookup.{context_of, if_own}, State.State, Table.at}
 
 found_own :
     (client : ℕ) (o : Option Context) (c : Context) → (or_refuse ESRCH o >>= if_own client) ≡ Ok c → o ≡ Some c

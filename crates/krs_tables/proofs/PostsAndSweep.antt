@@ -1,24 +1,16 @@
 -- For a store that takes a step in turn: posts and the sweep touch different parts, so the order between them is free.
-use Rattle.std.proofs.Common.{◌≡◌, ℕ, List, [], ◌∷◌, ◌++◌, map, flat_map, Result, Ok}
-use Rattle.std.proofs.Common.{refl, ap, ◌∙◌, sym, subst, append_assoc}
-use Rattle.std.proofs.lemmas.List.{append-nil}
-use Rattle.krs_types.specs.declared.errno.Errno.{Errno}
-use Rattle.krs_types.specs.declared.ask.Answer.{Answer}
-use Rattle.krs_types.specs.declared.ask.Op.{Op}
-use Rattle.krs_model.specs.Table.{Table}
-use Rattle.krs_model.specs.State.{State, Key, Queue, raised}
-use Rattle.krs_model.specs.Queues.{Queues, Watch, queues_of}
-use Rattle.krs_model.specs.Reach.{IsAcyclic, links_of_key_at}
-use Rattle.krs_model.specs.Sound.{IsSound}
-use Rattle.krs_model.specs.Sweep.{IsSweep, live_watches}
-use Rattle.krs_model.specs.Step.{Serves, outcome_of, posts_by, watches_left}
-use Rattle.krs_tables.specs.Serving.{Tells, SweepsOut}
-use Rattle.krs_model.specs.Notes.Posting.{Note, Post, removal_for, posts_of, posts, dropped_watches, posted_in}
-use Rattle.krs_model.specs.Notes.Telling.{notes_of, ended_by}
-use Rattle.krs_model.proofs.Notes.Posts.{post_all-append}
-use Rattle.krs_model.proofs.Asks.Effects.{Effect, OfKeys, Opens, Filters, Reads, Closes, Watches, Unwatches, Leaves}
-use Rattle.krs_model.proofs.Asks.Effects.{effect_of}
-use Rattle.krs_model.proofs.Sound.Steps.{served_sound, served_acyclic, raised_sound}
+use Rattle.std.proofs.Common.{[], ◌++◌, ◌∙◌, ◌∷◌, ◌≡◌, ap, append-nil, append_assoc, flat_map, List, map, Ok, refl}
+use Rattle.std.proofs.Common.{Result, subst, sym, ℕ}
+use Rattle.krs_types.specs.declared.{ask.{Answer.Answer, Op.Op}, errno.Errno.Errno}
+use Rattle.krs_model.specs.Notes.Posting.{dropped_watches, Note, Post, posted_in, posts, posts_of, removal_for}
+use Rattle.krs_model.specs.Notes.Telling.{ended_by, notes_of}
+use Rattle.krs_model.specs.{Queues.{Queues, queues_of, Watch}, Reach.{IsAcyclic, links_of_key_at}, Sound.IsSound}
+use Rattle.krs_model.specs.{State.{Key, Queue, raised, State}, Step.{outcome_of, posts_by, Serves, watches_left}}
+use Rattle.krs_model.specs.{Sweep.{IsSweep, live_watches}, Table.Table}
+use Rattle.krs_model.proofs.Asks.Effects.{Closes, Effect, effect_of, Filters, Leaves, OfKeys, Opens, Reads, Unwatches}
+use Rattle.krs_model.proofs.Asks.Effects.{Watches}
+use Rattle.krs_model.proofs.{Notes.Posts.post_all-append, Sound.Steps.{raised_sound, served_acyclic, served_sound}}
+use Rattle.krs_tables.specs.Serving.{SweepsOut, Tells}
 
 -- what is swept after posts is what was swept before them, with those posts
 pub record SweptBefore (ps : List Post) (mid new : State) : Type 0 where

@@ -1,25 +1,16 @@
 -- The removal records of a sweep: where no watched key is dropped there are none.
-use Rattle.std.proofs.Common.{◌≡◌, ◌==◌, ℕ, List, [], ◌∷◌, Bool, true, false, ◌||◌, cond, filter, map, refl, ap}
-use Rattle.std.proofs.Common.{◌∙◌, sym}
-use Rattle.std.proofs.lemmas.Bool.{eq-eqb}
-use Rattle.std.specs.List.{list_any, AllByRecursion}
-use Rattle.std.specs.Option.{is_some, option_map}
-use Rattle.krs_model.specs.Table.{Table, at}
-use Rattle.krs_model.specs.State as model
-use Rattle.krs_model.specs.Queues.{Queues, Watch}
-use Rattle.krs_model.specs.Sweep.{live_watches}
+use Rattle.std.proofs.Common.{[], ◌==◌, ◌||◌, ◌∙◌, ◌∷◌, ◌≡◌, ap, Bool, cond, eq-eqb, false, filter, is_some, List, map}
+use Rattle.std.proofs.Common.{option_map, refl, sym, true, ℕ}
+use Rattle.std.specs.List.{AllByRecursion, list_any}
+use Rattle.krs_model.specs.Notes.Posting.{dropped_watches, removal_for}
+use Rattle.krs_model.specs.{Queues.{Queues, Watch}, Sweep.live_watches, Table.{at, Table}}
 use Rattle.krs_model.proofs.Tables.Changes.{at_map}
-use Rattle.krs_tables.specs.Serving.{SweepsOut}
-use Rattle.krs_model.specs.Notes.Posting.{removal_for, dropped_watches}
-use Rattle.krs_tables.proofs.PostsAndSweep.{posted_nothing}
-use Rattle.krs_tables.proofs.WatchedKeys.{none_dropped}
-use Rattle.krs_keys.specs.declared.key.Key.{Key}
-use Rattle.krs_keys.specs.Keys.{seen, shown}
-use Rattle.krs_keys.specs.Kept.{KeepsAll}
+use Rattle.krs_keys.specs.{Kept.KeepsAll, Keys.{seen, shown}, declared.key.Key.Key}
 use Rattle.krs_watch.specs.Changes.{swept}
-use Rattle.krs_tables.specs.declared.tables.Tables.TheInside.{Inside}
-use Rattle.krs_tables.specs.View.{state_of}
+use Rattle.krs_tables.specs.{Serving.SweepsOut, View.state_of, declared.tables.Tables.TheInside.Inside}
 use Rattle.krs_tables.proofs.Definitions.{IsSweptTable, swept_state}
+use Rattle.krs_tables.proofs.{PostsAndSweep.posted_nothing, WatchedKeys.none_dropped}
+use Rattle.krs_model.specs.State as model
 
 -- with these keys and queues
 abbrev pub with_both : Inside → Table Key → Queues → model.State

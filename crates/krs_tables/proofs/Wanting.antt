@@ -1,12 +1,7 @@
 -- Want of memory, of an ask that is accepted.
-use Rattle.std.proofs.Common.{◌≡◌, Result, Ok, Err, IsOk, refl, sym, subst}
-use Rattle.std.specs.Result.{IsErrAnd}
-use Rattle.krs_types.specs.declared.errno.Errno.{Errno}
-use Rattle.krs_types.specs.declared.fault.Fault.{Fault}
-use Rattle.krs_types.specs.declared.fault.Fault.TheVariants.{Memory}
-use Rattle.krs_types.specs.declared.ask.Answer.{Answer}
-use Rattle.krs_model.specs.State.{State}
-use Rattle.krs_model.specs.Outcome.{Outcome, Leads}
+use Rattle.std.proofs.Common.{◌≡◌, Err, IsErrAnd, IsOk, Ok, refl, Result, subst, sym}
+use Rattle.krs_types.specs.declared.{ask.Answer.Answer, errno.Errno.Errno, fault.Fault.{Fault, TheVariants.Memory}}
+use Rattle.krs_model.specs.{Outcome.{Leads, Outcome}, State.State}
 
 -- what comes to a state and an answer is accepted
 pub accepted : {A : Type 0} (meant : Result A Errno) (x : A) → meant ≡ Ok x → IsOk meant

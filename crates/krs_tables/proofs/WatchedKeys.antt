@@ -1,23 +1,12 @@
 -- Between an ask and its sweep each watch is at a key that is there: an ask takes no key away.
-use Rattle.std.proofs.Common.{◌≡◌, ℕ, List, [], ◌∷◌}
-use Rattle.std.proofs.Common.{refl, ap, sym, subst}
-use Rattle.krs_types.specs.declared.ask.Answer.{Answer}
-use Rattle.krs_types.specs.declared.ask.Op.{Op}
-use Rattle.krs_model.specs.Table.{Table}
-use Rattle.krs_model.specs.State.{State, Key, raised}
-use Rattle.krs_model.specs.Queues.{Queues, Watch}
-use Rattle.krs_model.specs.Orderly.{Each}
-use Rattle.krs_model.specs.Sound.{IsSound}
-use Rattle.krs_model.specs.Sweep.{live_watches}
+use Rattle.std.proofs.Common.{[], ◌∷◌, ◌≡◌, ap, List, refl, subst, sym, ℕ}
+use Rattle.krs_types.specs.declared.ask.{Answer.Answer, Op.Op}
+use Rattle.krs_model.specs.{Asks.Leaving.left, Notes.Posting.dropped_watches, Orderly.Each, Queues.{Queues, Watch}}
+use Rattle.krs_model.specs.{Sound.IsSound, State.{Key, raised, State}, Sweep.live_watches, Table.Table}
+use Rattle.krs_model.proofs.Asks.Effects.{Closes, Effect, effect_of, Filters, Leaves, OfKeys, Opens, Reads, Unwatches}
+use Rattle.krs_model.proofs.{Asks.Effects.Watches, Notes.Fitting.{each_filter, each_on}, Sound.Steps.raised_sound}
+use Rattle.krs_model.proofs.{Sound.Watches.{each_with, each_without}, Sweep.QueueAsks.{each_live, IsLive, live_each}}
 use Rattle.krs_tables.specs.Serving.{Tells}
-use Rattle.krs_model.specs.Notes.Posting.{dropped_watches}
-use Rattle.krs_model.specs.Asks.Leaving.{left}
-use Rattle.krs_model.proofs.Notes.Fitting.{each_filter, each_on}
-use Rattle.krs_model.proofs.Sound.Watches.{each_with, each_without}
-use Rattle.krs_model.proofs.Asks.Effects.{Effect, OfKeys, Opens, Filters, Reads, Closes, Watches, Unwatches, Leaves}
-use Rattle.krs_model.proofs.Asks.Effects.{effect_of}
-use Rattle.krs_model.proofs.Sound.Steps.{raised_sound}
-use Rattle.krs_model.proofs.Sweep.QueueAsks.{IsLive, live_each, each_live}
 
 no_dead : (keys : Table Key) (ws : List Watch) → Each (IsLive keys) ws → dropped_watches keys ws ≡ []
 no_dead keys [] h = refl

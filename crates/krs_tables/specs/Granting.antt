@@ -1,11 +1,7 @@
 -- What a key grants to a context: keyrings(7), "Access rights".
-use Rattle.std.specs.Prelude.{ℕ, Bool}
-use Rattle.krs_types.specs.declared.rights.Want.{Want}
-use Rattle.krs_types.specs.Rights.{allows}
-use Rattle.krs_types.specs.declared.context.Context.{Context}
-use Rattle.krs_model.specs.State.{State, Key}
-use Rattle.krs_model.specs.Access.{rights_on}
-use Rattle.krs_model.specs.Possession.{possessed}
+use Rattle.std.specs.Prelude.{Bool, ℕ}
+use Rattle.krs_types.specs.{Rights.allows, declared.{context.Context.Context, rights.Want.Want}}
+use Rattle.krs_model.specs.{Access.rights_on, Possession.possessed, State.{Key, State}}
 
 -- the rights of the context on a key, with the possessor's where it possesses it, are what is wanted
 abbrev pub allows_held : Want → Key → Context → Bool → Bool

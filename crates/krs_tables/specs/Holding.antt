@@ -1,11 +1,8 @@
 -- One attachment more.
-use Rattle.std.specs.Prelude.{ℕ, ◌+◌, ◌-◌, ◌<◌, ◌^◌, ◌++◌, List, [], Option, None, Some}
-use Rattle.std.specs.Option.{option_to_list}
+use Rattle.std.specs.Prelude.{[], ◌++◌, ◌+◌, ◌-◌, ◌<◌, ◌^◌, List, None, Option, option_to_list, Some, ℕ}
 use Rattle.krs_types.specs.declared.context.UidRings.{UidRings}
-use Rattle.krs_model.specs.Table.{Table}
-use Rattle.krs_model.specs.State.{State}
-use Rattle.krs_model.specs.Sweep.{roots}
-use Rattle.krs_hold.specs.Tally.{number_at, one_more, times, all_links}
+use Rattle.krs_model.specs.{State.State, Sweep.roots, Table.Table}
+use Rattle.krs_hold.specs.Tally.{all_links, number_at, one_more, times}
 
 -- one more may hold what it has
 abbrev pub HasRoom : Table ℕ → Option ℕ → Type 0

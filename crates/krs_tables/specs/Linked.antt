@@ -1,18 +1,9 @@
 -- What the store tells of one link more, or one less.
-use Rattle.std.specs.Prelude.{◌≡◌, ℕ, true, false, Option, Result, Ok, Err}
-use Rattle.std.specs.Option.{option_map}
-use Rattle.krs_types.specs.declared.errno.Errno.{Errno}
-use Rattle.krs_types.specs.declared.errno.Errno.TheVariants.{ENOENT}
-use Rattle.krs_types.specs.declared.fault.Fault.{Fault}
-use Rattle.krs_types.specs.declared.name.Name.{Name}
-use Rattle.krs_model.specs.Table.{Table, at}
-use Rattle.krs_model.specs.State.{State, Key}
-use Rattle.krs_model.specs.Levels.{is_in}
-use Rattle.krs_model.specs.Reach.{links_of_key_at}
-use Rattle.krs_model.specs.Linking.{linking, link_named, has_room}
-use Rattle.krs_model.specs.Outcome.{Fails}
+use Rattle.std.specs.Prelude.{◌≡◌, Err, false, Ok, Option, option_map, Result, true, ℕ}
+use Rattle.krs_types.specs.declared.{errno.Errno.{Errno, TheVariants.ENOENT}, fault.Fault.Fault, name.Name.Name}
 use Rattle.krs_model.specs.Asks.Changing.{changed}
-use Rattle.krs_model.specs.Asks.Linked.{name_of, without_link}
+use Rattle.krs_model.specs.{Asks.Linked.{name_of, without_link}, Levels.is_in, Linking.{has_room, link_named, linking}}
+use Rattle.krs_model.specs.{Outcome.Fails, Reach.links_of_key_at, State.{Key, State}, Table.{at, Table}}
 
 -- the name of the key at a serial
 abbrev pub name_in : State → ℕ → Option Name

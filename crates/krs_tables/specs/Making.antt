@@ -1,19 +1,10 @@
 -- The keys that asks make.
-use Rattle.std.specs.Prelude.{ℕ, ℤ, List, [], ◌++◌, None, false, decimal}
-use Rattle.krs_types.specs.declared.kind.Kind.{Kind}
-use Rattle.krs_types.specs.declared.kind.Kind.TheVariants.{User, Logon, Keyring}
-use Rattle.krs_types.specs.declared.name.Name.{Name}
-use Rattle.krs_types.specs.declared.caller.Caller.{Caller}
-use Rattle.krs_types.specs.Refusing.{◌>>=◌}
-use Rattle.krs_types.specs.Perm.{uid_mask}
-use Rattle.krs_model.specs.State.{State}
-use Rattle.krs_model.specs.Lookup.{context_of}
-use Rattle.krs_model.specs.Outcome.{Outcome}
-use Rattle.krs_model.specs.Asks.Adding.{first_perm, added_in}
-use Rattle.krs_keys.specs.declared.key.Key.{Key}
-use Rattle.krs_keys.specs.declared.key.Content.{Content}
-use Rattle.krs_keys.specs.declared.key.Content.TheVariants.{Payload, Links}
+use Rattle.std.specs.Prelude.{[], ◌++◌, decimal, false, List, None, ℕ, ℤ}
+use Rattle.krs_types.specs.{Perm.uid_mask, Refusing.◌>>=◌, declared.caller.Caller.Caller}
+use Rattle.krs_types.specs.declared.{kind.Kind.{Kind, TheVariants.{Keyring, Logon, User}}, name.Name.Name}
+use Rattle.krs_model.specs.{Asks.Adding.{added_in, first_perm}, Lookup.context_of, Outcome.Outcome, State.State}
 use Rattle.krs_links.specs.Links.{LinkList}
+use Rattle.krs_keys.specs.declared.key.{Content.{Content, TheVariants.{Links, Payload}}, Key.Key}
 
 -- a keyring of a uid
 abbrev pub named_uid_key : Name → LinkList → Caller → Key

@@ -1,16 +1,10 @@
 -- The parts of a step, as the store takes them one after the other; the form is this project's own. No part of a step's
 -- meaning: by the lemma serves_in_turn, where `Tells` and then `SweepsOut` lead to a state, so does `Serves`.
-use Rattle.std.specs.Prelude.{◌≡◌, ℕ, map, Result, Ok, Err}
-use Rattle.krs_types.specs.declared.ask.Answer.{Answer}
-use Rattle.krs_types.specs.declared.ask.Op.{Op}
-use Rattle.krs_types.specs.declared.fault.Fault.{Fault}
-use Rattle.krs_model.specs.State.{State}
-use Rattle.krs_model.specs.Queues.{queues_of}
-use Rattle.krs_model.specs.Sweep.{IsSweep}
-use Rattle.krs_model.specs.Outcome.{Fails}
-use Rattle.krs_model.specs.Step.{outcome_of}
-use Rattle.krs_model.specs.Notes.Posting.{posts, removal_for, dropped_watches, posted_in}
-use Rattle.krs_model.specs.Notes.Telling.{notes_of, ended_by}
+use Rattle.std.specs.Prelude.{◌≡◌, Err, map, Ok, Result, ℕ}
+use Rattle.krs_types.specs.declared.{ask.{Answer.Answer, Op.Op}, fault.Fault.Fault}
+use Rattle.krs_model.specs.Notes.Posting.{dropped_watches, posted_in, posts, removal_for}
+use Rattle.krs_model.specs.Notes.Telling.{ended_by, notes_of}
+use Rattle.krs_model.specs.{Outcome.Fails, Queues.queues_of, State.State, Step.outcome_of, Sweep.IsSweep}
 
 -- an accepted ask has its effect; its notes are posted, and a removal record of the watch that it ended
 pub record Tells (s : State) (client context : ℕ) (op : Op) (answer : Answer) (told : State) : Type 0 where

@@ -1,41 +1,23 @@
 -- The thread and process keyrings that the store makes.
-use Rattle.std.specs.Prelude.{◌≡◌, ◌==◌, ℕ, ℤ, ◌+◌, List, [], ◌∷◌, None, Some, Option, Bool, true, false, codes}
-use Rattle.std.specs.Prelude.{nat_lt, Result, Ok, Err}
-use Rattle.krs_types.specs.declared.errno.Errno.{Errno}
-use Rattle.krs_types.specs.declared.errno.Errno.TheVariants.{ENOKEY, ELOOP, ENOSPC}
-use Rattle.krs_types.specs.declared.ask.Answer.{Answer}
+use Rattle.std.specs.Prelude.{[], ◌+◌, ◌==◌, ◌∷◌, ◌≡◌, Bool, codes, Err, false, List, nat_lt, None, Ok, Option, Result}
+use Rattle.std.specs.Prelude.{Some, true, ℕ, ℤ}
+use Rattle.krs_types.specs.{KeyId.key_id_of, Perm.key_mask, Refusing.{◌>>=◌, or_refuse}, declared.ask.Answer.Answer}
 use Rattle.krs_types.specs.declared.ask.Answer.TheVariants.{Number}
-use Rattle.krs_types.specs.declared.kind.Kind.TheVariants.{Keyring}
-use Rattle.krs_types.specs.declared.key_id.KeyId.{KeyId}
-use Rattle.krs_types.specs.declared.key_id.KeyId.TheVariants as id
-use Rattle.krs_types.specs.KeyId.{key_id_of}
-use Rattle.krs_types.specs.Refusing.{◌>>=◌, or_refuse}
-use Rattle.krs_types.specs.declared.name.Name.{Name}
-use Rattle.krs_types.specs.declared.context.Context.{Context}
-use Rattle.krs_types.specs.Perm.{key_mask}
-use Rattle.krs_model.specs.Table.{at}
-use Rattle.krs_model.specs.State.{State}
-use Rattle.krs_model.specs.State as model
-use Rattle.krs_model.specs.Possession.{process_ring}
-use Rattle.krs_model.specs.Lookup.{context_of}
-use Rattle.krs_model.specs.Linking.{linking}
-use Rattle.krs_model.specs.Reach.{has_chain, nesting_depth}
-use Rattle.krs_model.specs.Making.{with_new, with_thread, with_process, thread_to, made_for}
-use Rattle.krs_model.specs.Making.{within_serials}
+use Rattle.krs_types.specs.declared.{context.Context.Context, errno.Errno.{Errno, TheVariants.{ELOOP, ENOKEY, ENOSPC}}}
+use Rattle.krs_types.specs.declared.{key_id.KeyId.KeyId, kind.Kind.TheVariants.Keyring, name.Name.Name}
 use Rattle.krs_model.specs.Asks.Adding.{made, new_key}
-use Rattle.krs_model.specs.Asks.Changing.{changed}
-use Rattle.krs_model.specs.Asks.Linked.{unless, name_of}
+use Rattle.krs_model.specs.{Asks.{Changing.changed, Linked.{name_of, unless}}, Linking.linking, Lookup.context_of}
+use Rattle.krs_model.specs.Making.{made_for, thread_to, with_new, with_process, with_thread, within_serials}
 use Rattle.krs_model.specs.Outcome.{Outcome}
-use Rattle.krs_tables.specs.Linked.{name_in}
-use Rattle.krs_ctx.specs.Anchors.{Anchors, anchored, anchors_of}
-use Rattle.krs_ctx.specs.Told as anchors
-use Rattle.krs_keys.specs.declared.key.Key.{Key}
-use Rattle.krs_keys.specs.declared.key.Content.TheVariants.{Links}
-use Rattle.krs_keys.specs.Keys.{seen}
+use Rattle.krs_model.specs.{Possession.process_ring, Reach.{has_chain, nesting_depth}, State.State, Table.at}
+use Rattle.krs_ctx.specs.Anchors.{anchored, Anchors, anchors_of}
 use Rattle.krs_links.specs.Links.{LinkList}
-use Rattle.krs_tables.specs.declared.making.Special.{Special}
-use Rattle.krs_tables.specs.declared.making.Special.TheVariants.{Thread, Process}
-use Rattle.krs_tables.specs.declared.making.Maker.{Maker}
+use Rattle.krs_keys.specs.{Keys.seen, declared.key.{Content.TheVariants.Links, Key.Key}}
+use Rattle.krs_tables.specs.Linked.{name_in}
+use Rattle.krs_tables.specs.declared.making.{Maker.Maker, Special.{Special, TheVariants.{Process, Thread}}}
+use Rattle.krs_ctx.specs.Told as anchors
+use Rattle.krs_model.specs.State as model
+use Rattle.krs_types.specs.declared.key_id.KeyId.TheVariants as id
 
 -- the state and the context of the definitions, where this keyring is made
 abbrev pub made_as : Option Special → State → ℕ → Context → State × Context

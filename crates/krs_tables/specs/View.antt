@@ -1,9 +1,8 @@
 -- Which state a store stands for, and what is true of each.
-use Rattle.krs_model.specs.State.{State}
-use Rattle.krs_model.specs.Sweep.{roots}
+use Rattle.krs_model.specs.{State.State, Sweep.roots}
+use Rattle.krs_keys.specs.Keys.{AreFit, AreOfKind, shown}
 use Rattle.krs_hold.specs.Tally.{AreExact}
 use Rattle.krs_tables.specs.declared.tables.Tables.TheInside.{Inside}
-use Rattle.krs_keys.specs.Keys.{shown, AreFit, AreOfKind}
 
 abbrev pub state_of : Inside → State
 state_of s = record {

@@ -1,12 +1,9 @@
 //! Whether a key is out of a context's reach, told from the key up. The keyrings that are noted to link it are looked
 //! at. They are all that do where they and its attachments are as many as its holders, of which the number is exact.
-ghost use Rattle.std.specs.Prelude.{◌≡◌, ◌≤◌, ◌<◌, ◌-◌, IsSome, IfSome, true, false};
-ghost use Rattle.std.specs.Option.{option_to_list};
-ghost use Rattle.krs_model.specs.Levels.{levels, is_in};
-ghost use Rattle.krs_model.specs.Possession.{attached, followed_in, possessed};
-ghost use Rattle.krs_model.specs.Reach.{links_of_key_at};
-ghost use Rattle.krs_model.specs.Sweep.{context_roots, process_roots, uid_roots, roots};
-ghost use Rattle.krs_hold.specs.Tally.{times, all_links};
+ghost use Rattle.std.specs.Prelude.{◌-◌, ◌<◌, ◌≡◌, ◌≤◌, false, IfSome, IsSome, option_to_list, true};
+ghost use Rattle.krs_model.specs.{Levels.{is_in, levels}, Possession.{attached, followed_in, possessed}};
+ghost use Rattle.krs_model.specs.{Reach.links_of_key_at, Sweep.{context_roots, process_roots, roots, uid_roots}};
+ghost use Rattle.krs_hold.specs.Tally.{all_links, times};
 
 use crate::Tables;
 use krs_types::{Context, SEARCH_DEPTH, Serial, UidRings};

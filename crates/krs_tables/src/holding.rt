@@ -1,7 +1,7 @@
-ghost use Rattle.std.specs.Prelude.{◌≡◌, ◌≤◌, ◌+◌, ◌-◌, ◌^◌, ◌↔◌, ℕ, List, OnOk, IsOk, IsSome};
-ghost use Rattle.krs_model.specs.Table.{Table, at};
+ghost use Rattle.std.specs.Prelude.{◌+◌, ◌-◌, ◌^◌, ◌↔◌, ◌≡◌, ◌≤◌, IsOk, IsSome, List, OnOk, ℕ};
+ghost use Rattle.krs_model.specs.Table.{at, Table};
 ghost use Rattle.krs_keys.specs.declared.key.Key.{Key};
-ghost use Rattle.krs_hold.specs.Tally.{AreExact, number_at, with_number, one_more};
+ghost use Rattle.krs_hold.specs.Tally.{AreExact, number_at, one_more, with_number};
 ghost use Rattle.krs_tables.specs.Holding.{HasRoom, more_of};
 
 use krs_hold::Holders;

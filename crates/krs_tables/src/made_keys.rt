@@ -1,6 +1,6 @@
 ghost use Rattle.std.specs.Prelude.{◌≡◌};
 ghost use Rattle.krs_model.specs.Asks.Adding.{first_perm};
-ghost use Rattle.krs_tables.specs.Making.{maker_key, first_content};
+ghost use Rattle.krs_tables.specs.Making.{first_content, maker_key};
 
 use crate::Tables;
 use krs_keys::{Content, Key};

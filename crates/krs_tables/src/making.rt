@@ -1,16 +1,10 @@
-ghost use Rattle.std.specs.Prelude.{◌≡◌, ◌≤◌, ◌+◌, [], ◌∷◌, IfOk, IfErr, OnOk, OnErr};
-ghost use Rattle.std.specs.Option.{option_to_list};
-ghost use Rattle.krs_types.specs.declared.errno.Errno.TheVariants.{ENOSPC};
-ghost use Rattle.krs_model.specs.Lookup.{context_of};
-ghost use Rattle.krs_model.specs.Making.{made_for};
+ghost use Rattle.std.specs.Prelude.{[], ◌+◌, ◌∷◌, ◌≡◌, ◌≤◌, IfErr, IfOk, OnErr, OnOk, option_to_list};
+ghost use Rattle.krs_types.specs.{Name.same_name, declared.errno.Errno.TheVariants.ENOSPC};
 ghost use Rattle.krs_model.specs.Asks.Adding.{made, new_key};
-ghost use Rattle.krs_model.specs.Outcome.{Leads};
-ghost use Rattle.krs_model.specs.Sound.{IsSound};
-ghost use Rattle.krs_types.specs.Name.{same_name};
+ghost use Rattle.krs_model.specs.{Lookup.context_of, Making.made_for, Outcome.Leads, Sound.IsSound};
 ghost use Rattle.krs_tables.specs.Making.{maker_key};
-ghost use Rattle.krs_tables.specs.Specials.{made_as, special_name, ring_key, Makes, IsMissing, ring_made};
-ghost use Rattle.krs_tables.specs.Specials.{linking_made, adding_made};
-ghost use Rattle.krs_tables.specs.Specials.{maker_of, attached_as, HasPlace, AreLinksTo, ring_at};
+ghost use Rattle.krs_tables.specs.Specials.{adding_made, AreLinksTo, attached_as, HasPlace, IsMissing, linking_made};
+ghost use Rattle.krs_tables.specs.Specials.{made_as, maker_of, Makes, ring_at, ring_key, ring_made, special_name};
 
 use crate::holding::{check_room, hold_of, make_room};
 use crate::tables::Tables;

@@ -1,18 +1,9 @@
-ghost use Rattle.std.specs.Prelude.{◌≡◌, ◌≤◌, [], Some, IfSome, IfOk};
-ghost use Rattle.std.specs.Option.{option_map};
-ghost use Rattle.krs_model.specs.Table.{at};
-ghost use Rattle.krs_model.specs.State.{starting_at, raised};
-ghost use Rattle.krs_model.specs.Possession.{process_ring, possessed};
-ghost use Rattle.krs_model.specs.Lookup.{context_of, serial_of, look_up};
-ghost use Rattle.krs_model.specs.Outcome.{Is};
-ghost use Rattle.krs_tables.specs.Serving.{SweepsOut};
-ghost use Rattle.krs_model.specs.Sweep.{live_watches};
-ghost use Rattle.krs_model.specs.Reach.{IsAcyclic, links_of_key_at};
-ghost use Rattle.krs_model.specs.Asks.Changing.{changed};
-ghost use Rattle.krs_keys.specs.Keys.{seen, FindsByName};
-ghost use Rattle.krs_keys.specs.Changes.{meant_change};
-ghost use Rattle.krs_tables.specs.Granting.{grants_to};
-ghost use Rattle.krs_tables.specs.Linked.{name_in};
+ghost use Rattle.std.specs.Prelude.{[], ◌≡◌, ◌≤◌, IfOk, IfSome, option_map, Some};
+ghost use Rattle.krs_model.specs.{Asks.Changing.changed, Lookup.{context_of, look_up, serial_of}, Outcome.Is};
+ghost use Rattle.krs_model.specs.{Possession.{possessed, process_ring}, Reach.{IsAcyclic, links_of_key_at}};
+ghost use Rattle.krs_model.specs.{State.{raised, starting_at}, Sweep.live_watches, Table.at};
+ghost use Rattle.krs_keys.specs.{Changes.meant_change, Keys.{FindsByName, seen}};
+ghost use Rattle.krs_tables.specs.{Granting.grants_to, Linked.name_in, Serving.SweepsOut};
 
 use krs_ctx::Contexts;
 use krs_hold::Holders;
@@ -46,7 +37,7 @@ impl Model for Tables {
 
     ghost Value = { State };
 
-    ghost use Rattle.krs_tables.specs.View.{state_of, IsConsistent};
+    ghost use Rattle.krs_tables.specs.View.{IsConsistent, state_of};
 
     ghost view = { state_of };
 

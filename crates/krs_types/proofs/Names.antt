@@ -1,13 +1,8 @@
 -- Names that are the same are equal.
-use Rattle.std.proofs.Common.{◌≡◌, ℕ, List, Bool, true, false, ◌&&◌, nat_eq, refl, sym, ap, ◌∙◌, arith, rules}
-use Rattle.std.specs.Cmp.{IsEquivalence}
-use Rattle.std.specs.Cmp.Lexicographic.{pointwise, same_text}
-use Rattle.std.specs.Cmp.Rules.{comparing}
-use Rattle.std.proofs.lemmas.Bool.{eqb-true}
-use Rattle.krs_types.specs.declared.kind.Kind.{Kind}
-use Rattle.krs_types.specs.declared.kind.Kind.TheVariants.{User, Logon, Keyring}
-use Rattle.krs_types.specs.declared.name.Name.{Name}
-use Rattle.krs_types.specs.Name.{same_name, kind_number}
+use Rattle.std.proofs.Common.{◌&&◌, ◌∙◌, ◌≡◌, ap, arith, Bool, eqb-true, false, List, nat_eq, refl, rules, sym, true, ℕ}
+use Rattle.std.specs.Cmp.{IsEquivalence, Lexicographic.{pointwise, same_text}, Rules.comparing}
+use Rattle.krs_types.specs.Name.{kind_number, same_name}
+use Rattle.krs_types.specs.declared.{kind.Kind.{Kind, TheVariants.{Keyring, Logon, User}}, name.Name.Name}
 
 pub and_left : (a b : Bool) → (a && b) ≡ true → a ≡ true
 and_left true b h = refl

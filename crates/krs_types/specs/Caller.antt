@@ -1,9 +1,6 @@
 -- Whom a client says that it is: credentials(7).
-use Rattle.std.specs.Prelude.{ℕ, ◌==◌, ◌||◌, Bool, length, nat_lt, if◌then◌else◌, Result, Ok, Err}
-use Rattle.std.specs.List.{list_any}
-use Rattle.krs_types.specs.declared.errno.Errno.{Errno}
-use Rattle.krs_types.specs.declared.errno.Errno.TheVariants.{EINVAL}
-use Rattle.krs_types.specs.declared.caller.Caller.{Caller}
+use Rattle.std.specs.{Prelude.{◌==◌, ◌||◌, Bool, Err, if◌then◌else◌, length, nat_lt, Ok, Result, ℕ}, List.list_any}
+use Rattle.krs_types.specs.declared.{caller.Caller.Caller, errno.Errno.{Errno, TheVariants.EINVAL}}
 
 -- the gid is the caller's, or one of its groups
 abbrev pub is_of_group : Caller → ℕ → Bool

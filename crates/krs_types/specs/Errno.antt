@@ -1,10 +1,9 @@
 -- Why an ask is refused: the names and numbers of errno(3).
-use Rattle.std.specs.Prelude.{ℕ, List, [], ◌∷◌, codes}
-use Rattle.krs_types.specs.declared.errno.Errno.{Errno}
-use Rattle.krs_types.specs.declared.errno.Errno.TheVariants.{EPERM, ENOENT, ESRCH, EBADF, EAGAIN, ENOMEM, EACCES}
-use Rattle.krs_types.specs.declared.errno.Errno.TheVariants.{EBUSY, EEXIST, ENODEV, ENOTDIR, EINVAL, ENFILE, ENOSPC}
-use Rattle.krs_types.specs.declared.errno.Errno.TheVariants.{EDEADLK, ELOOP, EBADSLT, EOPNOTSUPP, ENOBUFS, ENOKEY}
-use Rattle.krs_types.specs.declared.errno.Errno.TheVariants.{EKEYEXPIRED, EKEYREVOKED}
+use Rattle.std.specs.Prelude.{[], ◌∷◌, codes, List, ℕ}
+use Rattle.krs_types.specs.declared.errno.Errno.{Errno, TheVariants.{EACCES, EAGAIN, EBADF, EBADSLT, EBUSY, EDEADLK}}
+use Rattle.krs_types.specs.declared.errno.Errno.TheVariants.{EEXIST, EINVAL, EKEYEXPIRED, EKEYREVOKED, ELOOP, ENFILE}
+use Rattle.krs_types.specs.declared.errno.Errno.TheVariants.{ENOBUFS, ENODEV, ENOENT, ENOKEY, ENOMEM, ENOSPC, ENOTDIR}
+use Rattle.krs_types.specs.declared.errno.Errno.TheVariants.{EOPNOTSUPP, EPERM, ESRCH}
 
 -- the number of an error: uapi asm-generic/errno-base.h and errno.h
 abbrev pub number_of : Errno → ℕ

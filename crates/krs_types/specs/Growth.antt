@@ -1,7 +1,6 @@
 -- Which asks may find no memory: docs/FORMAT.md, "Asks that take no memory".
 use Rattle.std.specs.Prelude.{Bool}
-use Rattle.krs_types.specs.declared.ask.Op.{Op}
-use Rattle.krs_types.specs.Rows.{row_of}
+use Rattle.krs_types.specs.{Rows.row_of, declared.ask.Op.Op}
 pub use Rattle.krs_types.specs.Rows.{has_destination, ends_watch}
 
 -- the ask takes memory: it makes something, links a key, keeps bytes, or is answered with bytes

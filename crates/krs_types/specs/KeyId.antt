@@ -1,9 +1,7 @@
 -- What a key id names: keyctl(2), keyrings(7).
-use Rattle.std.specs.Prelude.{zero, suc, ℤ, pos, negsuc, Result, Ok, Err}
-use Rattle.krs_types.specs.declared.errno.Errno.{Errno}
-use Rattle.krs_types.specs.declared.errno.Errno.TheVariants.{EINVAL}
-use Rattle.krs_types.specs.declared.key_id.KeyId.{KeyId}
-use Rattle.krs_types.specs.declared.key_id.KeyId.TheVariants.{Serial, Thread, Process, Session, User, UserSession}
+use Rattle.std.specs.Prelude.{Err, negsuc, Ok, pos, Result, suc, zero, ℤ}
+use Rattle.krs_types.specs.declared.{errno.Errno.{Errno, TheVariants.EINVAL}, key_id.KeyId.KeyId}
+use Rattle.krs_types.specs.declared.key_id.KeyId.TheVariants.{Process, Serial, Session, Thread, User, UserSession}
 
 -- a number above 0 is a serial, and -1 to -5 are the special keyrings, in the order of uapi linux/keyctl.h; `negsuc n`
 -- is -1 - n: profile, known special ids

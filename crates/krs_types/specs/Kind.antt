@@ -1,12 +1,8 @@
 -- The types of keys, and what their names, descriptions and payloads may be: add_key(2), keyrings(7).
-use Rattle.std.specs.Prelude.{ℕ, ◌==◌, ◌&&◌, ◌||◌, List, Bool, true, false, not, length, nat_lt, nat_le}
-use Rattle.std.specs.Prelude.{if◌then◌else◌, Result, Ok, Err, codes, bytes_eq, slice_index}
-use Rattle.std.specs.List.{list_any}
-use Rattle.krs_types.specs.declared.errno.Errno.{Errno}
-use Rattle.krs_types.specs.declared.errno.Errno.TheVariants.{EINVAL, EPERM, ENODEV}
-use Rattle.krs_types.specs.declared.kind.Kind.{Kind}
-use Rattle.krs_types.specs.declared.kind.Kind.TheVariants.{User, Logon, Keyring}
-use Rattle.krs_types.specs.Refusing.{◌>>=◌}
+use Rattle.std.specs.Prelude.{◌&&◌, ◌==◌, ◌||◌, Bool, bytes_eq, codes, Err, false, if◌then◌else◌, length, List, nat_le}
+use Rattle.std.specs.{Prelude.{nat_lt, not, Ok, Result, slice_index, true, ℕ}, List.list_any}
+use Rattle.krs_types.specs.{Refusing.◌>>=◌, declared.errno.Errno.{Errno, TheVariants.{EINVAL, ENODEV, EPERM}}}
+use Rattle.krs_types.specs.declared.kind.Kind.{Kind, TheVariants.{Keyring, Logon, User}}
 
 -- the name of a type
 abbrev pub kind_name : Kind → List ℕ

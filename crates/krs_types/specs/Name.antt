@@ -1,10 +1,6 @@
 -- By what a key is found in a keyring: its type and its description. keyrings(7), "Keyrings".
-use Rattle.std.specs.Prelude.{ℕ, Bool, nat_eq}
-use Rattle.std.specs.Ordering.{on, eq_of_both}
-use Rattle.std.specs.Cmp.Lexicographic.{pointwise}
-use Rattle.krs_types.specs.declared.kind.Kind.{Kind}
-use Rattle.krs_types.specs.declared.kind.Kind.TheVariants.{User, Logon, Keyring}
-use Rattle.krs_types.specs.declared.name.Name.{Name}
+use Rattle.std.specs.{Prelude.{Bool, nat_eq, ℕ}, Cmp.Lexicographic.pointwise, Ordering.{eq_of_both, on}}
+use Rattle.krs_types.specs.declared.{kind.Kind.{Kind, TheVariants.{Keyring, Logon, User}}, name.Name.Name}
 
 -- a number of its own for each type
 abbrev pub kind_number : Kind → ℕ

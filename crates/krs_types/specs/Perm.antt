@@ -1,10 +1,7 @@
 -- What a permission mask grants: keyrings(7), "Access rights"; keyctl(2), KEYCTL_SETPERM.
-use Rattle.std.specs.Prelude.{ℕ, ◌/◌, ◌%◌, ◌==◌, Bool, if◌then◌else◌, Result, Ok, Err}
-use Rattle.std.specs.Int.RustNames.{bit_and, bit_or}
-use Rattle.krs_types.specs.declared.errno.Errno.{Errno}
-use Rattle.krs_types.specs.declared.errno.Errno.TheVariants.{EINVAL}
-use Rattle.krs_types.specs.declared.caller.Caller.{Caller}
+use Rattle.std.specs.Prelude.{◌%◌, ◌/◌, ◌==◌, bit_and, bit_or, Bool, Err, if◌then◌else◌, Ok, Result, ℕ}
 use Rattle.krs_types.specs.Caller.{is_of_group}
+use Rattle.krs_types.specs.declared.{caller.Caller.Caller, errno.Errno.{Errno, TheVariants.EINVAL}}
 
 -- each right in each of the four bytes
 abbrev pub all_rights : ℕ

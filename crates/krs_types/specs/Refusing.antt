@@ -1,5 +1,5 @@
 -- Steps that may refuse: the first refusal is the answer. The form is this project's own.
-use Rattle.std.specs.Prelude.{Option, None, Some, Result, Ok, Err}
+use Rattle.std.specs.Prelude.{Err, None, Ok, Option, Result, Some}
 use Rattle.krs_types.specs.declared.errno.Errno.{Errno}
 
 infixl 10 ◌>>=◌

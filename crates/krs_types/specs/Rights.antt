@@ -1,9 +1,6 @@
 -- Rights on a key, and which of them an ask wants: keyctl(2), uapi linux/keyctl.h and the kernel's key.h.
-use Rattle.std.specs.Prelude.{ℕ, ◌==◌, ◌&&◌, ◌||◌, Bool}
-use Rattle.std.specs.Int.RustNames.{bit_and}
-use Rattle.krs_types.specs.declared.rights.Rights.{Rights}
-use Rattle.krs_types.specs.declared.rights.Want.{Want}
-use Rattle.krs_types.specs.declared.rights.Want.TheVariants.{Granted, Either, ToRead}
+use Rattle.std.specs.Prelude.{◌&&◌, ◌==◌, ◌||◌, bit_and, Bool, ℕ}
+use Rattle.krs_types.specs.declared.rights.{Rights.Rights, Want.{Want, TheVariants.{Either, Granted, ToRead}}}
 
 -- a key's type, description, owner and mask may be read: keyrings(7), "Access rights"
 abbrev pub VIEW : Rights

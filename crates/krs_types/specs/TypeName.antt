@@ -1,8 +1,6 @@
 -- The name of a type as a client gave it: add_key(2), "type".
-use Rattle.std.specs.Prelude.{ℕ, List, []}
-use Rattle.krs_types.specs.declared.type_name.Given.{Given}
-use Rattle.krs_types.specs.declared.type_name.Given.TheVariants.{Empty, Known, Other}
-use Rattle.krs_types.specs.Kind.{kind_name}
+use Rattle.std.specs.Prelude.{[], List, ℕ}
+use Rattle.krs_types.specs.{Kind.kind_name, declared.type_name.Given.{Given, TheVariants.{Empty, Known, Other}}}
 
 -- its bytes
 abbrev pub given_name : Given → List ℕ

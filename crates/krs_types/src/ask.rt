@@ -1,6 +1,5 @@
-ghost use Rattle.std.specs.Prelude.{◌≡◌, ◌↔◌, IfOk, IsTrue};
-ghost use Rattle.krs_types.specs.Growth.{grows};
-ghost use Rattle.krs_types.specs.Rows.{row_of};
+ghost use Rattle.std.specs.Prelude.{◌↔◌, ◌≡◌, IfOk, IsTrue};
+ghost use Rattle.krs_types.specs.{Growth.grows, Rows.row_of};
 
 use crate::{Blob, Body, Caller, Errno, FilterEntries, TypeName};
 use std::alloc::{AllocError, Global};

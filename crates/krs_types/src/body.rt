@@ -1,4 +1,4 @@
-ghost use Rattle.std.specs.Prelude.{◌≡◌, ◌≤◌, [], length, vec_len, IfOk};
+ghost use Rattle.std.specs.Prelude.{[], ◌≡◌, ◌≤◌, IfOk, length, vec_len};
 
 use crate::wipe;
 use std::alloc::{AllocError, Global};
@@ -12,7 +12,7 @@ pub struct Body {
 }
 
 impl Model for Body {
-    ghost use Rattle.std.specs.Prelude.{List, ℕ, ◌≤◌, length};
+    ghost use Rattle.std.specs.Prelude.{◌≤◌, length, List, ℕ};
 
     ghost Value = { List ℕ };
 

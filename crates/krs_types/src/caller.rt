@@ -1,5 +1,4 @@
-ghost use Rattle.std.specs.Prelude.{◌≡◌, ◌==◌, IfOk};
-ghost use Rattle.std.specs.List.{list_any};
+ghost use Rattle.std.specs.{Prelude.{◌==◌, ◌≡◌, IfOk}, List.list_any};
 
 use crate::Errno;
 use std::alloc::{AllocError, Global};
@@ -57,7 +56,7 @@ pub struct Caller {
 }
 
 impl Caller {
-    ghost use Rattle.krs_types.specs.Caller.{is_of_group, caller_check};
+    ghost use Rattle.krs_types.specs.Caller.{caller_check, is_of_group};
 
     /// Whether a gid is the caller's, or one of its groups.
     pub fn is_of_group(&self, gid: u32) -> bool

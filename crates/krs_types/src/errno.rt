@@ -1,5 +1,5 @@
-ghost use Rattle.std.specs.Prelude.{◌≡◌, ◌==◌, find};
-ghost use Rattle.krs_types.specs.Errno.{number_of, name_of, errnos};
+ghost use Rattle.std.specs.Prelude.{◌==◌, ◌≡◌, find};
+ghost use Rattle.krs_types.specs.Errno.{errnos, name_of, number_of};
 
 /// Why an ask is refused: the names and numbers of errno(3) on Linux.
 #[derive(Clone, Copy, Debug, PartialEq, Eq)]

@@ -1,7 +1,6 @@
-ghost use Rattle.std.specs.Prelude.{◌≡◌, ◌==◌, ◌≤◌, length, OnOk};
-ghost use Rattle.std.specs.List.{list_any};
-ghost use Rattle.krs_types.specs.Kind.{kind_named, kind_name, same_kind, is_bad_text, begins_with, described};
-ghost use Rattle.krs_types.specs.Kind.{described_as, paid, checked};
+ghost use Rattle.std.specs.{Prelude.{◌==◌, ◌≡◌, ◌≤◌, length, OnOk}, List.list_any};
+ghost use Rattle.krs_types.specs.Kind.{begins_with, checked, described, described_as, is_bad_text, kind_name};
+ghost use Rattle.krs_types.specs.Kind.{kind_named, paid, same_kind};
 
 use crate::Errno;
 

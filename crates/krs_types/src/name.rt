@@ -1,10 +1,9 @@
-ghost use Rattle.std.specs.Prelude.{◌≡◌, ◌≤◌, ◌++◌, [], ◌∷◌, length, nat_eq, IfOk};
-ghost use Rattle.std.specs.Cmp.{partial_equiv_from_equiv};
-ghost use Rattle.std.specs.Cmp.Lexicographic.{pointwise, nat_list_eq_equiv, same_text};
+ghost use Rattle.std.specs.Prelude.{[], ◌++◌, ◌∷◌, ◌≡◌, ◌≤◌, IfOk, length, nat_eq};
+ghost use Rattle.std.proofs.Common.{ap, rules, sym};
+ghost use Rattle.std.specs.Cmp.{partial_equiv_from_equiv, Lexicographic.{nat_list_eq_equiv, pointwise, same_text}};
 ghost use Rattle.std.specs.Cmp.Rules.{comparing, hashing};
-ghost use Rattle.std.specs.Hash as fed;
-ghost use Rattle.std.proofs.Common.{rules, ap, sym};
 ghost use Rattle.krs_types.specs.Name.{kind_number, same_name};
+ghost use Rattle.std.specs.Hash as fed;
 
 use crate::{Blob, Kind};
 use std::alloc::{AllocError, Global};
@@ -18,7 +17,7 @@ pub struct Desc {
 }
 
 impl Model for Desc {
-    ghost use Rattle.std.specs.Prelude.{List, ℕ, ◌≤◌, length};
+    ghost use Rattle.std.specs.Prelude.{◌≤◌, length, List, ℕ};
 
     ghost Value = { List ℕ };
 

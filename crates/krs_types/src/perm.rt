@@ -1,5 +1,5 @@
 ghost use Rattle.std.specs.Prelude.{◌≡◌};
-ghost use Rattle.krs_types.specs.Perm.{perm_of, granted};
+ghost use Rattle.krs_types.specs.Perm.{granted, perm_of};
 
 use crate::{Caller, Errno, Rights};
 use bitflags::Flags;
@@ -16,8 +16,7 @@ pub struct Perm {
 }
 
 impl Model for Perm {
-    ghost use Rattle.std.specs.Prelude.{ℕ, ◌≡◌};
-    ghost use Rattle.std.specs.Int.RustNames.{bit_and};
+    ghost use Rattle.std.specs.Prelude.{◌≡◌, bit_and, ℕ};
 
     ghost Value = { ℕ };
 

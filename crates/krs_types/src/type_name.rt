@@ -1,4 +1,4 @@
-ghost use Rattle.std.specs.Prelude.{◌≡◌, [], IfOk, IsOk};
+ghost use Rattle.std.specs.Prelude.{[], ◌≡◌, IfOk, IsOk};
 ghost use Rattle.krs_types.specs.Kind.{kind_named};
 
 use crate::{Blob, Errno, Kind};

@@ -1,34 +1,24 @@
 -- Laws of a walk from a key that goes along links until it comes to a goal.
-use Rattle.std.proofs.Common.{◌≡◌, ◌≤◌, ◌<◌, ◌+◌, ◌-◌, ℕ, suc, ◌==◌, ◌||◌, true, false, Bool, List, [], ◌∷◌, ◌++◌}
-use Rattle.std.proofs.Common.{length, take, get_or, eqb, refl, ap, ◌∙◌, sym, subst, inl, inr, ⊎_elim, arith, map}
-use Rattle.std.proofs.Common.{cond, Option, None, Some, is_some, ◌↔◌}
-use Rattle.std.proofs.lemmas.Bool.{true≢false, cases_lt}
-use Rattle.std.proofs.lemmas.Bool.Decides.{nat_tests}
-use Rattle.std.proofs.lemmas.List.{take_more, take-append-le, take_all, length-append, length-map, get_or_append_left}
-use Rattle.std.proofs.lemmas.List.{get_or-append_right}
+use Rattle.std.proofs.Common.{[], ⊎_elim, ◌++◌, ◌+◌, ◌-◌, ◌<◌, ◌==◌, ◌||◌, ◌↔◌, ◌∙◌, ◌∷◌, ◌≡◌, ◌≤◌, ap, arith, Bool}
+use Rattle.std.proofs.Common.{cond, eqb, false, get_or, inl, inr, is_some, length, length-append, List, map, nat_cmp}
+use Rattle.std.proofs.Common.{None, Option, refl, Some, subst, suc, sym, take, take_all, true, true≢false, ℕ}
+use Rattle.std.specs.{BTreeMap.is_at, List.IsDistinct, Map.keys_of}
+use Rattle.std.proofs.lemmas.Bool.{cases_lt, Decides.nat_tests}
+use Rattle.std.proofs.lemmas.List.{get_or-append_right, get_or_append_left, length-map, take-append-le, take_more}
 use Rattle.std.proofs.lemmas.List.Folds.{list_any_at}
-use Rattle.std.specs.Ordering.{nat_cmp}
-use Rattle.std.specs.BTreeMap.{is_at}
-use Rattle.std.specs.List.{IsDistinct}
-use Rattle.krs_model.specs.Table.{Table, at}
-use Rattle.krs_model.specs.State.{Key}
-use Rattle.krs_model.specs.Levels.{level, levels, is_in}
-use Rattle.krs_model.specs.Reach.{Reaches, Directly, Further, links_of_key_at, nested_in, is_ring, closes}
-use Rattle.krs_model.proofs.Reach.Levels.{levels_on}
-use Rattle.krs_model.proofs.Tables.Changes.{same_at}
-use Rattle.krs_walk.specs.Lists.{join}
-use Rattle.krs_model.specs.Laws.{ClosesCycle}
-use Rattle.krs_keys.specs.Keys.{OnlyRingsLink, shown, seen}
+use Rattle.krs_model.specs.{Laws.ClosesCycle, Levels.{is_in, level, levels}}
+use Rattle.krs_model.specs.Reach.{closes, Directly, Further, is_ring, links_of_key_at, nested_in, Reaches}
+use Rattle.krs_model.specs.{State.Key, Table.{at, Table}}
+use Rattle.krs_model.proofs.Reach.Acyclic.{closed_levels, IsClosed}
+use Rattle.krs_model.proofs.{Reach.{Cycles.there_in, Levels.levels_on}, Tables.Changes.same_at}
+use Rattle.krs_keys.specs.Keys.{OnlyRingsLink, seen, shown}
+use Rattle.krs_walk.specs.{Lists.join, Walks.is_nested_within}
+use Rattle.krs_walk.proofs.LevelsLemmas.{Covers, covers_more, levels_fewer, levels_next}
+use Rattle.krs_walk.proofs.ListsLemmas.{fresh, in_append, in_cons, in_head, in_join, in_join_left, in_none, in_single}
+use Rattle.krs_walk.proofs.ListsLemmas.{in_tail, is_same, join_fresh, same_is, same_tests, Within}
+use Rattle.krs_walk.proofs.MarksLemmas.{distinct_push, no_longer, none_twice}
+use Rattle.krs_walk.proofs.ReachLemmas.{closes_links, closes_nested, from_levels, nested_fewer, nested_ring, one_more}
 use Rattle.krs_keys.specs.declared.key as declared
-use Rattle.std.specs.Map.{keys_of}
-use Rattle.krs_model.proofs.Reach.Acyclic.{IsClosed, closed_levels}
-use Rattle.krs_model.proofs.Reach.Cycles.{there_in}
-use Rattle.krs_walk.specs.Walks.{is_nested_within}
-use Rattle.krs_walk.proofs.ListsLemmas.{Within, fresh, join_fresh, in_join, in_join_left, in_append, in_head, in_tail}
-use Rattle.krs_walk.proofs.ListsLemmas.{in_cons, in_none, in_single, same_is, is_same, same_tests}
-use Rattle.krs_walk.proofs.LevelsLemmas.{Covers, covers_more, levels_next, levels_fewer}
-use Rattle.krs_walk.proofs.ReachLemmas.{one_more, nested_fewer, nested_ring, closes_links, closes_nested, from_levels}
-use Rattle.krs_walk.proofs.MarksLemmas.{no_longer, none_twice, distinct_push}
 
 -- each key of the list is in the levels up to its place
 abbrev pub Placed : (ℕ → List ℕ) → ℕ → List ℕ → Type 0

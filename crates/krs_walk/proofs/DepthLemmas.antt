@@ -1,14 +1,9 @@
 -- The levels below one key, by what it links.
-use Rattle.std.proofs.Common.{◌≡◌, ℕ, zero, suc, ◌-◌, ◌||◌, List, [], ◌∷◌, ◌++◌, Bool, true, false, refl, ap, ◌∙◌, sym}
-use Rattle.std.proofs.Common.{append_assoc, arith}
-use Rattle.std.specs.List.{flat_map, list_any}
-use Rattle.std.proofs.lemmas.Grind.{flat_map-append}
-use Rattle.std.proofs.lemmas.List.{append-nil}
-use Rattle.std.proofs.lemmas.List.Folds.{list_any-append}
-use Rattle.krs_model.specs.Table.{Table}
-use Rattle.krs_model.specs.State.{Key}
-use Rattle.krs_model.specs.Levels.{level, levels}
-use Rattle.krs_model.specs.Reach.{nested_in, is_some_in, has_chain}
+use Rattle.std.proofs.Common.{[], ◌++◌, ◌-◌, ◌||◌, ◌∙◌, ◌∷◌, ◌≡◌, ap, append-nil, append_assoc, arith, Bool, false}
+use Rattle.std.proofs.Common.{flat_map, List, refl, suc, sym, true, zero, ℕ}
+use Rattle.std.specs.List.{list_any}
+use Rattle.std.proofs.lemmas.{Grind.flat_map-append, List.Folds.list_any-append}
+use Rattle.krs_model.specs.{Levels.{level, levels}, Reach.{has_chain, is_some_in, nested_in}, State.Key, Table.Table}
 
 -- the levels are the heads, and what the levels above link
 pub levels_unrolled : (f : ℕ → List ℕ) (heads : List ℕ) (n : ℕ)

@@ -1,23 +1,14 @@
 -- A search level by level from the head down.
-use Rattle.std.proofs.Common.{◌≡◌, ◌<◌, ◌+◌, ◌-◌, ℕ, zero, suc, List, [], ◌∷◌, Result, Ok, Err, ap}
-use Rattle.std.proofs.Common.{◌∙◌, sym, arith}
-use Rattle.std.specs.List.{flat_map}
+use Rattle.std.proofs.Common.{[], ◌+◌, ◌-◌, ◌<◌, ◌∙◌, ◌∷◌, ◌≡◌, ap, append-nil, arith, Err, flat_map, List, Ok, Result}
+use Rattle.std.proofs.{Common.{suc, sym, zero, ℕ}, lemmas.Grind.flat_map-append}
 use native.Mathlib.Numerals.{unary_clauses}
-use Rattle.std.proofs.lemmas.Grind.{flat_map-append}
-use Rattle.std.proofs.lemmas.List.{append-nil}
-use Rattle.krs_types.specs.declared.errno.Errno.{Errno}
-use Rattle.krs_types.specs.declared.name.Name.{Name}
-use Rattle.krs_model.specs.Table.{at}
-use Rattle.krs_model.specs.Levels.{level, levels, search_depth}
-use Rattle.krs_model.specs.Outcome.{Is}
-use Rattle.krs_model.specs.Reach.{is_ring}
-use Rattle.krs_model.specs.Search.{Searcher, entered, searched, sought, found_by, or_next}
-use Rattle.krs_model.proofs.Reach.Levels.{levels_more}
-use Rattle.krs_model.proofs.Reach.Searches.{sought_append}
+use Rattle.krs_types.specs.declared.{errno.Errno.Errno, name.Name.Name}
+use Rattle.krs_model.specs.{Levels.{level, levels, search_depth}, Outcome.Is, Reach.is_ring}
+use Rattle.krs_model.specs.{Search.{entered, found_by, or_next, searched, Searcher, sought}, Table.at}
+use Rattle.krs_model.proofs.Reach.{Levels.levels_more, Searches.sought_append}
 use Rattle.krs_keys.specs.Keys.{OnlyRingsLink}
 use Rattle.krs_walk.specs.Searching.{entered_rings, links_at}
-use Rattle.krs_walk.proofs.DepthLemmas.{levels_unrolled, links_deeper}
-use Rattle.krs_walk.proofs.FindingLemmas.{levels_rings, rings_alone}
+use Rattle.krs_walk.proofs.{DepthLemmas.{levels_unrolled, links_deeper}, FindingLemmas.{levels_rings, rings_alone}}
 
 -- what a head, and the links of the keyrings of the first levels from it, come to
 pub to_depth : Searcher → Name → ℕ → ℕ → Result ℕ Errno

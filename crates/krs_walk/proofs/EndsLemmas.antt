@@ -1,7 +1,6 @@
 -- Where the levels of a walk end.
-use Rattle.std.proofs.Common.{◌≡◌, ℕ, suc, List, [], ◌∷◌, ◌++◌, Bool, false, ap, ◌∙◌}
-use Rattle.std.specs.List.{flat_map, list_any}
-use Rattle.std.proofs.lemmas.List.{append-nil}
+use Rattle.std.proofs.Common.{[], ◌++◌, ◌∙◌, ◌∷◌, ◌≡◌, ap, append-nil, Bool, false, flat_map, List, suc, ℕ}
+use Rattle.std.specs.List.{list_any}
 use Rattle.krs_model.specs.Levels.{level, levels, search_depth}
 use Rattle.krs_walk.proofs.DepthLemmas.{any_heads}
 

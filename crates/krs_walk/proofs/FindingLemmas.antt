@@ -1,36 +1,22 @@
 -- A search from its head, level by level.
-use Rattle.std.proofs.Common.{◌≡◌, ◌≤◌, ◌<◌, ◌+◌, ◌-◌, ℕ, zero, suc, Bool, true, false, cond, List, [], ◌∷◌, ◌++◌}
-use Rattle.std.proofs.Common.{length, take, drop, filter, Option, None, Some, Result, Ok, Err, refl, ap, ◌∙◌, sym}
-use Rattle.std.proofs.Common.{arith, append_assoc, ⊎_elim}
-use Rattle.std.specs.List.{find, flat_map}
-use native.Mathlib.Numerals.{unary_clauses}
+use Rattle.std.proofs.Common.{[], ⊎_elim, ◌++◌, ◌+◌, ◌-◌, ◌<◌, ◌∙◌, ◌∷◌, ◌≡◌, ◌≤◌, ap, append-nil, append_assoc, arith}
+use Rattle.std.proofs.Common.{Bool, cond, drop, Err, false, filter, find, flat_map, length, List, None, Ok, Option}
+use Rattle.std.proofs.Common.{refl, Result, Some, suc, sym, take, take-append-drop, true, true≢false, zero, ℕ}
 use Rattle.std.specs.Option.{option_or}
-use Rattle.std.proofs.lemmas.Bool.{true≢false}
-use Rattle.std.proofs.lemmas.Grind.{flat_map-append}
-use Rattle.std.proofs.lemmas.List.{append-nil, take-append-drop}
-use Rattle.std.proofs.lemmas.List.Folds.{find-append}
-use Rattle.krs_types.specs.declared.context.Context.{Context}
-use Rattle.krs_types.specs.declared.errno.Errno.{Errno}
-use Rattle.krs_types.specs.declared.errno.Errno.TheVariants.{ENOKEY}
-use Rattle.krs_types.specs.declared.name.Name.{Name}
-use Rattle.krs_model.specs.Table.{at}
-use Rattle.krs_model.specs.State.{Key, State}
-use Rattle.krs_model.specs.Levels.{level, levels, is_in, search_depth}
-use Rattle.krs_model.specs.Search.{found_with, requested_with}
+use Rattle.std.proofs.lemmas.{Grind.flat_map-append, List.Folds.find-append}
+use native.Mathlib.Numerals.{unary_clauses}
+use Rattle.krs_types.specs.declared.{context.Context.Context, errno.Errno.{Errno, TheVariants.ENOKEY}, name.Name.Name}
+use Rattle.krs_model.specs.Levels.{is_in, level, levels, search_depth}
 use Rattle.krs_model.specs.Possession.{links_of_content, possessed, process_ring}
-use Rattle.krs_model.specs.Reach.{is_ring}
-use Rattle.krs_model.specs.Search.{Searcher, entered, open_links, is_open, is_answer, is_revoked, is_expired}
-use Rattle.krs_model.specs.Search.{is_denied, searched, sought, found, found_by, requested, or_next}
-use Rattle.krs_model.specs.Sweep.{links_of_key}
-use Rattle.krs_model.proofs.Reach.Levels.{levels_more}
-use Rattle.krs_model.proofs.Reach.Searches.{sought_append}
-use Rattle.krs_walk.specs.Lists.{join}
+use Rattle.krs_model.specs.{Reach.is_ring, Search.{entered, found, found_by, found_with, is_answer, is_denied}}
+use Rattle.krs_model.specs.Search.{is_expired, is_open, is_revoked, open_links, or_next, requested, requested_with}
+use Rattle.krs_model.specs.{Search.{searched, Searcher, sought}, State.{Key, State}, Sweep.links_of_key, Table.at}
+use Rattle.krs_model.proofs.Reach.{Levels.levels_more, Searches.sought_append}
 use Rattle.krs_keys.specs.Keys.{OnlyRingsLink}
-use Rattle.krs_walk.specs.Searching.{entered_rings}
-use Rattle.krs_walk.proofs.ListsLemmas.{fresh, join_fresh, join_append, any_join, in_none, in_head, in_cons}
-use Rattle.krs_walk.proofs.LevelsLemmas.{Covers, follow_fresh, at_next}
-use Rattle.krs_walk.proofs.DepthLemmas.{levels_unrolled, levels_below, flat_flat}
-use Rattle.krs_walk.proofs.HeldLemmas.{walk_at, joined_front}
+use Rattle.krs_walk.specs.{Lists.join, Searching.entered_rings}
+use Rattle.krs_walk.proofs.DepthLemmas.{flat_flat, levels_below, levels_unrolled}
+use Rattle.krs_walk.proofs.{HeldLemmas.{joined_front, walk_at}, LevelsLemmas.{at_next, Covers, follow_fresh}}
+use Rattle.krs_walk.proofs.ListsLemmas.{any_join, fresh, in_cons, in_head, in_none, join_append, join_fresh}
 use Rattle.krs_walk.proofs.RoundsLemmas.{longer}
 
 -- what passes and stands in a list already is found there first

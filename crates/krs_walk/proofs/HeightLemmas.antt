@@ -1,20 +1,12 @@
 -- Layers of nested keyrings, as a walk makes them, and what they say of the height.
-use Rattle.std.proofs.Common.{◌≡◌, ◌≤◌, ◌==◌, ◌<◌, ◌+◌, ◌-◌, ℕ, zero, suc, List, ◌++◌, [], ◌∷◌, true, false, length}
-use Rattle.std.proofs.Common.{take, arith, get_or, refl, ap, ◌∙◌, sym, subst}
-use Rattle.std.proofs.lemmas.Bool.{true≢false}
-use Rattle.std.proofs.lemmas.Bool.Decides.{nat_tests}
-use Rattle.std.proofs.lemmas.List.{take_more, flat_map_more}
-use Rattle.std.specs.List.{flat_map}
+use Rattle.std.proofs.Common.{[], ◌++◌, ◌+◌, ◌-◌, ◌<◌, ◌==◌, ◌∙◌, ◌∷◌, ◌≡◌, ◌≤◌, ap, arith, false, flat_map, get_or}
+use Rattle.std.proofs.Common.{length, List, refl, subst, suc, sym, take, true, true≢false, zero, ℕ}
+use Rattle.std.proofs.lemmas.{Bool.Decides.nat_tests, List.{flat_map_more, take_more}}
 use native.Mathlib.Numerals.{unary_clauses}
-use Rattle.krs_model.specs.Table.{Table}
-use Rattle.krs_model.specs.State.{Key}
-use Rattle.krs_model.specs.Levels.{level}
-use Rattle.krs_model.specs.Reach.{nested_in, is_some_in, has_chain}
+use Rattle.krs_model.specs.{Levels.level, Reach.{has_chain, is_some_in, nested_in}, State.Key, Table.Table}
 use Rattle.krs_model.proofs.Reach.Levels.{level_more}
-use Rattle.krs_walk.specs.Lists.{join}
-use Rattle.krs_walk.specs.Walks.{IsHeight}
-use Rattle.krs_walk.proofs.ListsLemmas.{join_append, join_fresh, in_none}
-use Rattle.krs_walk.proofs.LevelsLemmas.{follow_fresh}
+use Rattle.krs_walk.specs.{Lists.join, Walks.IsHeight}
+use Rattle.krs_walk.proofs.{LevelsLemmas.follow_fresh, ListsLemmas.{in_none, join_append, join_fresh}}
 
 -- the links of one keyring more of a layer
 pub layer_more : (f : ℕ → List ℕ) (layer all next : List ℕ) (i : ℕ) → i < length layer

@@ -1,27 +1,17 @@
 -- The possessed keyrings, as far as they were walked.
-use Rattle.std.proofs.Common.{◌≡◌, ◌≤◌, ◌<◌, ◌+◌, ◌-◌, ℕ, suc, ◌==◌, List, [], length, take, drop, true, false}
-use Rattle.std.proofs.Common.{Option, flat_map, refl, ap, ◌∙◌, sym, subst, arith}
-use Rattle.std.proofs.lemmas.List.{take_at}
+use Rattle.std.proofs.Common.{[], ◌+◌, ◌-◌, ◌<◌, ◌==◌, ◌∙◌, ◌≡◌, ◌≤◌, ap, arith, drop, false, flat_map, length, List}
+use Rattle.std.proofs.Common.{Option, refl, subst, suc, sym, take, take_at, true, ℕ}
 use Rattle.krs_types.specs.declared.context.Context.{Context}
-use Rattle.krs_model.specs.Table.{Table, at}
-use Rattle.krs_model.specs.State.{Key}
-use Rattle.krs_model.specs.Levels.{level, levels, is_in, search_depth}
+use Rattle.krs_model.specs.Levels.{is_in, level, levels, search_depth}
 use Rattle.krs_model.specs.Possession.{attached_with, followed_at, possessed_with}
-use Rattle.krs_model.specs.Reach.{is_ring}
+use Rattle.krs_model.specs.{Reach.is_ring, State.Key, Table.{at, Table}}
 use Rattle.krs_model.proofs.Reach.Levels.{levels_more}
-use Rattle.krs_keys.specs.Keys.{shown}
-use Rattle.krs_walk.specs.declared.search.Search.{Search}
-use Rattle.krs_walk.specs.declared.held.HeldRings.{HeldRings}
-use Rattle.krs_walk.specs.Lists.{join}
-use Rattle.krs_keys.specs.Keys.{OnlyRingsLink}
-use Rattle.krs_walk.specs.Walks.{followed_rings}
-use Rattle.krs_walk.specs.Searching.{held_to, AreHeld}
-use Rattle.krs_walk.proofs.ListsLemmas.{fresh, join_fresh, join_append, any_join}
-use Rattle.krs_walk.proofs.LevelsLemmas.{IsAt, at_next, levels_next, levels_fewer}
-use Rattle.krs_walk.proofs.CycleLemmas.{levels_up}
-use Rattle.krs_walk.proofs.RoundsLemmas.{longer}
-use Rattle.krs_walk.proofs.ListsLemmas.{same_tests}
-use Rattle.krs_walk.proofs.PossessionLemmas.{levels_rings, rings_fewer, followed_linked}
+use Rattle.krs_keys.specs.Keys.{OnlyRingsLink, shown}
+use Rattle.krs_walk.specs.{Lists.join, Searching.{AreHeld, held_to}, Walks.followed_rings}
+use Rattle.krs_walk.specs.declared.{held.HeldRings.HeldRings, search.Search.Search}
+use Rattle.krs_walk.proofs.{CycleLemmas.levels_up, LevelsLemmas.{at_next, IsAt, levels_fewer, levels_next}}
+use Rattle.krs_walk.proofs.ListsLemmas.{any_join, fresh, join_append, join_fresh, same_tests}
+use Rattle.krs_walk.proofs.{PossessionLemmas.{followed_linked, levels_rings, rings_fewer}, RoundsLemmas.longer}
 
 -- what the list before has been given, and what has joined it
 pub joined_front : (all xs next : List ℕ) → next ≡ join all xs → take (length all) next ≡ all

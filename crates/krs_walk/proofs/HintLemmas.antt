@@ -1,10 +1,9 @@
 -- What a hint that the keys bear out shows of the levels below an attached keyring.
-use Rattle.std.proofs.Common.{◌≡◌, ◌≤◌, ℕ, suc, ◌+◌, List, [], ◌∷◌, Bool, true, false, ap, sym, ◌∙◌, arith}
+use Rattle.std.proofs.Common.{[], ◌+◌, ◌∙◌, ◌∷◌, ◌≡◌, ◌≤◌, ap, arith, Bool, false, List, suc, sym, true, ℕ}
 use Rattle.std.specs.List.{list_any}
-use Rattle.krs_model.specs.Levels.{level, levels, is_in}
-use Rattle.krs_walk.proofs.ListsLemmas.{or_left, or_right, any_at}
+use Rattle.krs_model.specs.Levels.{is_in, level, levels}
 use Rattle.krs_walk.proofs.DepthLemmas.{any_deeper, any_heads}
-use Rattle.krs_walk.proofs.RoundsLemmas.{any_up}
+use Rattle.krs_walk.proofs.{ListsLemmas.{any_at, or_left, or_right}, RoundsLemmas.any_up}
 
 -- a keyring that passes does so on its own level
 pub at_once : (p : ℕ → Bool) (f : ℕ → List ℕ) (k : ℕ) → p k ≡ true → list_any p (levels f (k ∷ []) 1) ≡ true

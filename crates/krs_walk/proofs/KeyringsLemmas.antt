@@ -1,19 +1,13 @@
 -- What a key table keeps of the nested keyrings is what the definitions see.
-use Rattle.std.proofs.Common.{◌≡◌, ℕ, [], ◌∷◌, Option, Some, None, true, false, cond, filter, refl, ap, ◌∙◌, sym}
-use Rattle.std.specs.Option.{option_map}
-use Rattle.std.proofs.lemmas.Option.{none-some, same_Some}
-use Rattle.krs_types.specs.declared.name.Name.{Name}
-use Rattle.krs_types.specs.Kind.{same_kind}
-use Rattle.krs_types.specs.declared.kind.Kind.TheVariants.{Keyring}
-use Rattle.krs_model.specs.Table.{Table, at}
-use Rattle.krs_model.specs.Reach.{is_ring, nested_in}
-use Rattle.krs_model.specs.Sweep.{links_of_key}
+use Rattle.std.proofs.Common.{[], ◌∙◌, ◌∷◌, ◌≡◌, ap, cond, false, filter, None, Option, option_map, refl, Some, sym}
+use Rattle.std.proofs.{Common.{true, ℕ}, lemmas.Option.{none-some, same_Some}}
+use Rattle.krs_types.specs.{Kind.same_kind, declared.{kind.Kind.TheVariants.Keyring, name.Name.Name}}
+use Rattle.krs_model.specs.{Reach.{is_ring, nested_in}, Sweep.links_of_key, Table.{at, Table}}
 use Rattle.krs_model.proofs.Tables.Changes.{at_map}
-use Rattle.krs_links.specs.Links.{LinkList, serials, nested}
-use Rattle.krs_links.specs.Links as names
-use Rattle.krs_keys.specs.declared.key.Key.{Key}
-use Rattle.krs_keys.specs.Keys.{named_links_of_content, seen, shown, name_at, AreNamed, AreFit}
+use Rattle.krs_links.specs.Links.{LinkList, nested, serials}
+use Rattle.krs_keys.specs.{Keys.{AreFit, AreNamed, name_at, named_links_of_content, seen, shown}, declared.key.Key.Key}
 use Rattle.krs_keys.proofs.KeysLemmas.{serials-content}
+use Rattle.krs_links.specs.Links as names
 
 ring_named : (link : Name) (o : Option Key) → option_map (λ key. key.name) o ≡ Some link
     → is_ring (option_map seen o) ≡ names.is_ring link

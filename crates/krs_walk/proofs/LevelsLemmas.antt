@@ -1,14 +1,12 @@
 -- A walk that comes to each key once gives the levels' keys, each at its first place.
-use Rattle.std.proofs.Common.{◌≡◌, ℕ, zero, suc, ◌+◌, length, take, drop, List, [], ◌∷◌, ◌++◌, true, false, cond}
-use Rattle.std.proofs.Common.{refl, ap, ◌∙◌, sym, subst, ◌⊎◌, inl, inr, ⊎_elim}
-use Rattle.std.proofs.lemmas.List.{take_at, take-append-drop, append_cancel_left}
-use Rattle.std.specs.List.{flat_map}
-use Rattle.krs_model.specs.Levels.{level, levels, is_in}
-use Rattle.krs_model.proofs.Reach.Levels.{level_more, levels_more, in_flat}
+use Rattle.std.proofs.Common.{[], ⊎_elim, ◌++◌, ◌+◌, ◌∙◌, ◌∷◌, ◌≡◌, ◌⊎◌, ap, cond, drop, false, flat_map, inl, inr}
+use Rattle.std.proofs.Common.{length, List, refl, subst, suc, sym, take, take-append-drop, take_at, true, zero, ℕ}
+use Rattle.std.proofs.lemmas.List.{append_cancel_left}
+use Rattle.krs_model.specs.Levels.{is_in, level, levels}
+use Rattle.krs_model.proofs.Reach.Levels.{in_flat, level_more, levels_more}
 use Rattle.krs_walk.specs.Lists.{join}
-use Rattle.krs_walk.proofs.ListsLemmas.{Within, fresh, join_fresh, join_append, join_within, in_join_left}
-use Rattle.krs_walk.proofs.ListsLemmas.{in_join_right, in_join, in_right, in_left, in_one, in_single, in_cons}
-use Rattle.krs_walk.proofs.ListsLemmas.{in_none}
+use Rattle.krs_walk.proofs.ListsLemmas.{fresh, in_cons, in_join, in_join_left, in_join_right, in_left, in_none, in_one}
+use Rattle.krs_walk.proofs.ListsLemmas.{in_right, in_single, join_append, join_fresh, join_within, Within}
 
 -- what each of these links is there
 abbrev pub Covers : (ℕ → List ℕ) → List ℕ → List ℕ → Type 0

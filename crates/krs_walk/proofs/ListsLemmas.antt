@@ -1,12 +1,9 @@
 -- Laws of lists of serials, and of joining them.
-use Rattle.std.proofs.Common.{◌≡◌, ◌⊎◌, ℕ, ◌==◌, ◌||◌, List, [], ◌∷◌, ◌++◌, Bool, true, false, cond, refl, ap, ◌∙◌}
-use Rattle.std.proofs.Common.{sym, subst, inl, inr, ⊎_elim, arith, append_assoc, zero, suc, Some}
-use Rattle.std.proofs.lemmas.Bool.{true≢false}
-use Rattle.std.proofs.lemmas.Bool.Decides.{nat_tests}
-use Rattle.std.proofs.lemmas.List.{append-nil}
-use Rattle.std.proofs.lemmas.List.Folds.{list_any-append}
-use Rattle.std.proofs.lemmas.Option.{none-some, same_Some}
-use Rattle.std.specs.List.{list_any, slice_get}
+use Rattle.std.proofs.Common.{[], ⊎_elim, ◌++◌, ◌==◌, ◌||◌, ◌∙◌, ◌∷◌, ◌≡◌, ◌⊎◌, ap, append-nil, append_assoc, arith}
+use Rattle.std.proofs.Common.{Bool, cond, false, inl, inr, List, refl, slice_get, Some, subst, suc, sym, true}
+use Rattle.std.proofs.Common.{true≢false, zero, ℕ}
+use Rattle.std.specs.List.{list_any}
+use Rattle.std.proofs.lemmas.{Bool.Decides.nat_tests, List.Folds.list_any-append, Option.{none-some, same_Some}}
 use Rattle.krs_model.specs.Levels.{is_in}
 use Rattle.krs_walk.specs.Lists.{join}
 

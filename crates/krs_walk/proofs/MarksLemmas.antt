@@ -1,11 +1,9 @@
 -- Laws of marks, and how many serials a list has that has none twice.
-use Rattle.std.proofs.Common.{◌≡◌, ◌≤◌, ◌==◌, ◌||◌, ℕ, false, cond, List, [], ◌∷◌, ◌++◌, length}
-use Rattle.std.proofs.Common.{eqb, refl, ap, ◌∙◌, sym, arith}
-use Rattle.std.proofs.lemmas.Bool.Decides.{nat_tests}
-use Rattle.std.proofs.lemmas.Map.Keys.{IsDistinct-push}
-use Rattle.std.proofs.lemmas.Map.Made.{length-le_from_is_member}
-use Rattle.std.proofs.lemmas.Cmp.{nat_eq_equiv}
+use Rattle.std.proofs.Common.{[], ◌++◌, ◌==◌, ◌||◌, ◌∙◌, ◌∷◌, ◌≡◌, ◌≤◌, ap, arith, cond, eqb, false, length, List, refl}
+use Rattle.std.proofs.Common.{sym, ℕ}
 use Rattle.std.specs.List.{IsDistinct, list_any}
+use Rattle.std.proofs.lemmas.Bool.Decides.{nat_tests}
+use Rattle.std.proofs.lemmas.{Cmp.nat_eq_equiv, Map.{Keys.IsDistinct-push, Made.length-le_from_is_member}}
 use Rattle.krs_model.specs.Levels.{is_in}
 use Rattle.krs_walk.proofs.ListsLemmas.{Within}
 

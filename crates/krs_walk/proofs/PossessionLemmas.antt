@@ -1,36 +1,25 @@
 -- What is possessed, by the keyrings that link it.
-use Rattle.std.proofs.Common.{◌≡◌, ◌≤◌, ℕ, zero, suc, ◌==◌, ◌||◌, List, [], ◌∷◌, Bool, true, false, cond, filter}
-use Rattle.std.proofs.Common.{Option, None, Some, ⊎_elim, sym, refl, ap, ◌∙◌, arith, ◌≢◌, IfSome, IfNone, is_some}
-use Rattle.std.specs.Option.{option_map}
-use Rattle.std.specs.List.{list_any, find, slice_get}
-use Rattle.std.proofs.lemmas.Bool.{true≢false}
+use Rattle.std.proofs.Common.{[], ⊎_elim, ◌==◌, ◌||◌, ◌∙◌, ◌∷◌, ◌≡◌, ◌≢◌, ◌≤◌, ap, arith, Bool, cond, false, filter}
+use Rattle.std.proofs.Common.{find, IfNone, IfSome, is_some, List, None, Option, option_map, refl, slice_get, Some, suc}
+use Rattle.std.proofs.Common.{sym, true, true≢false, zero, ℕ}
+use Rattle.std.specs.List.{list_any}
 use Rattle.std.proofs.lemmas.Option.{none-some, same_Some}
-use Rattle.krs_types.specs.declared.name.Name.{Name}
-use Rattle.krs_types.specs.declared.caller.Caller.{Caller}
-use Rattle.krs_types.specs.declared.context.Context.{Context}
-use Rattle.krs_types.specs.Name.{same_name}
-use Rattle.krs_model.specs.Table.{Table, at}
-use Rattle.krs_model.specs.State as model
-use Rattle.krs_model.specs.Levels.{level, levels, is_in, search_depth}
-use Rattle.krs_model.specs.Possession.{attached_with, followed_at, is_followed, possessed_with, followed, links_of_content}
-use Rattle.krs_model.specs.Reach.{is_ring}
-use Rattle.krs_model.specs.Sweep.{links_of_key}
-use Rattle.krs_model.proofs.Reach.Levels.{in_flat}
-use Rattle.krs_model.proofs.Tables.Changes.{at_map}
-use Rattle.krs_links.specs.Links.{LinkList, serials, nested, serial_named}
+use Rattle.krs_types.specs.{Name.same_name, declared.{caller.Caller.Caller, context.Context.Context, name.Name.Name}}
 use Rattle.krs_types.proofs.Names.{equal_names, same_name_equiv}
+use Rattle.krs_model.specs.Levels.{is_in, level, levels, search_depth}
+use Rattle.krs_model.specs.Possession.{attached_with, followed, followed_at, is_followed, links_of_content}
+use Rattle.krs_model.specs.{Possession.possessed_with, Reach.is_ring, Sweep.links_of_key, Table.{at, Table}}
+use Rattle.krs_model.proofs.{Reach.Levels.in_flat, Tables.Changes.at_map}
+use Rattle.krs_links.specs.Links.{LinkList, nested, serial_named, serials}
+use Rattle.krs_keys.specs.Keys.{AreFit, AreNamed, name_at, named_links_of_content, OnlyRingsLink, seen, shown}
 use Rattle.krs_keys.specs.declared.key.Key.{Key}
-use Rattle.krs_keys.specs.Keys.{named_links_of_content, seen, shown, name_at, AreNamed, AreFit}
 use Rattle.krs_keys.proofs.KeysLemmas.{serials-content}
-use Rattle.krs_keys.specs.Keys.{OnlyRingsLink}
-use Rattle.krs_walk.specs.Walks.{followed_rings}
-use Rattle.krs_walk.specs.Walks.{is_linked, is_found}
-use Rattle.krs_walk.proofs.ListsLemmas.{in_none, in_one, in_left, in_right, in_head, in_tail, is_same, or_left}
-use Rattle.krs_walk.proofs.ListsLemmas.{or_right, or_one, any_at, same_tests, in_at}
-use Rattle.krs_walk.proofs.LevelsLemmas.{Fewer, in_flat_map, levels_from, levels_next, levels_fewer}
-use Rattle.krs_walk.proofs.ReachLemmas.{in_filter, from_filter}
-use Rattle.krs_walk.proofs.CycleLemmas.{levels_up}
-use Rattle.krs_walk.proofs.KeyringsLemmas.{nested_serials}
+use Rattle.krs_walk.specs.Walks.{followed_rings, is_found, is_linked}
+use Rattle.krs_walk.proofs.{CycleLemmas.levels_up, KeyringsLemmas.nested_serials}
+use Rattle.krs_walk.proofs.LevelsLemmas.{Fewer, in_flat_map, levels_fewer, levels_from, levels_next}
+use Rattle.krs_walk.proofs.ListsLemmas.{any_at, in_at, in_head, in_left, in_none, in_one, in_right, in_tail, is_same}
+use Rattle.krs_walk.proofs.{ListsLemmas.{or_left, or_one, or_right, same_tests}, ReachLemmas.{from_filter, in_filter}}
+use Rattle.krs_model.specs.State as model
 
 -- a list that passes has one that does
 pub any_from : (p : ℕ → Bool) (xs : List ℕ) → list_any p xs ≡ true → (j : ℕ) × (is_in j xs ≡ true) × (p j ≡ true)

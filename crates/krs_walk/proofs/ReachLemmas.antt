@@ -1,15 +1,12 @@
 -- Laws of reaching, along all links and along those to keyrings.
-use Rattle.std.proofs.Common.{◌≡◌, ℕ, zero, suc, List, [], ◌∷◌, Bool, true, false, cond, filter, inl, inr, ⊎_elim}
-use Rattle.std.proofs.Common.{sym, subst, refl, ap, ◌∙◌}
-use Rattle.krs_model.specs.Table.{Table, at}
-use Rattle.krs_model.specs.State.{Key}
-use Rattle.krs_model.specs.Levels.{level, levels, is_in}
-use Rattle.krs_model.specs.Reach.{Reaches, Directly, Further, links_of_key_at, nested_in, is_ring}
+use Rattle.std.proofs.Common.{[], ⊎_elim, ◌∙◌, ◌∷◌, ◌≡◌, ap, Bool, cond, false, filter, inl, inr, List, refl, subst}
+use Rattle.std.proofs.Common.{suc, sym, true, zero, ℕ}
+use Rattle.krs_model.specs.{Laws.ClosesCycle, Levels.{is_in, level, levels}}
+use Rattle.krs_model.specs.Reach.{Directly, Further, is_ring, links_of_key_at, nested_in, Reaches}
+use Rattle.krs_model.specs.{State.Key, Table.{at, Table}}
 use Rattle.krs_model.proofs.Reach.Levels.{in_flat}
-use Rattle.krs_model.specs.Laws.{ClosesCycle}
 use Rattle.krs_keys.specs.Keys.{OnlyRingsLink}
-use Rattle.krs_walk.proofs.ListsLemmas.{in_head, in_tail, in_cons, in_none, in_one, in_single}
-use Rattle.krs_walk.proofs.LevelsLemmas.{Fewer}
+use Rattle.krs_walk.proofs.{LevelsLemmas.Fewer, ListsLemmas.{in_cons, in_head, in_none, in_one, in_single, in_tail}}
 
 -- a key of a list that passes the test is in the list of those that do
 pub in_filter : (p : ℕ → Bool) (xs : List ℕ) (k : ℕ) → is_in k xs ≡ true → p k ≡ true → is_in k (filter p xs) ≡ true

@@ -1,14 +1,13 @@
 -- One key of a level, in the walk by levels.
-use Rattle.std.proofs.Common.{◌≡◌, ◌≤◌, ◌<◌, arith, ◌+◌, ℕ, ◌||◌, Bool, true, false, List, [], ◌++◌, length, take}
-use Rattle.std.proofs.Common.{drop, get_or, refl, ap, ◌∙◌, sym, append_assoc}
-use Rattle.std.proofs.lemmas.List.{take_at, drop_all, drop_more, get_or_append_left, length-append, take-append-drop}
-use Rattle.std.proofs.lemmas.List.Folds.{list_any-append}
-use Rattle.std.specs.List.{flat_map, list_any}
+use Rattle.std.proofs.Common.{[], ◌++◌, ◌+◌, ◌<◌, ◌||◌, ◌∙◌, ◌≡◌, ◌≤◌, ap, append_assoc, arith, Bool, drop, false}
+use Rattle.std.proofs.Common.{flat_map, get_or, length, length-append, List, refl, sym, take, take-append-drop, take_at}
+use Rattle.std.proofs.Common.{true, ℕ}
+use Rattle.std.specs.List.{list_any}
+use Rattle.std.proofs.lemmas.List.{drop_all, drop_more, get_or_append_left, Folds.list_any-append}
 use Rattle.krs_model.specs.Levels.{levels}
 use Rattle.krs_walk.specs.Lists.{join}
-use Rattle.krs_walk.proofs.ListsLemmas.{fresh, join_fresh, join_append, any_join, any_at, or_right}
-use Rattle.krs_walk.proofs.LevelsLemmas.{IsAt, at_heads, at_next}
-use Rattle.krs_walk.proofs.CycleLemmas.{levels_up}
+use Rattle.krs_walk.proofs.{CycleLemmas.levels_up, LevelsLemmas.{at_heads, at_next, IsAt}}
+use Rattle.krs_walk.proofs.ListsLemmas.{any_at, any_join, fresh, join_append, join_fresh, or_right}
 use Rattle.krs_walk.proofs.PossessionLemmas.{any_from}
 
 abbrev pub Grown : List ℕ → List ℕ → Type 0

@@ -1,27 +1,17 @@
 -- What a keyring's links come to in a search, and those of a level.
-use Rattle.std.proofs.Common.{◌≡◌, ℕ, ◌&&◌, Bool, true, false, cond, List, [], ◌∷◌, filter, None, Some, Err, refl, ap}
-use Rattle.std.proofs.Common.{◌∙◌, sym}
-use Rattle.std.proofs.lemmas.Bool.{true≢false}
+use Rattle.std.proofs.Common.{[], ◌&&◌, ◌∙◌, ◌∷◌, ◌≡◌, ap, Bool, cond, Err, false, filter, List, None, refl, Some, sym}
+use Rattle.std.proofs.Common.{true, true≢false, ℕ}
 use Rattle.krs_types.specs.declared.errno.Errno.{Errno}
-use Rattle.krs_model.specs.Table.{Table, at}
-use Rattle.krs_model.specs.Levels.{is_in}
-use Rattle.krs_model.specs.Possession.{links_of_content}
-use Rattle.krs_model.specs.Reach.{is_ring}
-use Rattle.krs_model.specs.Search.{entered, is_open, open_links, or_next}
-use Rattle.krs_model.specs.Sweep.{links_of_key}
-use Rattle.krs_links.specs.Links.{serials, nested}
-use Rattle.krs_keys.specs.declared.key.Key.{Key}
-use Rattle.krs_keys.specs.declared.key.Content.{Content}
-use Rattle.krs_keys.specs.declared.key.Content.TheVariants.{Payload, Links}
-use Rattle.krs_keys.specs.Keys.{named_links_of_content, seen, seen_content, shown, AreFit}
+use Rattle.krs_model.specs.{Levels.is_in, Possession.links_of_content, Reach.is_ring}
+use Rattle.krs_model.specs.{Search.{entered, is_open, open_links, or_next}, Sweep.links_of_key, Table.{at, Table}}
+use Rattle.krs_links.specs.Links.{nested, serials}
 use Rattle.krs_keys.specs.Changes.{links_some}
-use Rattle.krs_walk.specs.declared.search.Search.{Search}
+use Rattle.krs_keys.specs.Keys.{AreFit, named_links_of_content, OnlyRingsLink, seen, seen_content, shown}
+use Rattle.krs_keys.specs.declared.key.{Content.{Content, TheVariants.{Links, Payload}}, Key.Key}
 use Rattle.krs_walk.specs.Lists.{join}
-use Rattle.krs_keys.specs.Keys.{OnlyRingsLink}
-use Rattle.krs_walk.specs.Searching.{searcher_for, sought_in, entered_rings}
-use Rattle.krs_walk.proofs.ListsLemmas.{in_head}
+use Rattle.krs_walk.specs.{Searching.{entered_rings, searcher_for, sought_in}, declared.search.Search.Search}
 use Rattle.krs_walk.proofs.KeyringsLemmas.{nested_serials}
-use Rattle.krs_walk.proofs.SoughtLemmas.{next_none, seen_there, unseen}
+use Rattle.krs_walk.proofs.{ListsLemmas.in_head, SoughtLemmas.{next_none, seen_there, unseen}}
 
 a_link : (content : Content) → links_some content ≡ true → (k : ℕ)
     × (is_in k (links_of_content (seen_content content)) ≡ true)

@@ -1,27 +1,16 @@
 -- What keys come to in a search, one by one and joined.
-use Rattle.std.proofs.Common.{◌≡◌, ℕ, ◌&&◌, ◌||◌, nat_lt, Bool, true, false, not, cond, [], ◌∷◌, Option, None, Some}
-use Rattle.std.proofs.Common.{Result, Ok, Err, refl, ap, ◌∙◌, sym, arith}
-use Rattle.std.specs.List.{find}
-use Rattle.std.specs.Option.{option_map}
-use Rattle.std.proofs.lemmas.Bool.Decides.{nat_tests}
-use Rattle.krs_types.specs.declared.errno.Errno.{Errno}
-use Rattle.krs_types.specs.declared.errno.Errno.TheVariants.{ENOKEY}
-use Rattle.krs_types.specs.declared.name.Name.{Name}
+use Rattle.std.proofs.Common.{[], ◌&&◌, ◌||◌, ◌∙◌, ◌∷◌, ◌≡◌, ap, arith, Bool, cond, Err, false, find, nat_lt, None, not}
+use Rattle.std.proofs.{Common.{Ok, Option, option_map, refl, Result, Some, sym, true, ℕ}, lemmas.Bool.Decides.nat_tests}
 use Rattle.krs_types.specs.Name.{same_name}
-use Rattle.krs_types.specs.Refusing.{or_refuse}
-use Rattle.krs_model.specs.Table.{Table, at}
-use Rattle.krs_model.specs.State as model
-use Rattle.krs_model.specs.Access.{is_over}
-use Rattle.krs_model.specs.Linking.{is_named}
-use Rattle.krs_model.specs.Search.{Searcher, grants_search, is_open, is_match, fault, sought, weight, weightier}
-use Rattle.krs_model.specs.Search.{or_next}
-use Rattle.krs_model.proofs.Tables.Changes.{at_map}
-use Rattle.krs_model.proofs.Reach.Searches.{sought_append}
-use Rattle.krs_links.specs.Links.{LinkList, serials, serial_named}
+use Rattle.krs_types.specs.{Refusing.or_refuse, declared.{errno.Errno.{Errno, TheVariants.ENOKEY}, name.Name.Name}}
 use Rattle.krs_types.proofs.Names.{equal_names}
-use Rattle.krs_keys.specs.declared.key.Key.{Key}
-use Rattle.krs_keys.specs.Keys.{seen, shown, name_at, AreNamed}
+use Rattle.krs_model.specs.{Access.is_over, Linking.is_named, Search.{fault, grants_search, is_match, is_open, or_next}}
+use Rattle.krs_model.specs.{Search.{Searcher, sought, weight, weightier}, Table.{at, Table}}
+use Rattle.krs_model.proofs.{Reach.Searches.sought_append, Tables.Changes.at_map}
+use Rattle.krs_links.specs.Links.{LinkList, serial_named, serials}
+use Rattle.krs_keys.specs.{Keys.{AreNamed, name_at, seen, shown}, declared.key.Key.Key}
 use Rattle.krs_keys.proofs.KeysLemmas.{named_at}
+use Rattle.krs_model.specs.State as model
 
 -- behind a search that finds no match
 pub next_none : (r : Result ℕ Errno) → or_next r (Err ENOKEY) ≡ r

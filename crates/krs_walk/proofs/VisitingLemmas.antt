@@ -1,15 +1,11 @@
 -- The keyrings of a level, visited one after the other.
-use Rattle.std.proofs.Common.{◌≡◌, ◌≤◌, ◌<◌, ◌+◌, ℕ, List, length, drop, get_or, Result, Err, ap, ◌∙◌, sym, arith}
-use Rattle.std.specs.List.{flat_map}
-use Rattle.std.proofs.lemmas.List.{drop_all, drop_more, get_or_append_left}
-use Rattle.krs_types.specs.declared.errno.Errno.{Errno}
-use Rattle.krs_types.specs.declared.name.Name.{Name}
-use Rattle.krs_model.specs.Search.{Searcher, entered, sought, or_next}
+use Rattle.std.proofs.Common.{◌+◌, ◌<◌, ◌∙◌, ◌≡◌, ◌≤◌, ap, arith, drop, Err, flat_map, get_or, length, List, Result}
+use Rattle.std.proofs.{Common.{sym, ℕ}, lemmas.List.{drop_all, drop_more, get_or_append_left}}
+use Rattle.krs_types.specs.declared.{errno.Errno.Errno, name.Name.Name}
+use Rattle.krs_model.specs.Search.{entered, or_next, Searcher, sought}
 use Rattle.krs_model.proofs.Reach.Searches.{sought_append}
-use Rattle.krs_walk.specs.Lists.{join}
-use Rattle.krs_walk.specs.Searching.{entered_rings}
-use Rattle.krs_walk.proofs.RoundsLemmas.{IsRound, Grown, round_more, longer}
-use Rattle.krs_walk.proofs.SoughtLemmas.{next_next, next_none}
+use Rattle.krs_walk.specs.{Lists.join, Searching.entered_rings}
+use Rattle.krs_walk.proofs.{RoundsLemmas.{Grown, IsRound, longer, round_more}, SoughtLemmas.{next_next, next_none}}
 
 -- the keyrings of a level before this place were visited: their links have this fault, what is left gives the rest
 pub record IsVisit (by : Searcher) (name : Name) (first all : List ℕ) (start place : ℕ)

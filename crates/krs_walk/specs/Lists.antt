@@ -1,5 +1,5 @@
 -- The list of a walk, which has no serial twice.
-use Rattle.std.specs.Prelude.{ℕ, List, [], ◌∷◌, ◌++◌, cond}
+use Rattle.std.specs.Prelude.{[], ◌++◌, ◌∷◌, cond, List, ℕ}
 use Rattle.krs_model.specs.Levels.{is_in}
 
 -- the first list, and behind it what the second has that does not stand there yet, each once

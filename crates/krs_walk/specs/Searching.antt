@@ -1,17 +1,11 @@
 -- What the search goes by, over the keys of the definitions.
-use Rattle.std.specs.Prelude.{◌≡◌, ◌≤◌, ◌-◌, ℕ, suc, Bool, List, [], ◌∷◌, length, take, filter, flat_map, Result, Ok}
-use Rattle.std.specs.Prelude.{Err}
+use Rattle.std.specs.Prelude.{[], ◌-◌, ◌∷◌, ◌≡◌, ◌≤◌, Bool, Err, filter, flat_map, length, List, Ok, Result, suc, take}
+use Rattle.std.specs.Prelude.{ℕ}
 use Rattle.krs_types.specs.declared.errno.Errno.{Errno}
-use Rattle.krs_model.specs.Table.{at}
-use Rattle.krs_model.specs.Levels.{level, levels, search_depth}
-use Rattle.krs_model.specs.Reach.{is_ring}
-use Rattle.krs_model.specs.Search.{Searcher, searcher_with, entered, or_next, searched, sought}
+use Rattle.krs_model.specs.{Levels.{level, levels, search_depth}, Possession.attached_with, Reach.is_ring}
+use Rattle.krs_model.specs.{Search.{entered, or_next, searched, Searcher, searcher_with, sought}, Table.at}
 use Rattle.krs_keys.specs.Keys.{shown}
-use Rattle.krs_walk.specs.declared.search.Search.{Search}
-use Rattle.krs_walk.specs.declared.held.HeldRings.{HeldRings}
-use Rattle.krs_walk.specs.Lists.{join}
-use Rattle.krs_model.specs.Possession.{attached_with}
-use Rattle.krs_walk.specs.Walks.{followed_rings}
+use Rattle.krs_walk.specs.{Lists.join, Walks.followed_rings, declared.{held.HeldRings.HeldRings, search.Search.Search}}
 
 -- the context that searches
 abbrev pub searcher_for : Search → Searcher

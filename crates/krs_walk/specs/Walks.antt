@@ -1,17 +1,11 @@
 -- What the walks answer, over the keys of the definitions.
-use Rattle.std.specs.Prelude.{◌≡◌, ℕ, ◌+◌, List, [], ◌∷◌, Bool, true, false, ◌==◌, filter, flat_map, drop, Option}
-use Rattle.std.specs.Prelude.{None, Some}
-use Rattle.std.specs.List.{list_any}
+use Rattle.std.specs.Prelude.{[], ◌+◌, ◌==◌, ◌∷◌, ◌≡◌, Bool, drop, false, filter, flat_map, List, None, Option, Some}
+use Rattle.std.specs.{Prelude.{true, ℕ}, List.list_any}
 use Rattle.krs_types.specs.declared.caller.Caller.{Caller}
-use Rattle.krs_types.specs.declared.context.Context.{Context}
-use Rattle.krs_types.specs.declared.errno.Errno.{Errno}
-use Rattle.krs_types.specs.declared.errno.Errno.TheVariants.{ELOOP}
-use Rattle.krs_model.specs.Table.{Table, at}
+use Rattle.krs_types.specs.declared.{context.Context.Context, errno.Errno.{Errno, TheVariants.ELOOP}}
+use Rattle.krs_model.specs.{Levels.{is_in, levels, search_depth}, Possession.{attached_with, followed_at}}
+use Rattle.krs_model.specs.{Reach.{has_chain, is_ring, nested_in, nesting_depth}, State.Key, Table.{at, Table}}
 use Rattle.krs_walk.specs.Lists.{join}
-use Rattle.krs_model.specs.State.{Key}
-use Rattle.krs_model.specs.Levels.{levels, is_in, search_depth}
-use Rattle.krs_model.specs.Possession.{attached_with, followed_at}
-use Rattle.krs_model.specs.Reach.{is_ring, has_chain, nested_in, nesting_depth}
 
 -- the longest chain of nested keyrings that hangs down from the key has that many links: profile, nesting depth
 pub record IsHeight (keys : Table Key) (key height : ℕ) : Type 0 where

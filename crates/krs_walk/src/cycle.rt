@@ -1,9 +1,6 @@
-ghost use Rattle.std.specs.Prelude.{◌≡◌, [], true, IfOk, IsTrue, IsSome, ◌↔◌};
-ghost use Rattle.krs_model.specs.Table.{at};
-ghost use Rattle.krs_model.specs.Reach.{is_ring, links_of_key_at, closes};
-ghost use Rattle.krs_keys.specs.Keys.{shown, AreFit};
-ghost use Rattle.krs_model.specs.Laws.{ClosesCycle};
-ghost use Rattle.krs_keys.specs.Keys.{OnlyRingsLink};
+ghost use Rattle.std.specs.Prelude.{[], ◌↔◌, ◌≡◌, IfOk, IsSome, IsTrue, true};
+ghost use Rattle.krs_model.specs.{Laws.ClosesCycle, Reach.{closes, is_ring, links_of_key_at}, Table.at};
+ghost use Rattle.krs_keys.specs.Keys.{AreFit, OnlyRingsLink, shown};
 ghost use Rattle.krs_walk.specs.Walks.{is_nested_within};
 
 use crate::keyrings::rings_of;

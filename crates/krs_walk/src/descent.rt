@@ -1,10 +1,8 @@
-ghost use Rattle.std.specs.Prelude.{◌≡◌, ◌&&◌, [], ◌∷◌, Err, Some};
-ghost use Rattle.krs_model.specs.Table.{at};
-ghost use Rattle.krs_model.specs.Search.{found_by, is_open};
-ghost use Rattle.krs_keys.specs.Keys.{seen, shown, AreFit, OnlyRingsLink};
-ghost use Rattle.krs_keys.specs.Changes.{links_some};
-ghost use Rattle.krs_walk.specs.Searching.{entered_links, links_below, rings_by, searcher_for};
-ghost use Rattle.krs_walk.specs.Searching.{sought_behind, sought_in};
+ghost use Rattle.std.specs.Prelude.{[], ◌&&◌, ◌∷◌, ◌≡◌, Err, Some};
+ghost use Rattle.krs_model.specs.{Search.{found_by, is_open}, Table.at};
+ghost use Rattle.krs_keys.specs.{Changes.links_some, Keys.{AreFit, OnlyRingsLink, seen, shown}};
+ghost use Rattle.krs_walk.specs.Searching.{entered_links, links_below, rings_by, searcher_for, sought_behind};
+ghost use Rattle.krs_walk.specs.Searching.{sought_in};
 
 use crate::keyrings::rings_in;
 use crate::search::Search;

@@ -1,8 +1,7 @@
 //! Where the levels of nested keyrings end below those that are attached, and whether they have many.
-ghost use Rattle.std.specs.Prelude.{◌≡◌, [], true, flat_map};
-ghost use Rattle.std.specs.Option.{option_to_list};
+ghost use Rattle.std.specs.Prelude.{[], ◌≡◌, flat_map, option_to_list, true};
 ghost use Rattle.krs_model.specs.Possession.{attached_with};
-ghost use Rattle.krs_keys.specs.Keys.{shown, AreFit};
+ghost use Rattle.krs_keys.specs.Keys.{AreFit, shown};
 ghost use Rattle.krs_walk.specs.Walks.{followed_rings};
 
 use crate::possession::{Sought, followed_rings};

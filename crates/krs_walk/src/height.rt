@@ -1,8 +1,7 @@
-ghost use Rattle.std.specs.Prelude.{◌≡◌, ◌<◌, [], false, flat_map, IfOk, IfErr, OnOk};
+ghost use Rattle.std.specs.Prelude.{[], ◌<◌, ◌≡◌, false, flat_map, IfErr, IfOk, OnOk};
 ghost use Rattle.krs_model.specs.Reach.{has_chain, nested_in, nesting_depth};
-ghost use Rattle.krs_keys.specs.Keys.{shown, AreFit};
-ghost use Rattle.krs_walk.specs.Lists.{join};
-ghost use Rattle.krs_walk.specs.Walks.{IsHeight, IsTooDeep};
+ghost use Rattle.krs_keys.specs.Keys.{AreFit, shown};
+ghost use Rattle.krs_walk.specs.{Lists.join, Walks.{IsHeight, IsTooDeep}};
 
 use crate::keyrings::rings_of;
 use crate::visits::NoRoom;

@@ -1,11 +1,8 @@
-ghost use Rattle.std.specs.Prelude.{◌≡◌, ◌≤◌, ◌+◌, [], true, IfOk, OnOk};
-ghost use Rattle.krs_model.specs.Table.{at};
-ghost use Rattle.krs_model.specs.Reach.{is_ring};
-ghost use Rattle.krs_keys.specs.Keys.{shown, AreFit};
+ghost use Rattle.std.specs.Prelude.{[], ◌+◌, ◌≡◌, ◌≤◌, IfOk, OnOk, true};
+ghost use Rattle.krs_model.specs.{Levels.search_depth, Reach.is_ring, Table.at};
+ghost use Rattle.krs_keys.specs.Keys.{AreFit, OnlyRingsLink, shown};
+ghost use Rattle.krs_walk.specs.Searching.{AreHeld, is_held};
 ghost use Rattle.krs_walk.specs.declared.search.Search as search;
-ghost use Rattle.krs_keys.specs.Keys.{OnlyRingsLink};
-ghost use Rattle.krs_walk.specs.Searching.{is_held, AreHeld};
-ghost use Rattle.krs_model.specs.Levels.{search_depth};
 
 use crate::Visits;
 use crate::possession::{is_attached, join_attached, next_level};

@@ -1,12 +1,9 @@
 //! Which keyrings a key hangs below, by the hints of those that link it. A hint is followed only where the keys bear it out.
-ghost use Rattle.std.specs.Prelude.{◌≡◌, ◌+◌, true, slice_get, IfSome};
-ghost use Rattle.std.specs.List.{list_any};
-ghost use Rattle.std.specs.Option.{option_to_list};
-ghost use Rattle.krs_model.specs.Levels.{is_in};
-ghost use Rattle.krs_model.specs.Possession.{attached_with};
+ghost use Rattle.std.specs.{Prelude.{◌+◌, ◌≡◌, IfSome, option_to_list, slice_get, true}, List.list_any};
+ghost use Rattle.krs_model.specs.{Levels.is_in, Possession.attached_with};
 ghost use Rattle.krs_links.specs.Links.{serials};
-ghost use Rattle.krs_keys.specs.Keys.{named_links_of_content, shown, AreFit};
-ghost use Rattle.krs_walk.specs.Walks.{followed_rings, follows_link_to, is_linked, is_linked_within, HangsBelow};
+ghost use Rattle.krs_keys.specs.Keys.{AreFit, named_links_of_content, shown};
+ghost use Rattle.krs_walk.specs.Walks.{followed_rings, follows_link_to, HangsBelow, is_linked, is_linked_within};
 
 use crate::possession::{NEAR_LEVELS, Sought, followed_rings, is_followed};
 use krs_keys::{Key, LinkHint};

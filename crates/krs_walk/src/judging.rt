@@ -1,14 +1,9 @@
-ghost use Rattle.std.specs.Prelude.{◌≡◌, [], ◌∷◌, Some, Err, true};
-ghost use Rattle.krs_model.specs.Table.{at};
-ghost use Rattle.krs_model.specs.Access.{rights_on};
-ghost use Rattle.krs_model.specs.Search.{grants_search};
-ghost use Rattle.krs_model.specs.Search.{weight, weightier};
-ghost use Rattle.krs_types.specs.Name.{same_name};
-ghost use Rattle.krs_types.specs.Rights.{has_all, SEARCH};
+ghost use Rattle.std.specs.Prelude.{[], ◌∷◌, ◌≡◌, Err, Some, true};
+ghost use Rattle.krs_types.specs.{Name.same_name, Rights.{has_all, SEARCH}};
+ghost use Rattle.krs_model.specs.{Access.rights_on, Search.{grants_search, weight, weightier}, Table.at};
 ghost use Rattle.krs_links.specs.Links.{serials};
-ghost use Rattle.krs_keys.specs.Keys.{named_links_of_content, name_at, seen, AreNamed, AreFit};
-ghost use Rattle.krs_walk.specs.Searching.{is_held};
-ghost use Rattle.krs_walk.specs.Searching.{searcher_for, sought_behind, sought_in};
+ghost use Rattle.krs_keys.specs.Keys.{AreFit, AreNamed, name_at, named_links_of_content, seen};
+ghost use Rattle.krs_walk.specs.Searching.{is_held, searcher_for, sought_behind, sought_in};
 
 use crate::possession::find_in;
 use crate::search::Search;

@@ -1,7 +1,7 @@
 ghost use Rattle.std.specs.Prelude.{◌≡◌};
 ghost use Rattle.krs_model.specs.Reach.{nested_in};
 ghost use Rattle.krs_links.specs.Links.{nested, serials};
-ghost use Rattle.krs_keys.specs.Keys.{named_links_of_content, shown, AreFit};
+ghost use Rattle.krs_keys.specs.Keys.{AreFit, named_links_of_content, shown};
 
 use krs_keys::{Content, KeyTable};
 use krs_types::Serial;

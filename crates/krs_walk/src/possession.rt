@@ -1,14 +1,10 @@
-ghost use Rattle.std.specs.Prelude.{◌≡◌, ◌≤◌, [], true, false, Some, drop, length, IfOk, IfSome, OnOk};
+ghost use Rattle.std.specs.Prelude.{[], ◌≡◌, ◌≤◌, drop, false, IfOk, IfSome, length, OnOk, option_to_list, Some, true};
 ghost use Rattle.std.specs.List.{list_any};
-ghost use Rattle.std.specs.Option.{option_to_list};
-ghost use Rattle.krs_model.specs.Levels.{is_in};
-ghost use Rattle.krs_model.specs.Table.{at};
-ghost use Rattle.krs_model.specs.Possession.{attached_with, is_followed, possessed_with};
+ghost use Rattle.krs_model.specs.{Levels.is_in, Possession.{attached_with, is_followed, possessed_with}, Table.at};
 ghost use Rattle.krs_links.specs.Links.{serial_named};
-ghost use Rattle.krs_keys.specs.Keys.{name_at, named_links_of_content, seen, shown, AreFit};
-ghost use Rattle.krs_walk.specs.Lists.{join};
-ghost use Rattle.krs_walk.specs.Walks.{followed_rings, is_found, is_linked, is_linked_within};
-ghost use Rattle.krs_walk.specs.Walks.{follows_link_to, with_next};
+ghost use Rattle.krs_keys.specs.Keys.{AreFit, name_at, named_links_of_content, seen, shown};
+ghost use Rattle.krs_walk.specs.{Lists.join, Walks.followed_rings};
+ghost use Rattle.krs_walk.specs.Walks.{follows_link_to, is_found, is_linked, is_linked_within, with_next};
 
 use crate::keyrings::rings_in;
 use crate::visits::NoRoom;

@@ -1,19 +1,12 @@
-ghost use Rattle.std.specs.Prelude.{◌≡◌, ◌≤◌, ◌&&◌, [], ◌∷◌, Some, Err, true, drop, length};
-ghost use Rattle.std.specs.Prelude.{IfOk, OnOk};
-ghost use Rattle.std.specs.Option.{option_to_list};
-ghost use Rattle.krs_types.specs.declared.errno.Errno as errno;
-ghost use Rattle.krs_model.specs.Table.{at};
-ghost use Rattle.krs_model.specs.Possession.{attached_with};
-ghost use Rattle.krs_model.specs.Search.{found_with, requested_with, found_by, is_open};
-ghost use Rattle.krs_model.specs.Search.{or_next, weightier};
-ghost use Rattle.krs_model.specs.Outcome.{Is};
+ghost use Rattle.std.specs.Prelude.{[], ◌&&◌, ◌∷◌, ◌≡◌, ◌≤◌, drop, Err, IfOk, length, OnOk, option_to_list, Some, true};
+ghost use Rattle.krs_model.specs.{Outcome.Is, Possession.attached_with};
+ghost use Rattle.krs_model.specs.{Search.{found_by, found_with, is_open, or_next, requested_with, weightier}, Table.at};
 ghost use Rattle.krs_links.specs.Links.{nested, serials};
-ghost use Rattle.krs_keys.specs.Keys.{named_links_of_content, name_at, seen, shown, AreNamed, AreFit};
 ghost use Rattle.krs_keys.specs.Changes.{links_some};
-ghost use Rattle.krs_keys.specs.Keys.{OnlyRingsLink};
-ghost use Rattle.krs_walk.specs.Searching.{entered_links, entered_links_of, rings_by, rings_from};
+ghost use Rattle.krs_keys.specs.Keys.{AreFit, AreNamed, name_at, named_links_of_content, OnlyRingsLink, seen, shown};
+ghost use Rattle.krs_walk.specs.Searching.{AreHeld, entered_links, entered_links_of, Joins, rings_by, rings_from};
 ghost use Rattle.krs_walk.specs.Searching.{searched_from, searcher_for, sought_behind, sought_in};
-ghost use Rattle.krs_walk.specs.Searching.{AreHeld, Joins};
+ghost use Rattle.krs_types.specs.declared.errno.Errno as errno;
 
 use crate::held::HeldRings;
 use crate::judging::weightier;

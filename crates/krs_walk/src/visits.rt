@@ -1,6 +1,5 @@
-ghost use Rattle.std.specs.Prelude.{◌≡◌, ◌==◌, ◌<◌, ◌^◌, [], ◌++◌, ◌∷◌, false, OnOk, length, slice_index};
-ghost use Rattle.std.specs.List.{IsDistinct};
-ghost use Rattle.std.specs.Option.{option_to_list};
+ghost use Rattle.std.specs.Prelude.{[], ◌++◌, ◌<◌, ◌==◌, ◌^◌, ◌∷◌, ◌≡◌, false, length, OnOk, option_to_list};
+ghost use Rattle.std.specs.{Prelude.slice_index, List.IsDistinct};
 ghost use Rattle.krs_model.specs.Levels.{is_in};
 ghost use Rattle.krs_walk.specs.Lists.{join};
 

@@ -1,22 +1,13 @@
 -- What the asks of queues come to, once their refusals are out of the way.
-use Rattle.std.proofs.Common.{◌≡◌, ℕ, [], ◌∷◌, List, Some, Result, Ok, Err, refl, ap, ◌∙◌}
-use Rattle.std.specs.Prelude.{IsOk}
-use Rattle.std.specs.Ordering.{nat_cmp}
-use Rattle.std.specs.BTreeMap.{is_at}
-use Rattle.std.specs.Map.{set_value}
+use Rattle.std.proofs.Common.{[], ◌∙◌, ◌∷◌, ◌≡◌, ap, Err, IsOk, List, nat_cmp, Ok, refl, Result, Some, ℕ}
+use Rattle.std.specs.{BTreeMap.is_at, Map.set_value}
 use Rattle.std.proofs.lemmas.Map.Steps.{set_value_same}
-use Rattle.krs_types.specs.declared.errno.Errno.{Errno}
-use Rattle.krs_types.specs.declared.fault.Fault.{Fault}
-use Rattle.krs_types.specs.declared.note.Record.TheVariants.{Removal}
 use Rattle.krs_types.specs.Refusing.{◌>>=◌}
-use Rattle.krs_model.specs.Table.{Table, at}
-use Rattle.krs_model.specs.State.{Queue}
-use Rattle.krs_model.specs.Queues.{Queues, queue_of, watch_at, without_watch}
-use Rattle.krs_model.specs.Notes.Posting.{posted}
-use Rattle.krs_model.specs.Asks.Watching.{after_read, unwatched}
+use Rattle.krs_types.specs.declared.{errno.Errno.Errno, fault.Fault.Fault, note.Record.TheVariants.Removal}
+use Rattle.krs_model.specs.{Asks.Watching.{after_read, unwatched}, Notes.Posting.posted}
+use Rattle.krs_model.specs.{Queues.{queue_of, Queues, watch_at, without_watch}, State.Queue, Table.{at, Table}}
 use Rattle.krs_model.proofs.Tables.Changes.{alter_some}
-use Rattle.krs_watch.specs.Changes.{watch_ended}
-use Rattle.krs_watch.specs.Reads.{ReadsQueue, ReadsAt}
+use Rattle.krs_watch.specs.{Changes.watch_ended, Reads.{ReadsAt, ReadsQueue}}
 
 past : {A B : Type 0} (m : Result A Errno) (k : Result B Errno) → IsOk m → (m >>= (λ x. k)) ≡ k
 past (Ok x) k h = refl

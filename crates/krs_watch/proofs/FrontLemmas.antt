@@ -1,11 +1,8 @@
 -- Fronts of a waiting list.
-use Rattle.std.proofs.Common.{◌≡◌, ℕ, ◌+◌, ◌-◌, ◌≤◌, ◌<◌, true, false, cond, leb, List, [], ◌∷◌, ◌++◌, drop, Some, None, length, refl, sym}
-use Rattle.std.proofs.Common.{ap}
-use Rattle.std.proofs.Common.{◌∙◌, arith, append_assoc, length-append}
-use Rattle.std.specs.List.{slice_get}
+use Rattle.std.proofs.Common.{[], ◌++◌, ◌+◌, ◌-◌, ◌<◌, ◌∙◌, ◌∷◌, ◌≡◌, ◌≤◌, ap, append_assoc, arith, cond, drop, false}
+use Rattle.std.proofs.Common.{leb, length, length-append, List, None, refl, slice_get, Some, sym, true, ℕ}
 use Rattle.krs_types.specs.declared.note.Record.{Record}
-use Rattle.krs_model.specs.Notes.Bytes.{bytes_of, bytes_of_all}
-use Rattle.krs_model.specs.Notes.Front.{front, behind}
+use Rattle.krs_model.specs.Notes.{Bytes.{bytes_of, bytes_of_all}, Front.{behind, front}}
 
 -- a front ends here
 pub record Stops (room : ℕ) (rs : List Record) : Type 0 where

@@ -1,18 +1,12 @@
 -- The watches of keys that are not there, one after the other.
-use Rattle.std.proofs.Common.{◌≡◌, ℕ, ◌<◌, List, [], ◌∷◌, Some, Bool, true, false, cond, filter, ◌&&◌, not, refl, ap, ◌∙◌}
-use Rattle.std.proofs.Common.{sym, subst, arith, true≢false}
-use Rattle.std.specs.Prelude.{slice_get}
-use Rattle.std.proofs.lemmas.Option.{same_Some}
-use Rattle.std.specs.Cmp.{ranked}
-use Rattle.std.specs.List.{AllByRecursion}
-use Rattle.std.specs.List.Sorted.{IsStrictlySortedBy}
-use Rattle.std.specs.Map.{keys_of}
-use Rattle.std.specs.Ordering.{nat_cmp, ordering_then, is_le}
-use Rattle.std.specs.declared.cmp.Ordering.TheVariants.{Less, Equal, Greater}
+use Rattle.std.proofs.Common.{[], ◌&&◌, ◌<◌, ◌∙◌, ◌∷◌, ◌≡◌, ap, arith, Bool, cond, false, filter, is_le, List, nat_cmp}
+use Rattle.std.proofs.Common.{not, refl, slice_get, Some, subst, sym, true, true≢false, ℕ}
+use Rattle.std.specs.BTreeMap.{is_at, Range.range_contains}
+use Rattle.std.specs.{Cmp.ranked, List.{AllByRecursion, Sorted.IsStrictlySortedBy}, Map.keys_of, Ordering.ordering_then}
+use Rattle.std.specs.declared.cmp.Ordering.TheVariants.{Equal, Greater, Less}
 use Rattle.std.specs.declared.ops.Bound.TheVariants.{Included, Unbounded}
-use Rattle.std.specs.BTreeMap.{is_at}
-use Rattle.std.specs.BTreeMap.Range.{range_contains}
-use Rattle.krs_model.specs.Queues.{Watch, place_cmp, without_watch}
+use Rattle.std.proofs.lemmas.Option.{same_Some}
+use Rattle.krs_model.specs.Queues.{place_cmp, Watch, without_watch}
 use Rattle.krs_watch.specs.Watched.{gone_watches, NoneGoneBefore}
 use Rattle.krs_watch.proofs.WatchesLemmas.{first_same, itself}
 

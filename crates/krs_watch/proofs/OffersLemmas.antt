@@ -1,16 +1,12 @@
 -- Records that come to queues, by their filters or whatever these are.
-use Rattle.std.proofs.Common.{◌≡◌, ℕ, List, [], ◌∷◌, true, false, cond, Option, Some, None, filter, refl, ap, ◌∙◌}
-use Rattle.std.specs.Option.{option_map}
-use Rattle.std.specs.Ordering.{nat_cmp}
+use Rattle.std.proofs.Common.{[], ◌∙◌, ◌∷◌, ◌≡◌, ap, cond, false, filter, List, nat_cmp, None, Option, option_map, refl}
+use Rattle.std.proofs.Common.{Some, true, ℕ}
 use Rattle.std.specs.BTreeMap.{is_at}
-use Rattle.krs_model.specs.Table.{Table, at, alter}
-use Rattle.krs_model.proofs.Tables.Changes.{alter_none}
-use Rattle.krs_model.proofs.Tables.Distinct.{at_alter}
 use Rattle.krs_types.specs.declared.note.Record.{Record}
-use Rattle.krs_model.specs.State.{Queue}
-use Rattle.krs_model.specs.Notes.Filter.{passes_if_any}
-use Rattle.krs_model.specs.Notes.Posting.{Post, after_note, post_all, passes_at}
-use Rattle.krs_watch.specs.Offers.{offered, offer_all}
+use Rattle.krs_model.specs.Notes.{Filter.passes_if_any, Posting.{after_note, passes_at, Post, post_all}}
+use Rattle.krs_model.specs.{State.Queue, Table.{alter, at, Table}}
+use Rattle.krs_model.proofs.Tables.{Changes.alter_none, Distinct.at_alter}
+use Rattle.krs_watch.specs.Offers.{offer_all, offered}
 use Rattle.krs_watch.proofs.TablesLemmas.{alter_same, alter_still}
 
 -- an offer leaves the filter

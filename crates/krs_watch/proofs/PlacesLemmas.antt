@@ -1,13 +1,10 @@
 -- The part of the watches that lies around those of a key.
-use Rattle.std.proofs.Common.{◌≡◌, ℕ, ◌+◌, List, [], ◌∷◌, Bool, true, false, cond, eqb, ◌||◌, filter, refl, sym}
-use Rattle.std.proofs.Common.{ap, ◌∙◌}
-use Rattle.std.specs.List.{list_any}
-use Rattle.std.specs.declared.ops.Bound.TheVariants.{Included, Excluded, Unbounded}
+use Rattle.std.proofs.Common.{[], ◌+◌, ◌||◌, ◌∙◌, ◌∷◌, ◌≡◌, ap, Bool, cond, eqb, eqb-true, false, filter, List, refl}
+use Rattle.std.proofs.Common.{sym, true, ℕ}
 use Rattle.std.specs.BTreeMap.Range.{range_contains}
-use Rattle.std.proofs.lemmas.Bool.{eqb-true}
-use Rattle.krs_model.specs.Queues.{Watch, place_cmp}
-use Rattle.krs_model.specs.Notes.Posting.{watches_at}
-use Rattle.krs_keys.proofs.SessionsLemmas.{starts, above}
+use Rattle.std.specs.{List.list_any, declared.ops.Bound.TheVariants.{Excluded, Included, Unbounded}}
+use Rattle.krs_model.specs.{Notes.Posting.watches_at, Queues.{place_cmp, Watch}}
+use Rattle.krs_keys.proofs.SessionsLemmas.{above, starts}
 
 -- what a weaker test leaves has all that a stronger one finds
 pub filter_within : {X : Type 0} (p q : X → Bool) (xs : List X) → ((x : X) → p x ≡ true → q x ≡ true) →

@@ -1,33 +1,18 @@
 -- Watches whose queues are there, after a change of the queues or of the watches.
-use Rattle.std.proofs.Common.{◌≡◌, ℕ, List, [], ◌∷◌, Option, Some, None, Bool, true, false, cond, filter, Result, Ok, Err}
-use Rattle.std.proofs.Common.{◌==◌, ◌&&◌, ◌||◌, not, refl, ap, ◌∙◌, sym, subst, arith, true≢false, ⊎_elim}
-use Rattle.std.specs.Prelude.{IsOk}
-use Rattle.std.specs.List.{list_any}
-use Rattle.std.specs.Option.{is_some, IsSome}
-use Rattle.std.specs.Ordering.{nat_cmp}
-use Rattle.std.specs.BTreeMap.{is_at}
-use Rattle.std.specs.Cmp.{nat_cmp_total, eq_by_cmp_equiv}
-use Rattle.std.specs.Map.{keys_of}
-use Rattle.std.proofs.lemmas.Bool.Decides.{nat_tests}
-use Rattle.std.proofs.lemmas.Map.{lookup-none}
-use Rattle.std.proofs.lemmas.Map.Entries.{none_past_head}
-use Rattle.std.proofs.lemmas.Map.Keys.{sorted_tail, IsDistinct-from_sorted}
-use Rattle.std.proofs.lemmas.Option.{none-some}
+use Rattle.std.proofs.Common.{[], ⊎_elim, ◌&&◌, ◌==◌, ◌||◌, ◌∙◌, ◌∷◌, ◌≡◌, ap, arith, Bool, cond, Err, false, filter}
+use Rattle.std.proofs.Common.{is_some, IsOk, IsSome, List, nat_cmp, None, not, Ok, Option, refl, Result, Some, subst}
+use Rattle.std.proofs.Common.{sym, true, true≢false, ℕ}
+use Rattle.std.specs.{BTreeMap.is_at, Cmp.{eq_by_cmp_equiv, nat_cmp_total}, List.list_any, Map.keys_of}
+use Rattle.std.proofs.lemmas.{Bool.Decides.nat_tests, Map.{lookup-none, Entries.none_past_head}}
+use Rattle.std.proofs.lemmas.{Map.Keys.{IsDistinct-from_sorted, sorted_tail}, Option.none-some}
 use Rattle.krs_types.specs.declared.fault.Fault.{Fault}
-use Rattle.krs_model.specs.Table.{Table, at, put, without, alter, Rises}
-use Rattle.krs_model.specs.State.{Queue}
-use Rattle.krs_model.specs.Queues.{Watch, queue_of, queues_without, with_watch, without_watch}
-use Rattle.krs_model.specs.Notes.Posting.{Post, after_note, post_all}
-use Rattle.krs_model.specs.Asks.Watching.{after_read, watches_of}
-use Rattle.krs_model.proofs.Tables.Changes.{at_without_other, at_or_apart}
-use Rattle.krs_model.proofs.Tables.Distinct.{same_test, has_entry}
-use Rattle.krs_model.proofs.Sound.Changes.{there_put, there_alter}
-use Rattle.krs_model.proofs.Sound.Watches.{each_with, each_without}
-use Rattle.krs_model.proofs.Notes.Fitting.{each_on, each_filter}
-use Rattle.krs_model.proofs.Reach.Levels.{same_is}
-use Rattle.krs_watch.specs.Offers.{offered, offer_all}
-use Rattle.krs_watch.specs.Reads.{ReadsAt}
-use Rattle.krs_watch.specs.Watched.{IsQueued, AreQueued, owns}
+use Rattle.krs_model.specs.{Asks.Watching.{after_read, watches_of}, Notes.Posting.{after_note, Post, post_all}}
+use Rattle.krs_model.specs.Queues.{queue_of, queues_without, Watch, with_watch, without_watch}
+use Rattle.krs_model.specs.{State.Queue, Table.{alter, at, put, Rises, Table, without}}
+use Rattle.krs_model.proofs.{Notes.Fitting.{each_filter, each_on}, Reach.Levels.same_is}
+use Rattle.krs_model.proofs.Sound.{Changes.{there_alter, there_put}, Watches.{each_with, each_without}}
+use Rattle.krs_model.proofs.Tables.{Changes.{at_or_apart, at_without_other}, Distinct.{has_entry, same_test}}
+use Rattle.krs_watch.specs.{Offers.{offer_all, offered}, Reads.ReadsAt, Watched.{AreQueued, IsQueued, owns}}
 
 -- ---- changes of queues
 pub queued_put :

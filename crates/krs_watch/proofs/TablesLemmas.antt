@@ -1,8 +1,7 @@
 -- Laws of tables for those of queues.
-use Rattle.std.proofs.Common.{◌≡◌, ℕ, [], ◌∷◌, true, false, cond, Some, refl, ap, arith}
-use Rattle.std.specs.Ordering.{nat_cmp}
+use Rattle.std.proofs.Common.{[], ◌∷◌, ◌≡◌, ap, arith, cond, false, nat_cmp, refl, Some, true, ℕ}
 use Rattle.std.specs.BTreeMap.{is_at}
-use Rattle.krs_model.specs.Table.{Table, at, alter}
+use Rattle.krs_model.specs.Table.{alter, at, Table}
 
 -- two changes that do the same to what is there
 pub alter_same : {X : Type 0} (es : Table X) (k : ℕ) (f g : X → X) (v : X) → at es k ≡ Some v → f v ≡ g v →

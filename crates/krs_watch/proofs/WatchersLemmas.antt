@@ -1,12 +1,10 @@
 -- Which queues a note reaches.
-use Rattle.std.proofs.Common.{◌≡◌, ℕ, ◌&&◌, Bool, true, false, cond, eqb, List, [], ◌∷◌, filter, map, refl, ap, ◌∙◌}
-use Rattle.std.proofs.lemmas.Bool.{eqb-true}
+use Rattle.std.proofs.Common.{[], ◌&&◌, ◌∙◌, ◌∷◌, ◌≡◌, ap, Bool, cond, eqb, eqb-true, false, filter, List, map, refl}
+use Rattle.std.proofs.Common.{true, ℕ}
 use Rattle.krs_types.specs.declared.note.Record.{Record}
-use Rattle.krs_model.specs.Table.{Table, at}
-use Rattle.krs_model.specs.State.{Queue}
-use Rattle.krs_model.specs.Queues.{Watch}
-use Rattle.krs_model.specs.Notes.Posting.{Note, Post, note_for, passes_at, watches_at, records_for}
-use Rattle.krs_watch.specs.Laws.{watches_between, NotesReachTheirWatchers}
+use Rattle.krs_model.specs.Notes.Posting.{Note, note_for, passes_at, Post, records_for, watches_at}
+use Rattle.krs_model.specs.{Queues.Watch, State.Queue, Table.{at, Table}}
+use Rattle.krs_watch.specs.Laws.{NotesReachTheirWatchers, watches_between}
 
 module _ (queues : Table Queue) (note : Note) (q : ℕ) where
   -- the filter of its queue passes it

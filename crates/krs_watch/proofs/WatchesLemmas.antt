@@ -1,24 +1,16 @@
 -- What is listed of the watches of queues, after a change of the watches.
-use Rattle.std.proofs.Common.{◌≡◌, ℕ, ◌<◌, ◌≤◌, List, [], ◌∷◌, Option, Some, None, Bool, true, false, cond, filter}
-use Rattle.std.proofs.Common.{◌==◌, ◌&&◌, ◌≢◌, not, nat_eq, refl, ap, ◌∙◌, sym, subst, arith, true≢false}
-use Rattle.std.proofs.Common.{Result, Ok, Err}
-use Rattle.std.specs.Prelude.{is_err, OnOk, OnErr, slice_get}
-use Rattle.std.proofs.lemmas.Bool.{eqb-true}
-use Rattle.std.proofs.lemmas.Bool.Decides.{nat_tests}
-use Rattle.std.specs.Cmp.{ranked}
-use Rattle.std.specs.List.{list_any}
-use Rattle.std.specs.Map.{lookup}
-use Rattle.std.specs.Option.{is_some, IfSome}
-use Rattle.std.specs.Ordering.{nat_cmp, ordering_then, is_gt, is_le}
-use Rattle.std.specs.declared.cmp.Ordering.{Ordering}
-use Rattle.std.specs.declared.cmp.Ordering.TheVariants.{Less, Equal, Greater}
+use Rattle.std.proofs.Common.{[], ◌&&◌, ◌<◌, ◌==◌, ◌∙◌, ◌∷◌, ◌≡◌, ◌≢◌, ◌≤◌, ap, arith, Bool, BTreeSet, cond, eqb-true}
+use Rattle.std.proofs.Common.{Err, false, filter, IfSome, is_err, is_gt, is_le, is_some, List, nat_cmp, nat_eq, None}
+use Rattle.std.proofs.Common.{not, Ok, OnErr, OnOk, Option, refl, Result, slice_get, Some, subst, sym, true, true≢false}
+use Rattle.std.proofs.Common.{ℕ}
+use Rattle.std.specs.BTreeMap.{is_at, Range.IsLeBy}
+use Rattle.std.specs.{BTreeSet.{IsKeyInRange, IsKeyRangeOf}, Cmp.ranked, List.list_any, Map.lookup}
+use Rattle.std.specs.{Ordering.ordering_then, declared.cmp.Ordering.{Ordering, TheVariants.{Equal, Greater, Less}}}
 use Rattle.std.specs.declared.ops.Bound.TheVariants.{Included, Unbounded}
-use Rattle.std.specs.BTreeMap.{is_at}
-use Rattle.std.specs.BTreeMap.Range.{IsLeBy}
-use Rattle.std.specs.BTreeSet.{BTreeSet, IsKeyInRange, IsKeyRangeOf}
-use Rattle.krs_model.specs.Queues.{Watch, place_cmp, watch_at, without_watch}
-use Rattle.krs_keys.proofs.SessionsLemmas.{tied, starts}
-use Rattle.krs_watch.specs.Watched.{is_listed, AreListed}
+use Rattle.std.proofs.lemmas.Bool.Decides.{nat_tests}
+use Rattle.krs_model.specs.Queues.{place_cmp, Watch, watch_at, without_watch}
+use Rattle.krs_keys.proofs.SessionsLemmas.{starts, tied}
+use Rattle.krs_watch.specs.Watched.{AreListed, is_listed}
 
 -- ---- two places
 either : {X Y : Type 0} (f : X → Y) (b : Bool) (o r : X) → f (cond b o r) ≡ cond b (f o) (f r)

@@ -1,15 +1,9 @@
 -- How what a method gives and leaves is compared to the definitions.
-use Rattle.std.specs.Prelude.{◌≡◌, ℕ, Bool, not, [], ◌∷◌, map, filter, IsOk, Result, Ok, Err}
-use Rattle.krs_types.specs.declared.errno.Errno.{Errno}
-use Rattle.krs_types.specs.declared.fault.Fault.{Fault}
-use Rattle.krs_types.specs.declared.note.Record.TheVariants.{Removal}
+use Rattle.std.specs.Prelude.{[], ◌∷◌, ◌≡◌, Bool, Err, filter, IsOk, map, not, Ok, Result, ℕ}
 use Rattle.krs_types.specs.Refusing.{◌>>=◌}
-use Rattle.krs_model.specs.Table.{Table}
-use Rattle.krs_model.specs.State.{Queue}
-use Rattle.krs_model.specs.Queues.{Queues, queue_of}
-use Rattle.krs_model.specs.Notes.Posting.{removal_for, posted}
-use Rattle.krs_model.specs.Outcome.{Fails}
-use Rattle.krs_model.specs.Asks.Watching.{Change, unwatched}
+use Rattle.krs_types.specs.declared.{errno.Errno.Errno, fault.Fault.Fault, note.Record.TheVariants.Removal}
+use Rattle.krs_model.specs.{Asks.Watching.{Change, unwatched}, Notes.Posting.{posted, removal_for}, Outcome.Fails}
+use Rattle.krs_model.specs.{Queues.{queue_of, Queues}, State.Queue, Table.Table}
 
 -- from old, this result and these queues are what is meant; a fault leaves them as they were
 abbrev pub LeadsQueues : {A : Type 0} → Queues → Result A Fault → Queues → Change A → Type 0

@@ -1,13 +1,9 @@
 -- What the laws say of posts and reads.
-use Rattle.std.specs.Prelude.{◌≡◌, ℕ, ◌==◌, ◌&&◌, List, map, filter}
-use Rattle.std.specs.Option.{option_map}
+use Rattle.std.specs.Prelude.{◌&&◌, ◌==◌, ◌≡◌, filter, List, map, option_map, ℕ}
 use Rattle.krs_types.specs.declared.note.Record.{Record}
-use Rattle.krs_model.specs.Table.{Table, at}
-use Rattle.krs_model.specs.State.{Queue}
-use Rattle.krs_model.specs.Queues.{Queues, Watch}
-use Rattle.krs_model.specs.Notes.Front.{front, behind, IsLongestFront}
-use Rattle.krs_model.specs.Notes.Posting.{Note, Post, note_for, passes_at, posts_of, after_notes, post_all}
-use Rattle.krs_model.specs.Notes.Posting.{records_for}
+use Rattle.krs_model.specs.Notes.Front.{behind, front, IsLongestFront}
+use Rattle.krs_model.specs.Notes.Posting.{after_notes, Note, note_for, passes_at, Post, post_all, posts_of, records_for}
+use Rattle.krs_model.specs.{Queues.{Queues, Watch}, State.Queue, Table.{at, Table}}
 
 -- the watches of a key by a queue
 abbrev pub watches_between : ℕ → ℕ → List Watch → List Watch

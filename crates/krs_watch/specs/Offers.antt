@@ -1,10 +1,7 @@
 -- A record that comes to a queue's filter.
-use Rattle.std.specs.Prelude.{List, [], ◌∷◌, if◌then◌else◌}
+use Rattle.std.specs.Prelude.{[], ◌∷◌, if◌then◌else◌, List}
 use Rattle.krs_types.specs.declared.note.Record.{Record}
-use Rattle.krs_model.specs.Table.{Table, alter}
-use Rattle.krs_model.specs.State.{Queue}
-use Rattle.krs_model.specs.Notes.Filter.{passes_if_any}
-use Rattle.krs_model.specs.Notes.Posting.{Post, after_note}
+use Rattle.krs_model.specs.{Notes.{Filter.passes_if_any, Posting.{after_note, Post}}, State.Queue, Table.{alter, Table}}
 
 -- the queue once a record came to its filter
 abbrev pub offered : Record → Queue → Queue

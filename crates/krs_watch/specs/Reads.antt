@@ -1,12 +1,8 @@
 -- A read of one queue.
-use Rattle.std.specs.Prelude.{◌≡◌, ℕ, List, Some, Result, Ok, Err}
+use Rattle.std.specs.Prelude.{◌≡◌, Err, List, Ok, Result, Some, ℕ}
 use Rattle.krs_types.specs.declared.fault.Fault.{Fault}
-use Rattle.krs_model.specs.Table.{Table, at, alter}
-use Rattle.krs_model.specs.State.{Queue}
-use Rattle.krs_model.specs.Notes.Bytes.{bytes_of_all}
-use Rattle.krs_model.specs.Notes.Front.{front, readable}
-use Rattle.krs_model.specs.Outcome.{Fails}
-use Rattle.krs_model.specs.Asks.Watching.{after_read}
+use Rattle.krs_model.specs.{Asks.Watching.after_read, Notes.Bytes.bytes_of_all}
+use Rattle.krs_model.specs.{Notes.Front.{front, readable}, Outcome.Fails, State.Queue, Table.{alter, at, Table}}
 
 -- what fits is taken and its bytes are given; where that is refused, or memory runs out, nothing is taken
 abbrev pub ReadsQueue : ℕ → Queue → Result (List ℕ) Fault → Queue → Type 0

@@ -1,9 +1,8 @@
 -- Which queues and watches of the definitions stand for those of the code.
-use Rattle.krs_model.specs.State.{Queue}
-use Rattle.krs_model.specs.Queues.{Queues}
+use Rattle.krs_model.specs.{Queues.Queues, State.Queue}
+use Rattle.krs_watch.specs.Watched.{AreQueued}
 use Rattle.krs_watch.specs.declared.queue.NoteQueue.TheInside as queue
 use Rattle.krs_watch.specs.declared.queues.WatchQueues.TheInside as queues
-use Rattle.krs_watch.specs.Watched.{AreQueued}
 
 abbrev pub queue_of : queue.Inside → Queue
 queue_of q = record { client = q.client; capacity = q.ring.capacity; filter = q.filter; waiting = q.ring.waiting }

@@ -1,13 +1,8 @@
 -- Watches, and what is kept of them beside.
-use Rattle.std.specs.Prelude.{◌≡◌, ℕ, List, filter, Bool, ◌==◌, ◌&&◌, not, is_some, IsSome}
-use Rattle.std.specs.List.{list_any}
-use Rattle.std.specs.declared.ops.Bound.TheVariants.{Included, Unbounded}
-use Rattle.std.specs.BTreeMap.{is_at}
-use Rattle.std.specs.BTreeMap.Range.{range_contains}
-use Rattle.krs_model.specs.Table.{Table, at}
-use Rattle.krs_model.specs.State.{Queue}
-use Rattle.krs_model.specs.Queues.{Watch, place_cmp, watch_at}
-use Rattle.krs_model.specs.Orderly.{Each}
+use Rattle.std.specs.Prelude.{◌&&◌, ◌==◌, ◌≡◌, Bool, filter, is_some, IsSome, List, not, ℕ}
+use Rattle.std.specs.BTreeMap.{is_at, Range.range_contains}
+use Rattle.std.specs.{List.list_any, declared.ops.Bound.TheVariants.{Included, Unbounded}}
+use Rattle.krs_model.specs.{Orderly.Each, Queues.{place_cmp, Watch, watch_at}, State.Queue, Table.{at, Table}}
 use Rattle.krs_watch.specs.declared.watches.Watches.TheInside.{Inside}
 
 -- the place of a queue and a key is listed

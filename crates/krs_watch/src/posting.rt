@@ -1,8 +1,6 @@
 ghost use Rattle.std.specs.Prelude.{◌≡◌, false, map};
-ghost use Rattle.krs_model.specs.Table.{alter};
-ghost use Rattle.krs_model.specs.Notes.Bytes.{is_loss};
-ghost use Rattle.krs_model.specs.Notes.Posting.{watches_at, note_for, after_note};
-ghost use Rattle.krs_watch.specs.Offers.{offered, offer_all};
+ghost use Rattle.krs_model.specs.{Notes.{Bytes.is_loss, Posting.{after_note, note_for, watches_at}}, Table.alter};
+ghost use Rattle.krs_watch.specs.Offers.{offer_all, offered};
 
 use crate::queue::NoteQueue;
 use krs_types::{KeyEvent, Record};

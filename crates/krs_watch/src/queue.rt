@@ -1,11 +1,9 @@
-ghost use Rattle.std.specs.Prelude.{◌≡◌, ◌≤◌, ◌+◌, ◌++◌, ◌==◌, false, nat_le, length, vec_len, vec_capacity, OnOk};
-ghost use Rattle.std.specs.Prelude.{OnErr, IfOk, IsOk};
-ghost use Rattle.krs_model.specs.Notes.Bytes.{is_loss, bytes_of, bytes_of_all};
-ghost use Rattle.krs_model.specs.Notes.Front.{front, behind};
-ghost use Rattle.krs_model.specs.Notes.Posting.{after_note};
+ghost use Rattle.std.specs.Prelude.{◌++◌, ◌+◌, ◌==◌, ◌≡◌, ◌≤◌, false, IfOk, IsOk, length, nat_le, OnErr, OnOk};
+ghost use Rattle.std.specs.Prelude.{vec_capacity, vec_len};
 ghost use Rattle.krs_model.specs.Asks.Watching.{new_queue, with_filter};
-ghost use Rattle.krs_watch.specs.Reads.{ReadsQueue};
-ghost use Rattle.krs_watch.specs.Offers.{offered};
+ghost use Rattle.krs_model.specs.Notes.Bytes.{bytes_of, bytes_of_all, is_loss};
+ghost use Rattle.krs_model.specs.Notes.{Front.{behind, front}, Posting.after_note};
+ghost use Rattle.krs_watch.specs.{Offers.offered, Reads.ReadsQueue};
 
 use crate::memory::Minded;
 use krs_notes::{Filter, Record, encode, passes};

@@ -1,13 +1,10 @@
-ghost use Rattle.std.specs.Prelude.{◌≡◌, ◌==◌, ◌↔◌, false, not, filter, map, []};
-ghost use Rattle.std.specs.List.{list_any};
-ghost use Rattle.krs_model.specs.Queues.{no_queues, queues_without};
-ghost use Rattle.krs_model.specs.Notes.Posting.{posts_of, posted, post_all, removal_for};
-ghost use Rattle.krs_model.specs.Asks.Watching.{opened, filtered, read_out, closed, watched, without_client};
-ghost use Rattle.krs_model.specs.Table.{Rises, alter};
-ghost use Rattle.krs_model.specs.Asks.Watching.{with_filter};
-ghost use Rattle.krs_watch.specs.Reads.{ReadsAt};
-ghost use Rattle.krs_watch.specs.Watched.{gone_watches, owns};
-ghost use Rattle.krs_watch.specs.Changes.{LeadsQueues, LeadsAlways, OwnsQueue, watch_ended, swept};
+ghost use Rattle.std.specs.{Prelude.{[], ◌==◌, ◌↔◌, ◌≡◌, false, filter, map, not}, List.list_any};
+ghost use Rattle.krs_model.specs.Asks.Watching.{closed, filtered, opened, read_out, watched, with_filter};
+ghost use Rattle.krs_model.specs.Asks.Watching.{without_client};
+ghost use Rattle.krs_model.specs.Notes.Posting.{post_all, posted, posts_of, removal_for};
+ghost use Rattle.krs_model.specs.{Queues.{no_queues, queues_without}, Table.{alter, Rises}};
+ghost use Rattle.krs_watch.specs.Changes.{LeadsAlways, LeadsQueues, OwnsQueue, swept, watch_ended};
+ghost use Rattle.krs_watch.specs.{Reads.ReadsAt, Watched.{gone_watches, owns}};
 
 use crate::memory::Memory;
 use crate::posting::{Place, around, post, post_note};
@@ -41,7 +38,7 @@ impl Model for WatchQueues {
 
     ghost Value = { Queues };
 
-    ghost use Rattle.krs_watch.specs.View.{queues_of, AreQueuedInside};
+    ghost use Rattle.krs_watch.specs.View.{AreQueuedInside, queues_of};
 
     ghost view = { queues_of };
 

@@ -1,8 +1,6 @@
 //! What is watched, by key and by queue.
-ghost use Rattle.std.specs.Prelude.{ℕ, ◌≡◌, ◌<◌, ◌==◌, not, filter, length, [], None, IsSome, IfSome, IfNone};
-ghost use Rattle.std.specs.Prelude.{OnOk, OnErr, Some, slice_get};
-ghost use Rattle.std.specs.List.Sorted.{IsStrictlySortedBy};
-ghost use Rattle.std.specs.Map.{keys_of};
+ghost use Rattle.std.specs.Prelude.{[], ◌<◌, ◌==◌, ◌≡◌, filter, IfNone, IfSome, IsSome, length, None, not, OnErr, OnOk};
+ghost use Rattle.std.specs.{Prelude.{slice_get, Some, ℕ}, List.Sorted.IsStrictlySortedBy, Map.keys_of};
 ghost use Rattle.krs_model.specs.Queues.{place_cmp, watch_at, with_watch, without_watch};
 ghost use Rattle.krs_watch.specs.Watched.{gone_watches, NoneGoneBefore};
 

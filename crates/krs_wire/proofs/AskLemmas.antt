@@ -1,27 +1,18 @@
 -- An ask's frame is cut as that ask with its tag, and a frame that is cut is that ask's.
-use Rattle.std.proofs.Common.{◌≡◌, ℕ, ◌^◌, ◌<◌, ◌≤◌, Bool, true, false, cond, eqb, ltb, ◌||◌, ◌⊎◌, inl, inr}
-use Rattle.std.proofs.Common.{List, [], ◌∷◌, ◌++◌, length, take, drop, Option, Some, None, Result, Ok, Err}
-use Rattle.std.proofs.Common.{refl, sym, ap, subst, ◌∙◌, append_assoc, arith, length-append}
-use Rattle.std.specs.Int.{w16, w32, to_le_bytes}
-use Rattle.std.proofs.lemmas.Bool.{ltb-false, le-ltb, eqb-true}
-use Rattle.std.proofs.lemmas.List.{take_at, drop_at, append-nil, take-append-drop, length-take}
-use Rattle.krs_wire.specs.declared.fault.WireFault.{WireFault}
-use Rattle.krs_wire.specs.declared.fault.WireFault.TheVariants.{BadVersion, BadBody}
-use Rattle.krs_types.specs.declared.ask.Ask.{Ask}
-use Rattle.krs_types.specs.declared.ask.Op.{Op}
-use Rattle.krs_wire.specs.declared.framed.Framed.{Framed}
-use Rattle.krs_wire.specs.Field.{number, both}
-use Rattle.krs_wire.specs.Faulting.{after}
-use Rattle.krs_wire.specs.Bodies.{number_of_op, body_of_op, FitsOp}
-use Rattle.krs_wire.specs.Tag.{version_of, tag_text, tag_field, FitsTag}
-use Rattle.krs_wire.specs.Frame.{rest, Frames, front_of, front_by, front_in, is_bad_length, framed_of, framed_by}
-use Rattle.krs_wire.specs.Frame.{op_of, said_by, head_fields}
-use Rattle.krs_wire.specs.Encoding.{framed, ask_text, ask_frame, FitsAsk}
-use Rattle.krs_wire.proofs.CaseLemmas.{or_false, or_true}
-use Rattle.krs_wire.proofs.FieldLemmas.{IsBytes, IsBytes-take, IsExact, wide16, wide32, number_exact, both_exact}
-use Rattle.krs_wire.proofs.TagLemmas.{tag_exact, version_is}
-use Rattle.krs_wire.proofs.OpLemmas.{op_again, op_small, op_takes}
-use Rattle.krs_wire.proofs.CutLemmas.{IsFront, in_made, in_parts}
+use Rattle.std.proofs.Common.{[], ◌++◌, ◌<◌, ◌^◌, ◌||◌, ◌∙◌, ◌∷◌, ◌≡◌, ◌≤◌, ◌⊎◌, ap, append-nil, append_assoc, arith}
+use Rattle.std.proofs.Common.{Bool, cond, drop, drop_at, eqb, eqb-true, Err, false, inl, inr, le-ltb, length}
+use Rattle.std.proofs.Common.{length-append, length-take, List, ltb, ltb-false, None, Ok, Option, refl, Result, Some}
+use Rattle.std.proofs.Common.{subst, sym, take, take-append-drop, take_at, true, w16, w32, ℕ}
+use Rattle.std.specs.Int.{to_le_bytes}
+use Rattle.krs_types.specs.declared.ask.{Ask.Ask, Op.Op}
+use Rattle.krs_wire.specs.{Bodies.{body_of_op, FitsOp, number_of_op}, Encoding.{ask_frame, ask_text, FitsAsk, framed}}
+use Rattle.krs_wire.specs.{Faulting.after, Field.{both, number}, Frame.{framed_by, framed_of, Frames, front_by}}
+use Rattle.krs_wire.specs.Frame.{front_in, front_of, head_fields, is_bad_length, op_of, rest, said_by}
+use Rattle.krs_wire.specs.{Tag.{FitsTag, tag_field, tag_text, version_of}, declared.fault.WireFault.WireFault}
+use Rattle.krs_wire.specs.declared.{fault.WireFault.TheVariants.{BadBody, BadVersion}, framed.Framed.Framed}
+use Rattle.krs_wire.proofs.{CaseLemmas.{or_false, or_true}, CutLemmas.{in_made, in_parts, IsFront}}
+use Rattle.krs_wire.proofs.FieldLemmas.{both_exact, IsBytes, IsBytes-take, IsExact, number_exact, wide16, wide32}
+use Rattle.krs_wire.proofs.{OpLemmas.{op_again, op_small, op_takes}, TagLemmas.{tag_exact, version_is}}
 
 head_exact : IsExact head_fields
 head_exact =

@@ -1,5 +1,5 @@
 -- What tests and results tell of their cases.
-use Rattle.std.proofs.Common.{◌≡◌, Bool, true, false, cond, ◌||◌, Option, Some, None, Ok, refl, inl, inr, ◌⊎◌}
+use Rattle.std.proofs.Common.{◌||◌, ◌≡◌, ◌⊎◌, Bool, cond, false, inl, inr, None, Ok, Option, refl, Some, true}
 use Rattle.krs_wire.specs.Faulting.{or_bad_body}
 
 pub chosen : {A : Type 0} (b : Bool) (x y z : A) → cond b x y ≡ z → ((b ≡ true) × (x ≡ z)) ⊎ ((b ≡ false) × (y ≡ z))

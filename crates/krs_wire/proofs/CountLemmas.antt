@@ -1,18 +1,14 @@
 -- So many of a field.
-use Rattle.std.proofs.Common.{◌≡◌, ℕ, zero, suc, ◌+◌, ◌-◌, ◌*◌, ◌^◌, ◌<◌, ◌≤◌, List, [], ◌∷◌, ◌++◌, length, Option}
-use Rattle.std.proofs.Common.{Some, None, Ok, Err, refl, sym, ap, subst, ◌∙◌, append_assoc, arith, length-append}
-use Rattle.std.specs.List.{flat_map, AllByRecursion}
-use Rattle.std.specs.Option.{option_and_then}
-use Rattle.std.specs.Int.{w32, to_le_bytes}
-use Rattle.std.proofs.lemmas.List.{append-nil}
+use Rattle.std.proofs.Common.{[], ◌*◌, ◌++◌, ◌+◌, ◌-◌, ◌<◌, ◌^◌, ◌∙◌, ◌∷◌, ◌≡◌, ◌≤◌, ap, append-nil, append_assoc}
+use Rattle.std.proofs.Common.{arith, Err, flat_map, length, length-append, List, None, Ok, Option, option_and_then}
+use Rattle.std.proofs.Common.{refl, Some, subst, suc, sym, w32, zero, ℕ}
+use Rattle.std.specs.{Int.to_le_bytes, List.AllByRecursion}
 use Rattle.krs_types.specs.declared.note.FilterEntry.{FilterEntry}
-use Rattle.krs_wire.specs.declared.fault.WireFault.{WireFault}
-use Rattle.krs_wire.specs.declared.fault.WireFault.TheVariants.{BadBody}
-use Rattle.krs_wire.specs.Field.{Field, number, counted, repeated, many_read}
-use Rattle.krs_wire.specs.Faulting.{or_bad_body}
 use Rattle.krs_wire.specs.Bodies.{entry_field}
+use Rattle.krs_wire.specs.{Faulting.or_bad_body, Field.{counted, Field, many_read, number, repeated}}
+use Rattle.krs_wire.specs.declared.fault.WireFault.{WireFault, TheVariants.BadBody}
 use Rattle.krs_wire.proofs.CaseLemmas.{ok_body}
-use Rattle.krs_wire.proofs.FieldLemmas.{IsBytes, IsExact, Takes, wide32, number_exact, bind_some, some_is}
+use Rattle.krs_wire.proofs.FieldLemmas.{bind_some, IsBytes, IsExact, number_exact, some_is, Takes, wide32}
 
 module _ {A : Type 0} (f : Field A) (exact : IsExact f) where
   record ManyTakes (n : ℕ) (bytes : List ℕ) (xs : List A) (more : List ℕ) : Type 0 where

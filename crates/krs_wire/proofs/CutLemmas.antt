@@ -1,16 +1,13 @@
 -- How frames go on: with the next frame, and with the next piece.
-use Rattle.std.proofs.Common.{◌≡◌, ℕ, zero, suc, ◌+◌, ◌-◌, ◌<◌, ◌≤◌, Bool, true, false, cond, ltb, List, [], ◌∷◌}
-use Rattle.std.proofs.Common.{◌++◌, length, take, drop, Option, Some, None, Result, Ok, Err, refl, sym, ap, subst}
-use Rattle.std.proofs.Common.{◌∙◌, arith, length-drop, length-append}
-use Rattle.std.proofs.lemmas.Bool.{ltb-false, le-ltb}
-use Rattle.std.proofs.lemmas.List.{drop-drop, drop_at, append-nil, take-append-le, drop-append-le}
-use Rattle.std.specs.Int.{w32, from_le_bytes}
-use Rattle.krs_wire.specs.declared.framed.Framed.{Framed}
-use Rattle.krs_wire.specs.declared.fault.WireFault.{WireFault}
-use Rattle.krs_wire.specs.declared.fault.WireFault.TheVariants.{BadLength, Memory}
-use Rattle.krs_wire.specs.Faulting.{after}
-use Rattle.krs_wire.specs.Frame.{End, rest, bad, Frames, front_of, front_by, front_in, is_bad_length, framed_of}
-use Rattle.krs_wire.specs.Feeding.{Feeds, GoesOn, Refuses, end_of}
+use Rattle.std.proofs.Common.{[], ◌++◌, ◌+◌, ◌-◌, ◌<◌, ◌∙◌, ◌∷◌, ◌≡◌, ◌≤◌, ap, append-nil, arith, Bool, cond, drop}
+use Rattle.std.proofs.Common.{drop-drop, drop_at, Err, false, le-ltb, length, length-append, length-drop, List, ltb}
+use Rattle.std.proofs.Common.{ltb-false, None, Ok, Option, refl, Result, Some, subst, suc, sym, take, true, w32, zero}
+use Rattle.std.proofs.Common.{ℕ}
+use Rattle.std.specs.Int.{from_le_bytes}
+use Rattle.std.proofs.lemmas.List.{drop-append-le, take-append-le}
+use Rattle.krs_wire.specs.{Faulting.after, Feeding.{end_of, Feeds, GoesOn, Refuses}}
+use Rattle.krs_wire.specs.Frame.{bad, End, framed_of, Frames, front_by, front_in, front_of, is_bad_length, rest}
+use Rattle.krs_wire.specs.declared.{fault.WireFault.{WireFault, TheVariants.{BadLength, Memory}}, framed.Framed.Framed}
 
 pub suffix : (m n : ℕ) (xs : List ℕ) → m + n ≤ length xs → drop n (drop m xs)
     ≡ drop (length xs - length (drop n (drop m xs))) xs

@@ -1,18 +1,15 @@
 -- Each field is exact: what is read is encoded so, and what is encoded is read.
-use Rattle.std.proofs.Common.{◌≡◌, ℕ, suc, ◌+◌, ◌^◌, ◌<◌, ◌≤◌, Bool, true, false, cond, eqb, ltb, List, [], ◌∷◌, ◌++◌}
-use Rattle.std.proofs.Common.{length, get_or, take, drop, Option, Some, None, refl, sym, ap, subst, ◌∙◌, append_assoc}
-use Rattle.std.proofs.Common.{arith, inl, inr}
-use Rattle.std.specs.Option.{option_and_then}
-use Rattle.std.specs.Prelude.{ℤ, FitsSigned}
-use Rattle.std.specs.Int.{Width, w16, w32, w64, byte_len, from_le_bytes, to_le_bytes, cast_signed, cast_unsigned}
-use Rattle.std.proofs.lemmas.Bool.{cases_lt, ltb-false, le-ltb, eqb-true}
-use Rattle.std.proofs.lemmas.List.{take_at, drop_at, take-append-drop, length-append, length-take, get_or-drop}
-use Rattle.std.proofs.lemmas.List.{get_or-take, get_or_past, append-nil, nil_from_length}
-use Rattle.std.proofs.lemmas.Nat.{le_bytes_2, le_bytes_4, le_bytes_8}
-use Rattle.std.proofs.lemmas.Nat.{from_le_bytes-to_le_bytes_2, from_le_bytes-to_le_bytes_4, from_le_bytes-to_le_bytes_8}
-use Rattle.std.proofs.lemmas.Int.{to_z-of_z, of_z-to_z}
+use Rattle.std.proofs.Common.{[], ◌++◌, ◌+◌, ◌<◌, ◌^◌, ◌∙◌, ◌∷◌, ◌≡◌, ◌≤◌, ap, append-nil, append_assoc, arith, Bool}
+use Rattle.std.proofs.Common.{cond, drop, drop_at, eqb, eqb-true, false, FitsSigned, get_or, get_or-drop, get_or-take}
+use Rattle.std.proofs.Common.{inl, inr, le-ltb, length, length-append, length-take, List, ltb, ltb-false, None, Option}
+use Rattle.std.proofs.Common.{option_and_then, refl, Some, subst, suc, sym, take, take-append-drop, take_at, true, w16}
+use Rattle.std.proofs.Common.{w32, w64, ℕ, ℤ}
+use Rattle.std.specs.Int.{byte_len, cast_signed, cast_unsigned, from_le_bytes, to_le_bytes, Width}
 use Rattle.std.proofs.Math.Facts.{Fits-of_z, sfits_to_z}
-use Rattle.krs_wire.specs.Field.{Field, number, signed, sized, flag, both, nothing, built, whole}
+use Rattle.std.proofs.lemmas.{Bool.cases_lt, Int.{of_z-to_z, to_z-of_z}, List.{get_or_past, nil_from_length}}
+use Rattle.std.proofs.lemmas.Nat.{from_le_bytes-to_le_bytes_2, from_le_bytes-to_le_bytes_4, from_le_bytes-to_le_bytes_8}
+use Rattle.std.proofs.lemmas.Nat.{le_bytes_2, le_bytes_4, le_bytes_8}
+use Rattle.krs_wire.specs.Field.{both, built, Field, flag, nothing, number, signed, sized, whole}
 
 abbrev pub IsBytes : List ℕ → Type 0
 IsBytes bytes = (i : ℕ) → get_or bytes i 0 < 256

@@ -1,21 +1,17 @@
 -- A body is read as it is encoded, and what is read is encoded so.
-use Rattle.std.proofs.Common.{◌≡◌, ℕ, ◌^◌, ◌<◌, true, cond, eqb, List, [], ◌∷◌, map, Ok, sym, ap, subst, ◌∙◌}
-use Rattle.std.proofs.Common.{arith, refl, inl, inr}
-use Rattle.std.specs.Int.{w16, w32}
-use Rattle.std.proofs.lemmas.Bool.{eqb-true}
-use Rattle.krs_types.specs.Rows.{Value, Number, Id, Flag, Text, Blob, Whom, Entries, row_of}
-use Rattle.krs_types.specs.declared.ask.Op.{Op}
-use Rattle.krs_types.specs.declared.ask.Op.TheVariants.{Thread, GetId}
-use Rattle.krs_wire.specs.Field.{number, both, counted, repeated, whole}
-use Rattle.krs_wire.specs.Faulting.{or_bad_body}
-use Rattle.krs_wire.specs.Bodies.{Form, a_number, an_id, a_flag, a_text, a_blob, a_caller, a_filter, Parts, field_of}
-use Rattle.krs_wire.specs.Bodies.{fields_of, groups_field, caller_field, caller_of, caller_parts, entry_field}
-use Rattle.krs_wire.specs.Bodies.{entry_of, entry_parts, number_of_op, body_of_op, FitsOp, Of}
-use Rattle.krs_wire.specs.Frame.{op_of, Reading, by, read_by, readings}
+use Rattle.std.proofs.Common.{[], ◌<◌, ◌^◌, ◌∙◌, ◌∷◌, ◌≡◌, ap, arith, cond, eqb, eqb-true, inl, inr, List, map, Ok}
+use Rattle.std.proofs.Common.{refl, subst, sym, true, w16, w32, ℕ}
+use Rattle.krs_types.specs.Rows.{Blob, Entries, Flag, Id, Number, row_of, Text, Value, Whom}
+use Rattle.krs_types.specs.declared.ask.Op.{Op, TheVariants.{GetId, Thread}}
+use Rattle.krs_wire.specs.Bodies.{a_blob, a_caller, a_filter, a_flag, a_number, a_text, an_id, body_of_op, caller_field}
+use Rattle.krs_wire.specs.Bodies.{caller_of, caller_parts, entry_field, entry_of, entry_parts, field_of, fields_of}
+use Rattle.krs_wire.specs.Bodies.{FitsOp, Form, groups_field, number_of_op, Of, Parts}
+use Rattle.krs_wire.specs.{Faulting.or_bad_body, Field.{both, counted, number, repeated, whole}}
+use Rattle.krs_wire.specs.Frame.{by, op_of, read_by, Reading, readings}
 use Rattle.krs_wire.proofs.CaseLemmas.{chosen, ok_body}
-use Rattle.krs_wire.proofs.FieldLemmas.{IsBytes, IsExact, wide16, wide32, number_exact, signed_exact, sized_exact}
-use Rattle.krs_wire.proofs.FieldLemmas.{flag_exact, both_exact, nothing_exact, built_exact, whole_again, whole_takes}
-use Rattle.krs_wire.proofs.CountLemmas.{counted_exact, repeated_exact}
+use Rattle.krs_wire.proofs.{CountLemmas.{counted_exact, repeated_exact}, FieldLemmas.both_exact}
+use Rattle.krs_wire.proofs.FieldLemmas.{built_exact, flag_exact, IsBytes, IsExact, nothing_exact, number_exact}
+use Rattle.krs_wire.proofs.FieldLemmas.{signed_exact, sized_exact, whole_again, whole_takes, wide16, wide32}
 
 number32_exact : IsExact (number w32)
 number32_exact = number_exact w32 wide32

@@ -1,15 +1,12 @@
 -- Bytes that are put behind others.
-use Rattle.std.proofs.Common.{◌≡◌, ◌≢◌, ◌+◌, ◌<◌, ◌≤◌, List, [], ◌∷◌, ◌++◌, ℕ, length, get_or, take, Result, Ok, Err}
-use Rattle.std.proofs.Common.{OnOk, ap, sym, subst, ◌∙◌, append_assoc, arith, IfErr, length-append, refl}
-use Rattle.std.specs.Prelude.{min}
-use Rattle.std.proofs.lemmas.List.{take_more, flat_map_more, append-nil}
-use Rattle.std.specs.List.{flat_map, AllByRecursion}
-use Rattle.krs_wire.specs.Field.{Field}
-use Rattle.krs_wire.specs.Encoding.{IsTooLong}
-use Rattle.krs_wire.specs.declared.fault.WireFault.{WireFault}
-use Rattle.krs_wire.specs.declared.fault.WireFault.TheVariants.{BadLength, Memory}
+use Rattle.std.proofs.Common.{[], ◌++◌, ◌+◌, ◌<◌, ◌∙◌, ◌∷◌, ◌≡◌, ◌≢◌, ◌≤◌, ap, append-nil, append_assoc, arith, Err}
+use Rattle.std.proofs.Common.{flat_map, get_or, IfErr, length, length-append, List, min, Ok, OnOk, refl, Result, subst}
+use Rattle.std.proofs.Common.{sym, take, ℕ}
+use Rattle.std.specs.List.{AllByRecursion}
+use Rattle.std.proofs.lemmas.List.{flat_map_more, take_more}
 use Rattle.krs_types.specs.Rows.{Value}
-use Rattle.krs_wire.specs.Bodies.{encoded, written, size_of}
+use Rattle.krs_wire.specs.{Bodies.{encoded, size_of, written}, Encoding.IsTooLong, Field.Field}
+use Rattle.krs_wire.specs.declared.fault.WireFault.{WireFault, TheVariants.{BadLength, Memory}}
 
 -- the next bytes stand behind all that were put before them
 pub then_put : {T E : Type 0} (r : Result T E) (out front next mid new : List ℕ)

@@ -1,31 +1,21 @@
 -- A reply's frame is read as that reply with its tag, and what is read is that reply's frame.
-use Rattle.std.proofs.Common.{◌≡◌, ℕ, ◌+◌, ◌^◌, ◌<◌, ◌≤◌, Bool, true, false, cond, eqb, ltb, List, [], ◌∷◌, ◌++◌}
-use Rattle.std.proofs.Common.{length, take, drop, Option, Some, None, Result, Ok, Err, refl, sym, ap, subst, ◌∙◌}
-use Rattle.std.proofs.Common.{append_assoc, arith, inl, inr, length-append}
-use Rattle.std.specs.Prelude.{IsOk, find}
-use Rattle.std.specs.Option.{is_some, option_and_then, option_map}
-use Rattle.std.specs.Int.{w32, to_le_bytes}
-use Rattle.std.proofs.lemmas.Bool.{ltb-false, le-ltb, eqb-true}
-use Rattle.std.proofs.lemmas.List.{take_at, take-append-drop, length-take}
-use Rattle.krs_wire.specs.declared.fault.WireFault.{WireFault}
-use Rattle.krs_wire.specs.declared.fault.WireFault.TheVariants.{BadLength}
-use Rattle.krs_types.specs.declared.ask.Answer.{Answer}
-use Rattle.krs_types.specs.declared.ask.Answer.TheVariants.{Nothing, Number, Bytes}
-use Rattle.krs_types.specs.declared.errno.Errno.{Errno}
-use Rattle.krs_types.specs.declared.errno.Errno.TheVariants.{EPERM}
-use Rattle.krs_types.specs.Errno.{number_of, errnos}
-use Rattle.krs_types.specs.declared.shape.Shape.{Shape}
+use Rattle.std.proofs.Common.{[], ◌++◌, ◌+◌, ◌<◌, ◌^◌, ◌∙◌, ◌∷◌, ◌≡◌, ◌≤◌, ap, append_assoc, arith, Bool, cond, drop}
+use Rattle.std.proofs.Common.{eqb, eqb-true, Err, false, find, inl, inr, is_some, IsOk, le-ltb, length, length-append}
+use Rattle.std.proofs.Common.{length-take, List, ltb, ltb-false, None, Ok, Option, option_and_then, option_map, refl}
+use Rattle.std.proofs.Common.{Result, Some, subst, sym, take, take-append-drop, take_at, true, w32, ℕ}
+use Rattle.std.specs.Int.{to_le_bytes}
+use Rattle.krs_types.specs.Errno.{errnos, number_of}
+use Rattle.krs_types.specs.declared.ask.Answer.{Answer, TheVariants.{Bytes, Nothing, Number}}
+use Rattle.krs_types.specs.declared.{errno.Errno.{Errno, TheVariants.EPERM}, shape.Shape.Shape}
+use Rattle.krs_wire.specs.{Faulting.{after, GivesRead, or_bad_body}, Field.{nothing, number, whole}}
+use Rattle.krs_wire.specs.Reply.{accepted, answer_of, body_of, errno_of, error_of, Finds, Found, HasShape}
+use Rattle.krs_wire.specs.Reply.{is_bad_reply_length, IsAtFront, IsFound, refused, reply_by, reply_frame, reply_front}
+use Rattle.krs_wire.specs.{Reply.{reply_in, reply_of, status_fields, status_of}, Tag.{tag_field, tag_size, tag_text}}
+use Rattle.krs_wire.specs.declared.fault.WireFault.{WireFault, TheVariants.BadLength}
+use Rattle.krs_wire.proofs.CaseLemmas.{chosen, ok_body, or_false}
+use Rattle.krs_wire.proofs.FieldLemmas.{both_exact, IsBytes, IsBytes-take, IsExact, nothing_exact, number_exact}
+use Rattle.krs_wire.proofs.{FieldLemmas.{whole_again, whole_takes, wide32}, TagLemmas.{tag_exact, tag_length}}
 use Rattle.krs_types.specs.declared.shape.Shape.TheVariants as shapes
-use Rattle.krs_wire.specs.Field.{number, nothing, whole}
-use Rattle.krs_wire.specs.Faulting.{or_bad_body, after, GivesRead}
-use Rattle.krs_wire.specs.Tag.{tag_text, tag_field, tag_size}
-use Rattle.krs_wire.specs.Reply.{status_of, body_of, reply_frame, errno_of, HasShape, accepted, refused, answer_of}
-use Rattle.krs_wire.specs.Reply.{error_of, reply_of, status_fields, reply_by, reply_in, reply_front, Found, IsFound}
-use Rattle.krs_wire.specs.Reply.{is_bad_reply_length, IsAtFront, Finds}
-use Rattle.krs_wire.proofs.CaseLemmas.{chosen, or_false, ok_body}
-use Rattle.krs_wire.proofs.FieldLemmas.{IsBytes, IsBytes-take, IsExact, wide32, number_exact, both_exact, whole_again}
-use Rattle.krs_wire.proofs.FieldLemmas.{whole_takes, nothing_exact}
-use Rattle.krs_wire.proofs.TagLemmas.{tag_exact, tag_length}
 
 -- each error is found by its number
 error_again : (shape : Shape) (e : Errno) → reply_of shape (number_of e) [] ≡ Ok (refused e)

@@ -1,12 +1,9 @@
 -- What the fields of a row make, by the row of its number.
-use Rattle.std.proofs.Common.{◌≡◌, cond, eqb, List, ℕ, length, Option, Some, None, Result, Ok, Err, refl}
-use Rattle.std.proofs.Common.{sym, ap, subst, ◌∙◌, true, false, Bool}
-use Rattle.std.specs.Option.{option_and_then}
+use Rattle.std.proofs.Common.{◌∙◌, ◌≡◌, ap, Bool, cond, eqb, Err, false, length, List, None, Ok, Option}
+use Rattle.std.proofs.Common.{option_and_then, refl, Result, Some, subst, sym, true, ℕ}
 use Rattle.krs_types.specs.declared.ask.Op.{Op}
-use Rattle.krs_wire.specs.declared.fault.WireFault.{WireFault}
-use Rattle.krs_wire.specs.Field.{Field, whole}
-use Rattle.krs_wire.specs.Faulting.{GivesRead, Makes, after, or_bad_body}
-use Rattle.krs_wire.specs.Frame.{op_of}
+use Rattle.krs_wire.specs.Faulting.{after, GivesRead, Makes, or_bad_body}
+use Rattle.krs_wire.specs.{Field.{Field, whole}, Frame.op_of, declared.fault.WireFault.WireFault}
 
 module _ {A : Type 0} (make : A → Op) where
   made_by : (b : Bool) (x : A)

@@ -1,12 +1,10 @@
 -- How many bytes a field has at least, so that a count of more than there can be is refused before any is read.
-use Rattle.std.proofs.Common.{◌≡◌, ℕ, zero, suc, ◌+◌, ◌*◌, ◌<◌, ◌≤◌, List, [], ◌∷◌, length, take, drop, Option, Some, None}
-use Rattle.std.proofs.Common.{nat_lt, cond, true, false, refl, sym, ap, subst, ◌∙◌, arith, length-drop}
+use Rattle.std.proofs.Common.{[], ◌*◌, ◌+◌, ◌<◌, ◌∷◌, ◌≡◌, ◌≤◌, ap, arith, cond, drop, false, length, length-drop, List}
+use Rattle.std.proofs.Common.{nat_lt, None, Option, option_and_then, refl, Some, suc, take, true, w32, zero, ℕ}
+use Rattle.std.specs.Int.{from_le_bytes}
 use Rattle.std.proofs.lemmas.Bool.Decides.{nat_tests}
-use Rattle.std.specs.Option.{option_and_then}
-use Rattle.std.specs.Int.{w32, byte_len, from_le_bytes}
-use Rattle.krs_types.specs.declared.note.FilterEntry.{FilterEntry}
 use Rattle.krs_wire.specs.Bodies.{entry_field, entry_of, entry_parts}
-use Rattle.krs_wire.specs.Field.{Field, number, both, repeated, built, many_read}
+use Rattle.krs_wire.specs.Field.{both, built, Field, many_read, number, repeated}
 use Rattle.krs_wire.proofs.FieldLemmas.{bind_some, some_is}
 
 -- what is read has so many bytes at least

@@ -1,12 +1,8 @@
 -- A tag is exact: what is read is encoded so, and what is encoded is read.
-use Rattle.std.proofs.Common.{◌≡◌, ℕ, Bool, true, false, List, ◌++◌, length, Option, Some, None, refl, ap, subst}
-use Rattle.std.specs.Option.{option_and_then, is_some}
-use Rattle.std.specs.Prelude.{◌⊎◌}
-use Rattle.std.proofs.Common.{◌==◌, ◌∙◌, inl, inr}
-use Rattle.std.specs.Int.{w64}
-use Rattle.krs_wire.specs.Field.{number}
-use Rattle.krs_wire.specs.Tag.{version_of, tag_text, tag_field, tag_size}
-use Rattle.krs_wire.proofs.FieldLemmas.{IsBytes, Takes, IsExact, bind_some, some_is, done, wide64, number_exact}
+use Rattle.std.proofs.Common.{◌++◌, ◌==◌, ◌∙◌, ◌≡◌, ◌⊎◌, ap, Bool, false, inl, inr, is_some, length, List, None, Option}
+use Rattle.std.proofs.Common.{option_and_then, refl, Some, subst, true, w64, ℕ}
+use Rattle.krs_wire.specs.{Field.number, Tag.{tag_field, tag_size, tag_text, version_of}}
+use Rattle.krs_wire.proofs.FieldLemmas.{bind_some, done, IsBytes, IsExact, number_exact, some_is, Takes, wide64}
 
 number64_exact : IsExact (number w64)
 number64_exact = number_exact w64 wide64

@@ -1,12 +1,9 @@
 -- The bodies of asks, which are the fields of their rows, one after the other: docs/FORMAT.md, "Fields of bodies".
-use Rattle.std.specs.Prelude.{Bool, ℕ, ◌+◌, ℤ, List, [], ◌∷◌, ◌++◌, length}
-use Rattle.std.specs.Int.{w16, w32}
-use Rattle.std.specs.List.{flat_map, AllByRecursion}
-use Rattle.krs_types.specs.declared.caller.Caller.{Caller}
-use Rattle.krs_types.specs.declared.ask.Op.{Op}
-use Rattle.krs_types.specs.declared.note.FilterEntry.{FilterEntry}
-use Rattle.krs_types.specs.Rows.{Value, Number, Id, Flag, Text, Blob, Whom, Entries, row_of}
-use Rattle.krs_wire.specs.Field.{Field, number, signed, sized, flag, both, counted, nothing, repeated, built}
+use Rattle.std.specs.Prelude.{[], ◌++◌, ◌+◌, ◌∷◌, Bool, flat_map, length, List, ℕ, ℤ}
+use Rattle.std.specs.{Int.{w16, w32}, List.AllByRecursion}
+use Rattle.krs_types.specs.Rows.{Blob, Entries, Flag, Id, Number, row_of, Text, Value, Whom}
+use Rattle.krs_types.specs.declared.{ask.Op.Op, caller.Caller.Caller, note.FilterEntry.FilterEntry}
+use Rattle.krs_wire.specs.Field.{both, built, counted, Field, flag, nothing, number, repeated, signed, sized}
 
 -- an id of a key: 32 bits, signed
 abbrev pub id_field : Field ℤ

@@ -1,14 +1,9 @@
 -- The frame of an ask, with a tag or with none: docs/FORMAT.md, "An ask's frame".
-use Rattle.std.specs.Prelude.{◌≡◌, ◌≢◌, ℕ, ◌<◌, ◌≤◌, ◌^◌, List, ◌++◌, length, Option, Some, Ok, slice_index}
-use Rattle.std.specs.Int.{w32}
+use Rattle.std.specs.{Prelude.{◌++◌, ◌<◌, ◌^◌, ◌≡◌, ◌≢◌, ◌≤◌, length, List, Ok, Option, slice_index, Some, ℕ}, Int.w32}
 use Rattle.krs_types.specs.declared.ask.Ask.{Ask}
-use Rattle.krs_wire.specs.declared.fault.WireFault.{WireFault}
-use Rattle.krs_wire.specs.declared.fault.WireFault.TheVariants.{BadLength, Memory}
-use Rattle.krs_wire.specs.declared.framed.Framed.{Framed}
-use Rattle.krs_wire.specs.Field.{sized}
-use Rattle.krs_wire.specs.Tag.{version_of, tag_text, FitsTag}
-use Rattle.krs_wire.specs.Bodies.{number_of_op, body_of_op, FitsOp}
-use Rattle.krs_wire.specs.Frame.{End, Frames, head_fields, front_of}
+use Rattle.krs_wire.specs.Bodies.{body_of_op, FitsOp, number_of_op}
+use Rattle.krs_wire.specs.{Field.sized, Frame.{End, Frames, front_of, head_fields}, Tag.{FitsTag, tag_text, version_of}}
+use Rattle.krs_wire.specs.declared.{fault.WireFault.{WireFault, TheVariants.{BadLength, Memory}}, framed.Framed.Framed}
 
 abbrev pub framed : (tag : Option ℕ) → Ask → Framed
 framed tag ask = record { ask = ask; tag = tag }

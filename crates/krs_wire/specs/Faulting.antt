@@ -1,7 +1,6 @@
 -- Steps that may end in a fault: the first fault is the answer.
-use Rattle.std.specs.Prelude.{◌≡◌, ◌≢◌, Option, Some, None, Result, Ok, Err}
-use Rattle.krs_wire.specs.declared.fault.WireFault.{WireFault}
-use Rattle.krs_wire.specs.declared.fault.WireFault.TheVariants.{BadBody, Memory}
+use Rattle.std.specs.Prelude.{◌≡◌, ◌≢◌, Err, None, Ok, Option, Result, Some}
+use Rattle.krs_wire.specs.declared.fault.WireFault.{WireFault, TheVariants.{BadBody, Memory}}
 
 -- what follows a good step
 abbrev pub after : {A B : Type 0} → (A → Result B WireFault) → Result A WireFault → Result B WireFault

@@ -1,9 +1,7 @@
 -- What a feed answers to a piece of the stream, whatever came before it.
-use Rattle.std.specs.Prelude.{◌≡◌, ◌≢◌, ℕ, List, [], ◌++◌, Option, Some, None}
-use Rattle.krs_wire.specs.declared.fault.WireFault.{WireFault}
-use Rattle.krs_wire.specs.declared.fault.WireFault.TheVariants.{Memory}
-use Rattle.krs_wire.specs.declared.framed.Framed.{Framed}
-use Rattle.krs_wire.specs.Frame.{End, rest, bad, Frames}
+use Rattle.std.specs.Prelude.{[], ◌++◌, ◌≡◌, ◌≢◌, List, None, Option, Some, ℕ}
+use Rattle.krs_wire.specs.Frame.{bad, End, Frames, rest}
+use Rattle.krs_wire.specs.declared.{fault.WireFault.{WireFault, TheVariants.Memory}, framed.Framed.Framed}
 
 abbrev pub end_of : Option WireFault → List ℕ → End
 end_of None left = rest left

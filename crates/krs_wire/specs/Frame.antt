@@ -1,21 +1,15 @@
 -- The cut of a stream of bytes into frames: docs/FORMAT.md, "What a stream is cut into". It speaks of the whole
 -- stream and knows no pieces. The faults come in the order of docs/FORMAT.md, "Faults of an ask's frame".
-use Rattle.std.specs.Prelude.{◌≡◌, Bool, ℕ, ◌==◌, ◌||◌, List, [], ◌∷◌, length, take, drop, Option, Some, None, Result}
-use Rattle.std.specs.Prelude.{Ok, Err, nat_lt, if◌then◌else◌}
-use Rattle.std.specs.Int.{w16, w32}
-use Rattle.krs_types.specs.declared.ask.Op.{Op}
-use Rattle.krs_types.specs.declared.ask.Op.TheVariants.{Hello, Thread, Fork, Exec, GetId, Join, Search, Request, Add}
-use Rattle.krs_types.specs.declared.ask.Op.TheVariants.{Update, Revoke, Invalidate, Chown, SetPerm, SetTimeout, Link}
-use Rattle.krs_types.specs.declared.ask.Op.TheVariants.{Unlink, Clear, Read, Describe, Watch, OpenQueue, SetFilter}
-use Rattle.krs_types.specs.declared.ask.Op.TheVariants.{ReadQueue, CloseQueue, Exit, Leave}
-use Rattle.krs_types.specs.declared.ask.Op.TheVariants.{Move, RestrictKeyring}
-use Rattle.krs_wire.specs.declared.fault.WireFault.{WireFault}
-use Rattle.krs_wire.specs.declared.fault.WireFault.TheVariants.{BadLength, BadVersion, BadOp, BadBody}
+use Rattle.std.specs.Prelude.{[], ◌==◌, ◌||◌, ◌∷◌, ◌≡◌, Bool, drop, Err, if◌then◌else◌, length, List, nat_lt, None, Ok}
+use Rattle.std.specs.{Prelude.{Option, Result, Some, take, ℕ}, Int.{w16, w32}}
+use Rattle.krs_types.specs.declared.ask.Op.{Op, TheVariants.{Add, Chown, Clear, CloseQueue, Describe, Exec, Exit, Fork}}
+use Rattle.krs_types.specs.declared.ask.Op.TheVariants.{GetId, Hello, Invalidate, Join, Leave, Link, Move, OpenQueue}
+use Rattle.krs_types.specs.declared.ask.Op.TheVariants.{Read, ReadQueue, Request, RestrictKeyring, Revoke, Search}
+use Rattle.krs_types.specs.declared.ask.Op.TheVariants.{SetFilter, SetPerm, SetTimeout, Thread, Unlink, Update, Watch}
+use Rattle.krs_wire.specs.Bodies.{a_blob, a_caller, a_filter, a_flag, a_number, a_text, an_id, fields_of, Form, Parts}
+use Rattle.krs_wire.specs.{Faulting.{after, or_bad_body}, Field.{both, Field, number, whole}, Tag.tag_field}
+use Rattle.krs_wire.specs.declared.fault.WireFault.{WireFault, TheVariants.{BadBody, BadLength, BadOp, BadVersion}}
 use Rattle.krs_wire.specs.declared.framed.Framed.{Framed}
-use Rattle.krs_wire.specs.Field.{Field, number, both, whole}
-use Rattle.krs_wire.specs.Tag.{tag_field}
-use Rattle.krs_wire.specs.Faulting.{after, or_bad_body}
-use Rattle.krs_wire.specs.Bodies.{Form, a_number, an_id, a_flag, a_text, a_blob, a_caller, a_filter, Parts, fields_of}
 
 -- A row by which a body is read: the number of an operation, the forms of its fields, and the ask that they make.
 pub record Reading : Type 0 where

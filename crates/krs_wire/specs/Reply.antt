@@ -1,21 +1,14 @@
 -- The frame of a reply, with its ask's tag or with none: docs/FORMAT.md, "A reply's frame", "Faults of a reply".
-use Rattle.std.specs.Prelude.{◌≡◌, Bool, ℕ, ◌+◌, ◌<◌, ◌≤◌, ◌^◌, ◌==◌, ◌||◌, List, [], ◌++◌, length, take, nat_lt}
-use Rattle.std.specs.Prelude.{find, if◌then◌else◌, Option, Some, None, Result, Ok, Err}
-use Rattle.std.specs.Option.{option_map}
-use Rattle.std.specs.Int.{w32, to_le_bytes}
-use Rattle.krs_types.specs.declared.ask.Answer.{Answer}
-use Rattle.krs_types.specs.declared.ask.Answer.TheVariants.{Nothing, Number, Bytes}
-use Rattle.krs_types.specs.declared.ask.Op.{Op}
-use Rattle.krs_types.specs.declared.errno.Errno.{Errno}
-use Rattle.krs_types.specs.declared.shape.Shape.{Shape}
+use Rattle.std.specs.Prelude.{[], ◌++◌, ◌+◌, ◌<◌, ◌==◌, ◌^◌, ◌||◌, ◌≡◌, ◌≤◌, Bool, Err, find, if◌then◌else◌, length}
+use Rattle.std.specs.Prelude.{List, nat_lt, None, Ok, Option, option_map, Result, Some, take, ℕ}
+use Rattle.std.specs.Int.{to_le_bytes, w32}
+use Rattle.krs_types.specs.Errno.{errnos, number_of}
+use Rattle.krs_types.specs.{Rows.row_of, declared.ask.Answer.{Answer, TheVariants.{Bytes, Nothing, Number}}}
+use Rattle.krs_types.specs.declared.{ask.Op.Op, errno.Errno.Errno, shape.Shape.Shape}
+use Rattle.krs_wire.specs.Faulting.{after, GivesRead, or_bad_body}
+use Rattle.krs_wire.specs.{Field.{both, Field, nothing, number, sized, whole}, Tag.{tag_field, tag_size, tag_text}}
+use Rattle.krs_wire.specs.declared.fault.WireFault.{WireFault, TheVariants.{BadBody, BadLength}}
 use Rattle.krs_types.specs.declared.shape.Shape.TheVariants as shapes
-use Rattle.krs_types.specs.Errno.{number_of, errnos}
-use Rattle.krs_types.specs.Rows.{row_of}
-use Rattle.krs_wire.specs.declared.fault.WireFault.{WireFault}
-use Rattle.krs_wire.specs.declared.fault.WireFault.TheVariants.{BadLength, BadBody}
-use Rattle.krs_wire.specs.Field.{Field, number, sized, both, nothing, whole}
-use Rattle.krs_wire.specs.Tag.{tag_text, tag_field, tag_size}
-use Rattle.krs_wire.specs.Faulting.{or_bad_body, after, GivesRead}
 
 -- 0, or the number of the error
 abbrev pub status_of : Result Answer Errno → ℕ

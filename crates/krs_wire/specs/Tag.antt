@@ -1,8 +1,7 @@
 -- The tag of a frame: a frame of version 2 has one, which the client chose, and a frame of version 1 has none.
 -- docs/FORMAT.md, "Frames".
-use Rattle.std.specs.Prelude.{◌≡◌, Bool, ℕ, ◌<◌, ◌^◌, List, [], Option, Some, None, if◌then◌else◌}
-use Rattle.std.specs.Option.{option_and_then, is_some}
-use Rattle.std.specs.Int.{w64, to_le_bytes}
+use Rattle.std.specs.Prelude.{[], ◌<◌, ◌^◌, ◌≡◌, Bool, if◌then◌else◌, is_some, List, None, Option, option_and_then}
+use Rattle.std.specs.{Prelude.{Some, ℕ}, Int.{to_le_bytes, w64}}
 use Rattle.krs_wire.specs.Field.{Field, number}
 
 -- the version of a frame with this tag

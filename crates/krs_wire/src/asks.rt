@@ -1,8 +1,6 @@
 // Asks read from their frames: the fields of a row, and the frame at the front of a stream.
-ghost use Rattle.std.specs.Prelude.{◌≡◌, ◌<◌, ◌-◌, drop, IfOk, IfSome, length, option_map};
-ghost use Rattle.krs_wire.specs.Faulting.{GivesRead};
-ghost use Rattle.krs_wire.specs.Tag.{tag_field};
-ghost use Rattle.krs_wire.specs.Frame.{op_of, said_by, framed_of, front_of};
+ghost use Rattle.std.specs.Prelude.{◌-◌, ◌<◌, ◌≡◌, drop, IfOk, IfSome, length, option_map};
+ghost use Rattle.krs_wire.specs.{Faulting.GivesRead, Frame.{framed_of, front_of, op_of, said_by}, Tag.tag_field};
 
 use crate::fields::{tag_at, u16_at, u32_at};
 use crate::forms::{

@@ -1,8 +1,7 @@
 // The body of each ask, put behind the bytes before it.
-ghost use Rattle.std.specs.Prelude.{◌≡◌, ◌≢◌, ◌≤◌, ◌+◌, ◌++◌, length, IfErr, OnOk};
+ghost use Rattle.std.specs.Prelude.{◌++◌, ◌+◌, ◌≡◌, ◌≢◌, ◌≤◌, IfErr, length, OnOk};
 ghost use Rattle.krs_types.specs.Rows.{row_of};
-ghost use Rattle.krs_wire.specs.Bodies.{body_of_op, written, size_of, FitsOp};
-ghost use Rattle.krs_wire.specs.Encoding.{IsTooLong};
+ghost use Rattle.krs_wire.specs.{Bodies.{body_of_op, FitsOp, size_of, written}, Encoding.IsTooLong};
 
 use crate::WireFault;
 use crate::forms::{

@@ -1,8 +1,6 @@
-ghost use Rattle.std.specs.Prelude.{◌≡◌, ◌≤◌, ◌<◌, ◌^◌, ◌++◌, [], ◌∷◌, length, None, Some, IfOk, IfErr, OnOk};
-ghost use Rattle.krs_wire.specs.Bodies.{FitsOp};
-ghost use Rattle.krs_wire.specs.Frame.{Frames, rest};
-ghost use Rattle.krs_wire.specs.Encoding.{framed, ask_text, ask_frame, IsTooLong};
-ghost use Rattle.krs_wire.specs.Tag.{version_of, FitsTag};
+ghost use Rattle.std.specs.Prelude.{[], ◌++◌, ◌<◌, ◌^◌, ◌∷◌, ◌≡◌, ◌≤◌, IfErr, IfOk, length, None, OnOk, Some};
+ghost use Rattle.krs_wire.specs.{Bodies.FitsOp, Encoding.{ask_frame, ask_text, framed, IsTooLong}};
+ghost use Rattle.krs_wire.specs.{Frame.{Frames, rest}, Tag.{FitsTag, version_of}};
 
 use crate::WireFault;
 use crate::bodies::put_body;

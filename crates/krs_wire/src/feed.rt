@@ -1,6 +1,6 @@
-ghost use Rattle.std.specs.Prelude.{◌≡◌, ◌≢◌, ◌≤◌, ◌++◌, ℕ, List, [], length, drop, IfOk, IfErr, OnErr, IsSome, vec_len};
-ghost use Rattle.krs_wire.specs.Frame.{Frames, rest, bad};
-ghost use Rattle.krs_wire.specs.Feeding.{end_of, Feeds, Refuses, fault_of};
+ghost use Rattle.std.specs.Prelude.{[], ◌++◌, ◌≡◌, ◌≢◌, ◌≤◌, drop, IfErr, IfOk, IsSome, length, List, OnErr, vec_len};
+ghost use Rattle.std.specs.Prelude.{ℕ};
+ghost use Rattle.krs_wire.specs.{Feeding.{end_of, fault_of, Feeds, Refuses}, Frame.{bad, Frames, rest}};
 
 use crate::asks::front_at;
 use crate::reserve::Reserve;
@@ -39,9 +39,8 @@ pub struct Feed {
 }
 
 impl Model for Feed {
-    ghost use Rattle.std.specs.Prelude.{◌≡◌, []};
-    ghost use Rattle.krs_wire.specs.Frame.{End};
-    ghost use Rattle.krs_wire.specs.Feeding.{end_of};
+    ghost use Rattle.std.specs.Prelude.{[], ◌≡◌};
+    ghost use Rattle.krs_wire.specs.{Feeding.end_of, Frame.End};
 
     ghost Value = { End };
 

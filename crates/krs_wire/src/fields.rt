@@ -1,11 +1,9 @@
 // The fields of frames, each read from the front of the bytes, which the reader answers with what follows it.
-ghost use Rattle.std.specs.Prelude.{◌≡◌, ◌==◌, ◌<◌, ◌*◌, Err, IfErr, length, option_map, if◌then◌else◌};
+ghost use Rattle.std.specs.Prelude.{◌*◌, ◌<◌, ◌==◌, ◌≡◌, Err, IfErr, if◌then◌else◌, length, option_map};
 ghost use Rattle.std.specs.Int.{w16, w32};
-ghost use Rattle.krs_wire.specs.Bodies.{id_field, text_field, blob_field, groups_field, caller_field, entry_field};
-ghost use Rattle.krs_wire.specs.Bodies.{entries_field};
-ghost use Rattle.krs_wire.specs.Field.{flag, number, many_read, repeated};
-ghost use Rattle.krs_wire.specs.Faulting.{GivesRead, or_bad_body};
-ghost use Rattle.krs_wire.specs.Tag.{tag_field};
+ghost use Rattle.krs_wire.specs.Bodies.{blob_field, caller_field, entries_field, entry_field, groups_field, id_field};
+ghost use Rattle.krs_wire.specs.{Bodies.text_field, Faulting.{GivesRead, or_bad_body}};
+ghost use Rattle.krs_wire.specs.{Field.{flag, many_read, number, repeated}, Tag.tag_field};
 
 use crate::WireFault;
 use byteorder::{ByteOrder, LittleEndian};

@@ -1,8 +1,8 @@
 // The forms of fields, and of fields one after the other, each read from the front of the bytes.
 ghost use Rattle.std.specs.Int.{w32};
-ghost use Rattle.krs_wire.specs.Bodies.{id_field, text_field, blob_field, caller_field, entries_field};
-ghost use Rattle.krs_wire.specs.Field.{Field, flag, number, both, nothing, whole};
+ghost use Rattle.krs_wire.specs.Bodies.{blob_field, caller_field, entries_field, id_field, text_field};
 ghost use Rattle.krs_wire.specs.Faulting.{GivesRead, Makes, or_bad_body};
+ghost use Rattle.krs_wire.specs.Field.{both, Field, flag, nothing, number, whole};
 
 use crate::WireFault;
 use crate::fields::{

@@ -1,4 +1,4 @@
-ghost use Rattle.krs_wire.specs.Encoding.{EachCutIsEncoded, EachEncodingIsCut, EachStreamIsCut, CutsAgree};
+ghost use Rattle.krs_wire.specs.Encoding.{CutsAgree, EachCutIsEncoded, EachEncodingIsCut, EachStreamIsCut};
 
 /// A frame that is cut is the frame of its ask, and the frame of an ask is cut as that ask.
 pub fn one_encoding()

@@ -1,7 +1,7 @@
 // How long the frame of an ask is, before anything is allocated for it.
-ghost use Rattle.std.specs.Prelude.{◌≡◌, ◌+◌, length, min};
+ghost use Rattle.std.specs.Prelude.{◌+◌, ◌≡◌, length, min};
 ghost use Rattle.krs_types.specs.Rows.{row_of};
-ghost use Rattle.krs_wire.specs.Bodies.{body_of_op, size_of, caller_field, entry_field, entries_field};
+ghost use Rattle.krs_wire.specs.Bodies.{body_of_op, caller_field, entries_field, entry_field, size_of};
 ghost use Rattle.krs_wire.specs.Encoding.{ask_text};
 
 use krs_types::{Ask, Caller, FilterEntries, FilterEntry, Op, asks};

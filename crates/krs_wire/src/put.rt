@@ -1,12 +1,8 @@
 // The fields of frames, each put behind the bytes before it.
-ghost use Rattle.std.specs.Prelude.{◌≡◌, ◌≤◌, ◌<◌, ◌^◌, ◌++◌, length, IfErr, OnOk};
-ghost use Rattle.std.specs.Int.{w16, w32, to_le_bytes};
-ghost use Rattle.std.specs.List.{flat_map, AllByRecursion};
-ghost use Rattle.krs_wire.specs.Bodies.{id_field, text_field, blob_field, groups_field, caller_field, entry_field};
-ghost use Rattle.krs_wire.specs.Bodies.{entries_field};
-ghost use Rattle.krs_wire.specs.Field.{flag};
-ghost use Rattle.krs_wire.specs.Encoding.{IsTooLong};
-ghost use Rattle.krs_wire.specs.Tag.{tag_text, FitsTag};
+ghost use Rattle.std.specs.Prelude.{◌++◌, ◌<◌, ◌^◌, ◌≡◌, ◌≤◌, flat_map, IfErr, length, OnOk};
+ghost use Rattle.std.specs.{Int.{to_le_bytes, w16, w32}, List.AllByRecursion};
+ghost use Rattle.krs_wire.specs.Bodies.{blob_field, caller_field, entries_field, entry_field, groups_field, id_field};
+ghost use Rattle.krs_wire.specs.{Bodies.text_field, Encoding.IsTooLong, Field.flag, Tag.{FitsTag, tag_text}};
 
 use crate::WireFault;
 use crate::framed::MAX_LENGTH;

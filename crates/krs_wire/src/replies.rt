@@ -1,11 +1,9 @@
-ghost use Rattle.std.specs.Prelude.{◌≡◌, ◌≤◌, ◌+◌, ◌++◌, false, true, length, take, None, Some, option_map};
-ghost use Rattle.std.specs.Prelude.{Ok, IfOk, IfErr, IfSome, IsOk, OnOk, OnErr};
+ghost use Rattle.std.specs.Prelude.{◌++◌, ◌+◌, ◌≡◌, ◌≤◌, false, IfErr, IfOk, IfSome, IsOk, length, None, Ok, OnErr};
+ghost use Rattle.std.specs.{Prelude.{OnOk, option_map, Some, take, true}, Int.{to_le_bytes, w32}};
 ghost use Rattle.krs_types.specs.declared.ask.Answer.TheVariants.{Bytes};
-ghost use Rattle.std.specs.Int.{w32, to_le_bytes};
-ghost use Rattle.krs_wire.specs.Faulting.{GivesRead};
-ghost use Rattle.krs_wire.specs.Tag.{tag_text, tag_size};
-ghost use Rattle.krs_wire.specs.Reply.{answer_of, frame_of, reply_by, reply_of, reply_front, reply_frame, shape_of};
-ghost use Rattle.krs_wire.specs.Reply.{status_fields, tagged, untagged, Finds, IsAtFront, IsFound};
+ghost use Rattle.krs_wire.specs.{Faulting.GivesRead, Reply.{answer_of, Finds, frame_of, IsAtFront, IsFound, reply_by}};
+ghost use Rattle.krs_wire.specs.Reply.{reply_frame, reply_front, reply_of, shape_of, status_fields, tagged, untagged};
+ghost use Rattle.krs_wire.specs.Tag.{tag_size, tag_text};
 
 use crate::WireFault;
 use crate::fields::{ended, tag_at, u32_at};

@@ -1,6 +1,5 @@
 // How bytes that may be secret grow.
-ghost use Rattle.std.specs.Prelude.{◌≡◌, ◌+◌, ◌≤◌, vec_len, OnOk};
-ghost use Rattle.std.specs.Vec.{vec_capacity};
+ghost use Rattle.std.specs.Prelude.{◌+◌, ◌≡◌, ◌≤◌, OnOk, vec_capacity, vec_len};
 
 use krs_types::move_wiped;
 use std::alloc::AllocError;

@@ -1,14 +1,11 @@
 -- Digits behind `hex:`, and the bytes that they spell.
-use Rattle.std.proofs.Common.{ℕ, ◌≡◌, ◌⊎◌, inl, inr, ◌+◌, ◌∷◌, [], List, Bool, true, false, ◌&&◌, Option, None}
-use Rattle.std.proofs.Common.{Some, IsSome, Result, Ok, Err, IsOk, refl, arith, ⊎_elim, length, drop, nat_eq, codes}
-use Rattle.std.proofs.Common.{◌%◌, ◌==◌, ◌≢◌, cond}
+use Rattle.std.proofs.Common.{[], ⊎_elim, ◌%◌, ◌&&◌, ◌+◌, ◌==◌, ◌∷◌, ◌≡◌, ◌≢◌, ◌⊎◌, arith, Bool, codes, cond, drop, Err}
+use Rattle.std.proofs.Common.{false, inl, inr, IsOk, IsSome, length, List, nat_eq, None, Ok, Option, refl, Result, Some}
+use Rattle.std.proofs.Common.{true, ℕ}
+use Rattle.hex.specs.Hex.{◌>>=◌, decode_of, decode_pairs, digit_or_error, hex_digit_value, pair_value, value_at}
+use Rattle.hex.specs.declared.error.FromHexError.{FromHexError, TheVariants.{OddLength, OutOfMemory}}
+use Rattle.std.specs.{Char.is_ascii_hexdigit, List.{list_all, starts_with}, Result.result_ok}
 use Rattle.std.proofs.lemmas.Bool.Decides.{nat_tests}
-use Rattle.std.specs.Char.{is_ascii_hexdigit}
-use Rattle.std.specs.List.{list_all, starts_with}
-use Rattle.std.specs.Result.{result_ok}
-use Rattle.hex.specs.declared.error.FromHexError.{FromHexError}
-use Rattle.hex.specs.declared.error.FromHexError.TheVariants.{OddLength, OutOfMemory}
-use Rattle.hex.specs.Hex.{decode_of, decode_pairs, pair_value, value_at, hex_digit_value, digit_or_error, ◌>>=◌}
 use Rattle.krs_words.specs.Number.{data_of}
 use Rattle.krs_words.proofs.HexadecimalLemmas.{split}
 

@@ -1,14 +1,11 @@
 -- Words of which each says something.
-use Rattle.std.proofs.Common.{ℕ, ◌+◌, ◌≡◌, ◌<◌, List, [], ◌∷◌, ◌++◌, true, false, length, take, get_or, map, Option}
-use Rattle.std.proofs.Common.{None, Some, Err, refl, ap}
-use Rattle.std.proofs.lemmas.List.{take_more}
-use Rattle.std.proofs.lemmas.List.Elements.{filter_map-append}
+use Rattle.std.proofs.Common.{[], ◌++◌, ◌+◌, ◌<◌, ◌∷◌, ◌≡◌, ap, Err, false, filter_map, get_or, is_some, length, List}
+use Rattle.std.proofs.Common.{map, None, Option, refl, Some, take, true, ℕ}
+use Rattle.std.specs.List.{list_all}
+use Rattle.std.proofs.lemmas.List.{take_more, Elements.filter_map-append}
 use Rattle.std.proofs.lemmas.List.Folds.{list_all-append, list_all-map, list_all_at}
-use Rattle.std.specs.List.{list_all, filter_map}
-use Rattle.std.specs.Option.{is_some}
-use Rattle.krs_words.specs.declared.no_command.NoCommand.{NoCommand}
-use Rattle.krs_words.specs.declared.no_command.NoCommand.TheVariants.{Usage, Memory}
 use Rattle.krs_words.specs.Parsed.{each_of, Reads}
+use Rattle.krs_words.specs.declared.no_command.NoCommand.{NoCommand, TheVariants.{Memory, Usage}}
 use Rattle.krs_words.proofs.WordsLemmas.{filter_map-map}
 
 module _ {X Y : Type 0} (f : X → Option Y) where

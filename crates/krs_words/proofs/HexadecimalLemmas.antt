@@ -1,16 +1,10 @@
 -- Hexadecimal numbers.
-use Rattle.std.proofs.Common.{ℕ, zero, suc, ◌≡◌, ◌≢◌, ◌<◌, ◌≤◌, ◌^◌, ◌∷◌, [], List, Bool, true, false, ◌&&◌, get_or}
-use Rattle.std.proofs.Common.{length, Result, Ok, Err, refl, arith}
-use Rattle.std.proofs.lemmas.Bool.Decides.{nat_tests}
-use Rattle.std.proofs.lemmas.Str.{IsUtf8-from_ascii}
-use Rattle.std.proofs.lemmas.Str.Parse.{without_leading_plus_none}
-use Rattle.std.proofs.lemmas.Int.Digits.{digits_value-lt}
-use Rattle.std.proofs.Math.Nat.{pow-le-pow_right}
-use Rattle.std.specs.Char.{is_ascii_hexdigit, digit_value}
-use Rattle.std.specs.List.{list_all}
-use Rattle.std.specs.Result.{OkIff, result_ok}
-use Rattle.std.specs.Str.{IsUtf8}
-use Rattle.std.specs.Str.Parse.{AllDigits, digits_value, IsNumeral, ParsesUnsigned}
+use Rattle.std.proofs.Common.{[], ◌&&◌, ◌<◌, ◌^◌, ◌∷◌, ◌≡◌, ◌≢◌, ◌≤◌, arith, Bool, Err, false, get_or, IsUtf8, length}
+use Rattle.std.proofs.Common.{List, Ok, OkIff, refl, Result, suc, true, zero, ℕ}
+use Rattle.std.specs.Char.{digit_value, is_ascii_hexdigit}
+use Rattle.std.specs.{List.list_all, Result.result_ok, Str.Parse.{AllDigits, digits_value, IsNumeral, ParsesUnsigned}}
+use Rattle.std.proofs.{Math.Nat.pow-le-pow_right, lemmas.Bool.Decides.nat_tests}
+use Rattle.std.proofs.lemmas.{Int.Digits.digits_value-lt, Str.{IsUtf8-from_ascii, Parse.without_leading_plus_none}}
 use Rattle.krs_words.specs.Number.{hexadecimal_of}
 
 -- a digit is below sixteen, is ASCII, and is no plus

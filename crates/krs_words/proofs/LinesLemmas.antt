@@ -1,9 +1,8 @@
 -- The lines of bytes, one after the other.
-use Rattle.std.proofs.Common.{ℕ, ◌≡◌, ◌==◌, ◌<◌, length, IfSome, ◌⊎◌, inl, inr, List, [], ◌∷◌, true, false, Option}
-use Rattle.std.proofs.Common.{None, Some, refl, ap, arith, if◌then◌else◌}
-use Rattle.std.proofs.lemmas.Bool.Decides.{nat_tests}
-use Rattle.std.proofs.lemmas.Grind.{common_steps}
-use Rattle.std.specs.Io.BufRead.{take_through, drop_through, first_piece, strip_last, ends_with_byte, DropsThrough}
+use Rattle.std.proofs.Common.{[], ◌<◌, ◌==◌, ◌∷◌, ◌≡◌, ◌⊎◌, ap, arith, false, IfSome, if◌then◌else◌, inl, inr, length}
+use Rattle.std.proofs.Common.{List, None, Option, refl, Some, true, ℕ}
+use Rattle.std.specs.Io.BufRead.{drop_through, DropsThrough, ends_with_byte, first_piece, strip_last, take_through}
+use Rattle.std.proofs.lemmas.{Bool.Decides.nat_tests, Grind.common_steps}
 use Rattle.krs_words.specs.Lines.{lines_of, ReadsLines}
 
 ends-cons : (b x : ℕ) (xs : List ℕ) → ends_with_byte 10 (b ∷ x ∷ xs) ≡ ends_with_byte 10 (x ∷ xs)

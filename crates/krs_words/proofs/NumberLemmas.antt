@@ -1,14 +1,8 @@
 -- Decimal numbers, and words that are all numbers.
-use Rattle.std.proofs.Common.{ℕ, ◌≡◌, ◌<◌, ◌^◌, List, true, length, Result, Ok, Err, rules, tests, arith}
-use Rattle.std.proofs.lemmas.Bool.Decides.{nat_tests}
-use Rattle.std.proofs.lemmas.Str.{IsUtf8-from_ascii}
-use Rattle.std.proofs.lemmas.Str.Parse.{IsNumeralModel, IsDigitsTest, numerals_by_value, parse_digits}
-use Rattle.std.proofs.lemmas.Fmt.{IsAscii-from_digits}
-use Rattle.std.specs.Char.{is_ascii_digit}
-use Rattle.std.specs.List.{list_all}
-use Rattle.std.specs.Result.{OkIff, result_ok}
-use Rattle.std.specs.Str.{IsUtf8}
-use Rattle.std.specs.Str.Parse.{digits_value, ParsesUnsigned}
+use Rattle.std.proofs.Common.{◌<◌, ◌^◌, ◌≡◌, arith, Err, IsUtf8, length, List, Ok, OkIff, Result, rules, tests, true, ℕ}
+use Rattle.std.specs.{Char.is_ascii_digit, List.list_all, Result.result_ok, Str.Parse.{digits_value, ParsesUnsigned}}
+use Rattle.std.proofs.lemmas.{Bool.Decides.nat_tests, Fmt.IsAscii-from_digits, Str.IsUtf8-from_ascii}
+use Rattle.std.proofs.lemmas.Str.Parse.{IsDigitsTest, IsNumeralModel, numerals_by_value, parse_digits}
 use Rattle.krs_words.specs.Number.{number_below}
 
 digits_test : IsDigitsTest (λ ds. list_all is_ascii_digit ds ≡ true)

@@ -1,6 +1,5 @@
 -- Lists of words.
-use Rattle.std.proofs.Common.{◌≡◌, List, [], ◌∷◌, Bool, map, Option, refl, arith}
-use Rattle.std.specs.List.{filter, filter_map}
+use Rattle.std.proofs.Common.{[], ◌∷◌, ◌≡◌, arith, Bool, filter, filter_map, List, map, Option, refl}
 
 -- a filter that reads each element through f
 pub map-filter : {X Y : Type 0} (f : X → Y) (p : Y → Bool) (xs : List X)

@@ -1,9 +1,8 @@
 -- Texts that are printed one after the other.
-use Rattle.std.proofs.Common.{ℕ, ◌≡◌, List, [], ◌++◌, Option, None, Some, refl, sym, ap, ◌∙◌, append_assoc}
-use Rattle.std.proofs.Common.{append-nil, take, drop, take-append-drop}
+use Rattle.std.proofs.Common.{[], ◌++◌, ◌∙◌, ◌≡◌, ap, append-nil, append_assoc, List, None, Option, refl, Some, sym, ℕ}
 use Rattle.std.specs.Io.KnownBytes.{Appends, Keeps}
 use Rattle.std.proofs.KnownBytes.{Appends-nil, Appends-trans}
-use Rattle.krs_words.specs.Writing.{Prints, WritesSome, WritesFront}
+use Rattle.krs_words.specs.Writing.{Prints, WritesFront, WritesSome}
 
 -- nothing is printed
 pub Prints-nil : (c : Option (List ℕ)) (p : List ℕ) → Prints c p c p []

@@ -1,5 +1,5 @@
 -- The lines of a script: keyretain(1), "Lines"; profile, script lines.
-use Rattle.std.specs.Prelude.{ℕ, ◌≡◌, ◌==◌, List, [], ◌∷◌, ◌++◌, ⊤, if◌then◌else◌, Option, None, Some}
+use Rattle.std.specs.Prelude.{[], ⊤, ◌++◌, ◌==◌, ◌∷◌, ◌≡◌, if◌then◌else◌, List, None, Option, Some, ℕ}
 use Rattle.std.specs.List.{onto_first}
 
 -- the lines of bytes: a newline (byte 10) ends each, and a last one needs none

@@ -1,12 +1,9 @@
 -- Numbers, keys and data as words spell them: keyretain(1), "Lines"; profile, numbers in words.
-use Rattle.std.specs.Prelude.{ℕ, ◌^◌, ℤ, pos, negsuc, ◌&&◌, Bool, List, drop, length, nat_lt, nat_le, nat_eq}
-use Rattle.std.specs.Prelude.{if◌then◌else◌, bytes_eq, codes, Option, None, Some}
-use Rattle.std.specs.List.{list_all, starts_with}
-use Rattle.std.specs.Option.{option_map}
-use Rattle.std.specs.Result.{result_ok}
-use Rattle.std.specs.Char.{is_ascii_digit, is_ascii_hexdigit}
-use Rattle.std.specs.Str.Parse.{digits_value}
+use Rattle.std.specs.Prelude.{◌&&◌, ◌^◌, Bool, bytes_eq, codes, drop, if◌then◌else◌, length, List, nat_eq, nat_le}
+use Rattle.std.specs.Prelude.{nat_lt, negsuc, None, Option, option_map, pos, Some, ℕ, ℤ}
 use Rattle.hex.specs.Hex.{decode_of}
+use Rattle.std.specs.Char.{is_ascii_digit, is_ascii_hexdigit}
+use Rattle.std.specs.{List.{list_all, starts_with}, Result.result_ok, Str.Parse.digits_value}
 use Rattle.krs_words.specs.Parsed.{each_of}
 
 -- one decimal digit or more, and nothing else

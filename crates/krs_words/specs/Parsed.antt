@@ -1,9 +1,7 @@
 -- What reading words gives: a value, or none where they are no command.
-use Rattle.std.specs.Prelude.{ℕ, ◌≡◌, ⊤, List, if◌then◌else◌, Option, None, Some, Result, Ok, Err}
-use Rattle.std.specs.List.{list_all, filter_map}
-use Rattle.std.specs.Option.{is_some}
-use Rattle.krs_words.specs.declared.no_command.NoCommand.{NoCommand}
-use Rattle.krs_words.specs.declared.no_command.NoCommand.TheVariants.{Usage, Memory}
+use Rattle.std.specs.Prelude.{⊤, ◌≡◌, Err, filter_map, if◌then◌else◌, is_some, List, None, Ok, Option, Result, Some, ℕ}
+use Rattle.std.specs.List.{list_all}
+use Rattle.krs_words.specs.declared.no_command.NoCommand.{NoCommand, TheVariants.{Memory, Usage}}
 
 infixl 10 ◌>>=◌
 -- what follows a value; without one the rest is none too

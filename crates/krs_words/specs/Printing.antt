@@ -1,16 +1,11 @@
 -- What is printed for a reply: keyretain(1), "Commands".
-use Rattle.std.specs.Prelude.{ℕ, ◌==◌, ◌&&◌, List, [], ◌∷◌, ◌++◌, map, Bool, length, nat_le, if◌then◌else◌, codes}
-use Rattle.std.specs.Prelude.{Result, Ok, Err}
-use Rattle.std.specs.Int.{w32, from_le_bytes}
-use Rattle.std.specs.List.{list_all, join_with_byte}
-use Rattle.std.specs.Fmt.{decimal}
+use Rattle.std.specs.Prelude.{[], ◌&&◌, ◌++◌, ◌==◌, ◌∷◌, Bool, codes, decimal, Err, if◌then◌else◌, length, List, map}
+use Rattle.std.specs.Prelude.{nat_le, Ok, Result, ℕ}
 use Rattle.hex.specs.Hex.{encode_lower}
-use Rattle.krs_types.specs.declared.errno.Errno.{Errno}
-use Rattle.krs_types.specs.declared.ask.Answer.{Answer}
-use Rattle.krs_types.specs.declared.ask.Answer.TheVariants.{Nothing, Number, Bytes}
-use Rattle.krs_types.specs.Errno.{number_of, name_of}
-use Rattle.krs_words.specs.declared.output.Output.{Output}
-use Rattle.krs_words.specs.declared.output.Output.TheVariants.{Reply, Serials, Records}
+use Rattle.std.specs.{Int.{from_le_bytes, w32}, List.{join_with_byte, list_all}}
+use Rattle.krs_types.specs.Errno.{name_of, number_of}
+use Rattle.krs_types.specs.declared.{ask.Answer.{Answer, TheVariants.{Bytes, Nothing, Number}}, errno.Errno.Errno}
+use Rattle.krs_words.specs.declared.output.Output.{Output, TheVariants.{Records, Reply, Serials}}
 
 -- every byte prints as it is: from the space to the tilde
 abbrev pub is_printable : List ℕ → Bool

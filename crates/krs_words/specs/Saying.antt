@@ -1,8 +1,6 @@
 -- What a program's outputs hold, and whether they took all that it said.
-use Rattle.std.specs.Prelude.{ℕ, ◌≡◌, ◌⊎◌, Bool, true, List, Option}
-use Rattle.std.specs.Io.KnownBytes.{Appends}
-use Rattle.krs_words.specs.Writing.{WritesFront}
-use Rattle.krs_words.specs.declared.voice.Voice.{Voice}
+use Rattle.std.specs.{Prelude.{◌≡◌, ◌⊎◌, Bool, List, Option, true, ℕ}, Io.KnownBytes.Appends}
+use Rattle.krs_words.specs.{Writing.WritesFront, declared.voice.Voice.Voice}
 
 -- what an output holds, where that is known, and whether it ever failed to take a text whole
 abbrev pub Heard : Type 0

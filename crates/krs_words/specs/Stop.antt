@@ -1,8 +1,6 @@
 -- Why a script stops before the end of its lines.
-use Rattle.krs_words.specs.declared.no_command.NoCommand.{NoCommand}
+use Rattle.krs_words.specs.declared.{no_command.NoCommand.NoCommand, stop.Stop.{Stop, TheVariants.{Memory, Usage}}}
 use Rattle.krs_words.specs.declared.no_command.NoCommand.TheVariants as no_command
-use Rattle.krs_words.specs.declared.stop.Stop.{Stop}
-use Rattle.krs_words.specs.declared.stop.Stop.TheVariants.{Usage, Memory}
 
 -- words that give no command stop the script
 abbrev pub stop_of : NoCommand → Stop

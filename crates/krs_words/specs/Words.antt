@@ -1,5 +1,5 @@
 -- The words of a line: keyretain(1), "Lines"; profile, script lines.
-use Rattle.std.specs.Prelude.{ℕ, ◌==◌, List, Bool, not, filter, length, nat_eq, codes}
+use Rattle.std.specs.Prelude.{◌==◌, Bool, codes, filter, length, List, nat_eq, not, ℕ}
 use Rattle.std.specs.List.{slice_split, starts_with}
 
 -- the pieces between its spaces, without the empty ones

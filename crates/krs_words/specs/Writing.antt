@@ -1,6 +1,5 @@
 -- What was printed: what a writer holds, and what still waits to be written to it.
-use Rattle.std.specs.Prelude.{ℕ, ◌≡◌, ◌++◌, List, Option}
-use Rattle.std.specs.Io.KnownBytes.{Appends}
+use Rattle.std.specs.{Prelude.{◌++◌, ◌≡◌, List, Option, ℕ}, Io.KnownBytes.Appends}
 
 -- From one writer and what waits for it to another this text was printed: what waited and then the text is what was
 -- written and then what waits now.

@@ -1,6 +1,5 @@
-ghost use Rattle.std.specs.Prelude.{◌≡◌, ◌==◌, map, IfOk};
-ghost use Rattle.std.specs.List.{slice_split};
-ghost use Rattle.krs_words.specs.Words.{words_of, is_comment};
+ghost use Rattle.std.specs.{Prelude.{◌==◌, ◌≡◌, IfOk, map}, List.slice_split};
+ghost use Rattle.krs_words.specs.Words.{is_comment, words_of};
 
 use std::alloc::{AllocError, Global};
 

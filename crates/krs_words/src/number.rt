@@ -1,7 +1,5 @@
-ghost use Rattle.std.specs.Prelude.{◌≡◌, map, Err, IsSome};
-ghost use Rattle.std.specs.Char.{is_ascii_digit, is_ascii_hexdigit};
-ghost use Rattle.std.specs.List.{list_all};
-ghost use Rattle.krs_words.specs.Number.{u64_of, u32_of, u32s_of, hexadecimal_of, key_of, data_of, watch_id_of};
+ghost use Rattle.std.specs.{Prelude.{◌≡◌, Err, IsSome, map}, Char.{is_ascii_digit, is_ascii_hexdigit}, List.list_all};
+ghost use Rattle.krs_words.specs.Number.{data_of, hexadecimal_of, key_of, u32_of, u32s_of, u64_of, watch_id_of};
 ghost use Rattle.krs_words.specs.Parsed.{Reads};
 
 use crate::no_command::NoCommand;

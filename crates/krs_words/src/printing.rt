@@ -1,4 +1,4 @@
-ghost use Rattle.std.specs.Prelude.{◌≡◌, ◌++◌, ◌∷◌, [], IfOk, OnOk};
+ghost use Rattle.std.specs.Prelude.{[], ◌++◌, ◌∷◌, ◌≡◌, IfOk, OnOk};
 ghost use Rattle.krs_words.specs.Printing.{is_printable, serials_in, shown, shown_bytes, shown_refusal, shown_reply};
 ghost use Rattle.krs_words.specs.Printing.{shown_serials, with_serial};
 

@@ -1,6 +1,5 @@
 ghost use Rattle.std.specs.Prelude.{◌≡◌};
-ghost use Rattle.krs_words.specs.declared.stop.Stop.TheVariants.{Memory};
-ghost use Rattle.krs_words.specs.Stop.{stop_of};
+ghost use Rattle.krs_words.specs.{Stop.stop_of, declared.stop.Stop.TheVariants.Memory};
 
 use crate::no_command::NoCommand;
 use std::alloc::{AllocError, AllocFailed};

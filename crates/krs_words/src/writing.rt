@@ -1,7 +1,6 @@
-ghost use Rattle.std.specs.Prelude.{◌≡◌, ◌⊎◌, ◌++◌, ◌∷◌, [], Err, OnOk, OnErr, IfOk, IfErr};
+ghost use Rattle.std.specs.Prelude.{[], ◌++◌, ◌∷◌, ◌≡◌, ◌⊎◌, Err, IfErr, IfOk, OnErr, OnOk};
 ghost use Rattle.std.specs.Io.KnownBytes.{Appends, Keeps};
-ghost use Rattle.krs_words.specs.Printing.{shown};
-ghost use Rattle.krs_words.specs.Writing.{Prints, WritesFront, WritesSome};
+ghost use Rattle.krs_words.specs.{Printing.shown, Writing.{Prints, WritesFront, WritesSome}};
 
 use crate::output::Output;
 use crate::printing::output_line;

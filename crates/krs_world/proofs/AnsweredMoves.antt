@@ -1,36 +1,25 @@
 -- What the answer of a posted call comes to on the machine as it is kept.
-use Rattle.std.proofs.Common.{◌≡◌, ◌≢◌, ℕ, ◌+◌, ◌==◌, Bool, true, false, cond, List, [], ◌∷◌, ◌++◌, map}
-use Rattle.std.proofs.Common.{length}
-use Rattle.std.proofs.Common.{take, set, Option, Some, None, Result, refl, sym, ap, ◌∙◌, subst}
-use Rattle.std.proofs.Common.{⊎_elim, arith, length-set, length-append}
-use Rattle.std.proofs.lemmas.List.{take-append-le}
-use Rattle.std.specs.Prelude.{Vec}
+use Rattle.std.proofs.Common.{[], ⊎_elim, ◌++◌, ◌+◌, ◌==◌, ◌∙◌, ◌∷◌, ◌≡◌, ◌≢◌, ap, arith, Bool, cond, false, length}
+use Rattle.std.proofs.Common.{length-append, length-set, List, map, None, Option, refl, Result, set, Some, subst, sym}
+use Rattle.std.proofs.Common.{take, true, Vec, ℕ}
 use Rattle.std.specs.declared.alloc.Global.{Global}
-use mathlib.Core.Option.{some, some-injective}
+use Rattle.std.proofs.lemmas.List.{take-append-le}
 use lib.ListN.{get_elem?}
-use Rattle.krs_types.specs.declared.ask.Answer as answer
-use Rattle.krs_types.specs.declared.errno.Errno.{Errno}
-use Rattle.krs_types.specs.declared.event.Event.{Event}
-use Rattle.krs_model.specs.State.{State, starting_at}
-use Rattle.krs_model.specs.Step.{Step}
+use mathlib.Core.Option.{some, some-injective}
+use Rattle.krs_types.specs.declared.{errno.Errno.Errno, event.Event.Event}
+use Rattle.krs_model.specs.{State.{starting_at, State}, Step.Step}
 use Rattle.krs_model.proofs.History.Legal.{legal_more}
-use Rattle.krs_world.specs.declared.view.Cell.TheVariants as cells
-use Rattle.krs_world.specs.declared.view.Part.{Part}
-use Rattle.krs_world.specs.declared.view.Service.{Service}
-use Rattle.krs_world.specs.declared.step.Kind.TheVariants.{Answer}
-use Rattle.krs_world.specs.declared.lane.Lane.{Lane}
-use Rattle.krs_world.specs.declared.lane.Slot.{Slot}
+use Rattle.krs_world.specs.Kept.{cell_by, flight_by, IsKept, IsLane, known_by, lane_cell, part_by, served_cell, turn_by}
+use Rattle.krs_world.specs.{Kept.world_of, Knowing.{answered, events_of}}
+use Rattle.krs_world.specs.{World.{event_by, IsServer, recelled, reseated, StepsAs, World}, declared.lane.Lane.Lane}
+use Rattle.krs_world.specs.declared.{lane.Slot.Slot, step.Kind.TheVariants.Answer, view.{Part.Part, Service.Service}}
+use Rattle.krs_world.proofs.KeptHistory.{cells_by, each_at, map_else, seats_by}
+use Rattle.krs_world.proofs.{KeptLanes.lane_more, Lanes.{at_set, snoc_end}, Moves.{after, holding_is, unheld}}
+use Rattle.krs_world.proofs.ServedMoves.{apart_else, cell_apart, holds_true, slot_apart}
+use Rattle.krs_world.proofs.Slots.{cell_more, cell_then, cond_none, known_more, known_then}
+use Rattle.krs_types.specs.declared.ask.Answer as answer
 use Rattle.krs_world.specs.declared.lane.Slot.TheVariants as slots
-use Rattle.krs_world.specs.Knowing.{events_of, answered}
-use Rattle.krs_world.specs.World.{World, IsServer, StepsAs, event_by, recelled, reseated}
-use Rattle.krs_world.specs.Kept.{part_by, lane_cell, cell_by, known_by, flight_by, turn_by, world_of, IsLane}
-use Rattle.krs_world.specs.Kept.{served_cell, IsKept}
-use Rattle.krs_world.proofs.Lanes.{at_set, snoc_end}
-use Rattle.krs_world.proofs.KeptHistory.{seats_by, cells_by, each_at, map_else}
-use Rattle.krs_world.proofs.Slots.{cond_none, cell_more, known_more, known_then, cell_then}
-use Rattle.krs_world.proofs.ServedMoves.{cell_apart, slot_apart, apart_else, holds_true}
-use Rattle.krs_world.proofs.KeptLanes.{lane_more}
-use Rattle.krs_world.proofs.Moves.{after, holding_is, unheld}
+use Rattle.krs_world.specs.declared.view.Cell.TheVariants as cells
 
 cond_own : (b : Bool) → cond b true false ≡ b
 cond_own true = refl

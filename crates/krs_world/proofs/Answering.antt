@@ -1,30 +1,21 @@
 -- What `World::step` answers, on the machine as it is seen: a step that was made, one that isn't possible, and one that
 -- is refused.
-use Rattle.std.proofs.Common.{◌≡◌, ◌≢◌, ◌⊎◌, ℕ, ◌+◌, ◌<◌, ◌≤◌, true, false, List, length, get_or, Option, Some, None}
-use Rattle.std.proofs.Common.{refl, sym, ap, ◌∙◌, subst, arith, take}
-use mathlib.Core.Option.{some, some-injective}
+use Rattle.std.proofs.Common.{◌+◌, ◌<◌, ◌∙◌, ◌≡◌, ◌≢◌, ◌≤◌, ◌⊎◌, ap, arith, false, get_or, length, List, None, Option}
+use Rattle.std.proofs.Common.{refl, Some, subst, sym, take, true, ℕ}
 use lib.ListN.{get_elem?}
-use Rattle.krs_types.specs.declared.ask.Ask.{Ask}
-use Rattle.krs_types.specs.declared.errno.Errno.TheVariants.{ENOMEM, ENOSPC}
-use Rattle.krs_types.specs.declared.event.Event.{Event}
+use mathlib.Core.Option.{some, some-injective}
+use Rattle.krs_types.specs.declared.{ask.Ask.Ask, errno.Errno.TheVariants.{ENOMEM, ENOSPC}, event.Event.Event}
 use Rattle.krs_model.specs.State.{State}
-use Rattle.krs_world.specs.declared.view.Cell.{Cell}
-use Rattle.krs_world.specs.declared.view.Cell.TheVariants as cells
-use Rattle.krs_world.specs.declared.view.Part.{Part}
-use Rattle.krs_world.specs.declared.step.Kind.{Kind}
-use Rattle.krs_world.specs.declared.step.Kind.TheVariants.{Take, TakeFound, Put, Serve, Load, Post, Answer, LookAt}
-use Rattle.krs_world.specs.declared.view.Service.{Service}
-use Rattle.krs_world.specs.declared.lane.Lane.{Lane}
-use Rattle.krs_world.specs.declared.lane.Slot.{Slot}
-use Rattle.krs_world.specs.declared.lane.Slot.TheVariants as slots
-use Rattle.krs_world.specs.World.{World, Out, IsHolder, StepsAs, MovesBy, RefusedBy}
-use Rattle.krs_world.specs.Kept.{part_by, lane_cell, cell_by, flight_by, turn_by, world_of, IsKept, IsIdle, MayPut}
-use Rattle.krs_world.proofs.Worlds.{get_map, of_map}
-use Rattle.krs_world.proofs.KeptHistory.{seats_by, cells_by, at_in, in_bounds}
-use Rattle.krs_world.proofs.Slots.{cond_none, slot_empty, cell_idle}
-use Rattle.krs_world.proofs.Moves.{holder, no_load, no_holder}
-use Rattle.krs_world.proofs.ServedMoves.{unposted}
+use Rattle.krs_world.specs.Kept.{cell_by, flight_by, IsIdle, IsKept, lane_cell, MayPut, part_by, turn_by, world_of}
+use Rattle.krs_world.specs.World.{IsHolder, MovesBy, Out, RefusedBy, StepsAs, World}
+use Rattle.krs_world.specs.declared.{lane.{Lane.Lane, Slot.Slot}, step.Kind.Kind}
+use Rattle.krs_world.specs.declared.step.Kind.TheVariants.{Answer, Load, LookAt, Post, Put, Serve, Take, TakeFound}
+use Rattle.krs_world.specs.declared.view.{Cell.Cell, Part.Part, Service.Service}
 use Rattle.krs_world.proofs.AnsweredMoves.{server}
+use Rattle.krs_world.proofs.{KeptHistory.{at_in, cells_by, in_bounds, seats_by}, Moves.{holder, no_holder, no_load}}
+use Rattle.krs_world.proofs.{ServedMoves.unposted, Slots.{cell_idle, cond_none, slot_empty}, Worlds.{get_map, of_map}}
+use Rattle.krs_world.specs.declared.lane.Slot.TheVariants as slots
+use Rattle.krs_world.specs.declared.view.Cell.TheVariants as cells
 
 -- a lane that has no seat
 pub unseated : (w : World) (store : State) (out : Option ℕ) (serving : Option Service) (log : List Event) (lanes : List Lane) (i : ℕ) (p : Part)

@@ -1,27 +1,18 @@
 -- A machine that begins has one history, and so has it after every list of steps.
-use Rattle.std.proofs.Common.{◌≡◌, ℕ, zero, suc, ◌+◌, ◌<◌, true, false, List, [], ◌∷◌, ◌++◌, map}
-use Rattle.std.proofs.Common.{length, length-append, ⊎_elim, None, refl, sym, ap, ◌∙◌}
-use Rattle.std.proofs.Common.{subst, inl, inr, arith, take, cond, Some, Bool, Option}
-use mathlib.Core.Option.{some, some-injective, some-ne-none}
+use Rattle.std.proofs.Common.{[], ⊎_elim, ◌++◌, ◌+◌, ◌<◌, ◌∙◌, ◌∷◌, ◌≡◌, ap, arith, Bool, cond, false, inl, inr, length}
+use Rattle.std.proofs.Common.{length-append, List, map, None, Option, refl, Some, subst, suc, sym, take, true, zero, ℕ}
 use lib.ListN.{get_elem?}
+use mathlib.Core.Option.{some, some-injective, some-ne-none}
 use Rattle.krs_types.specs.declared.event.Event.{Event}
-use Rattle.krs_model.specs.State.{State, starting_at}
-use Rattle.krs_world.specs.declared.view.Cell.TheVariants.{Empty}
-use Rattle.krs_world.specs.declared.view.Part.{Part}
-use Rattle.krs_world.specs.declared.view.View.{View}
-use Rattle.krs_world.specs.declared.view.Service.{Service}
-use Rattle.krs_world.specs.Knowing.{one, fresh, events_of}
-use Rattle.krs_world.specs.History.{Shared, Known, Fits, Stands}
-use Rattle.krs_world.specs.declared.lane.Lane.{Lane}
-use Rattle.krs_world.specs.declared.lane.Slot.{Slot}
-use Rattle.krs_world.specs.declared.lane.Slot.TheVariants as slots
-use Rattle.krs_world.specs.World.{Free, World, fresh_lanes, empty_cells, begun, new_world, cell_of, IsOneHistory}
-use Rattle.krs_world.specs.World.{StaysOne}
-use Rattle.krs_world.specs.Kept.{part_by, lane_cell, cell_by, known_by, flight_by, world_of, IsFresh, AreFreshLanes}
-use Rattle.krs_world.specs.Kept.{IsSlotOf, IsKept}
+use Rattle.krs_model.specs.State.{starting_at, State}
 use Rattle.krs_model.proofs.History.Legal.{legal_none}
-use Rattle.krs_world.proofs.Lanes.{at_snoc}
-use Rattle.krs_world.proofs.Worlds.{get_map, of_map, prefix_none, runs_keep}
+use Rattle.krs_world.specs.{History.{Fits, Known, Shared, Stands}, Kept.AreFreshLanes}
+use Rattle.krs_world.specs.Kept.{cell_by, flight_by, IsFresh, IsKept, IsSlotOf, known_by, lane_cell, part_by, world_of}
+use Rattle.krs_world.specs.{Knowing.{events_of, fresh, one}, World.{begun, cell_of, empty_cells, Free, fresh_lanes}}
+use Rattle.krs_world.specs.{World.{IsOneHistory, new_world, StaysOne, World}, declared.lane.{Lane.Lane, Slot.Slot}}
+use Rattle.krs_world.specs.declared.view.{Cell.TheVariants.Empty, Part.Part, Service.Service, View.View}
+use Rattle.krs_world.proofs.{Lanes.at_snoc, Worlds.{get_map, of_map, prefix_none, runs_keep}}
+use Rattle.krs_world.specs.declared.lane.Slot.TheVariants as slots
 
 cells_empty : (k l : ℕ) → cell_of (empty_cells k) l ≡ Empty
 cells_empty zero l = refl

@@ -1,26 +1,17 @@
 -- Of two moments, what a call stands behind at the second that wasn't answered yet at the first.
-use Rattle.std.proofs.Common.{◌≡◌, ℕ, ◌==◌, cond, List, [], ◌∷◌, ◌++◌, refl, sym, ap, ◌∙◌, subst, append_assoc}
-use Rattle.std.proofs.Common.{⊎_elim, eq-eqb, ne_eqb, ◌≢◌, Option}
-use Rattle.std.proofs.lemmas.List.{append-nil, append_cancel_left}
-use Rattle.std.proofs.lemmas.List.Elements.{filter-append}
+use Rattle.std.proofs.Common.{[], ⊎_elim, ◌++◌, ◌==◌, ◌∙◌, ◌∷◌, ◌≡◌, ◌≢◌, ap, append-nil, append_assoc, cond, eq-eqb}
+use Rattle.std.proofs.Common.{List, ne_eqb, Option, refl, subst, sym, ℕ}
+use Rattle.std.proofs.lemmas.List.{append_cancel_left, Elements.filter-append}
 use mathlib.Core.Logic.{dite}
 use native.Mathlib.Decide.{ℕ_discrete}
 use Rattle.krs_types.specs.declared.event.Event.{Event}
-use Rattle.krs_model.specs.State.{State}
-use Rattle.krs_model.specs.Lists.{Begins}
-use Rattle.krs_model.specs.History.{event_of}
-use Rattle.krs_world.specs.declared.view.Cell.{Cell}
-use Rattle.krs_world.specs.declared.view.Cell.TheVariants.{Empty, Posted, Serving, Answered}
-use Rattle.krs_world.specs.declared.view.Part.{Part}
-use Rattle.krs_world.specs.declared.view.Standing.{Standing}
-use Rattle.krs_world.specs.declared.view.Standing.TheVariants.{Spent, One, Two, Opening}
-use Rattle.krs_world.specs.declared.view.View.{View}
-use Rattle.krs_world.specs.Knowing.{one, events_of}
-use Rattle.krs_world.specs.History.{Shared, Fits, Stands, HasSeen, OneHistory}
-use Rattle.krs_world.specs.World.{IsUnanswered}
-use Rattle.krs_world.specs.Between.{StandsNext, IsSeenBy, KeepsRealTimeBetween, KeepsPostedBetween, KeepsCollectedBetween}
-use Rattle.krs_world.proofs.Keeping.{prefix_trans, events_prefix, empty_if_idle}
-use Rattle.krs_world.proofs.Orders.{either_begins}
+use Rattle.krs_model.specs.{History.event_of, Lists.Begins, State.State}
+use Rattle.krs_world.specs.Between.{IsSeenBy, KeepsCollectedBetween, KeepsPostedBetween, KeepsRealTimeBetween}
+use Rattle.krs_world.specs.{Between.StandsNext, History.{Fits, HasSeen, OneHistory, Shared, Stands}}
+use Rattle.krs_world.specs.{Knowing.{events_of, one}, World.IsUnanswered, declared.view.Cell.Cell}
+use Rattle.krs_world.specs.declared.view.{Cell.TheVariants.{Answered, Empty, Posted, Serving}, Part.Part}
+use Rattle.krs_world.specs.declared.view.{Standing.{Standing, TheVariants.{One, Opening, Spent, Two}}, View.View}
+use Rattle.krs_world.proofs.{Keeping.{empty_if_idle, events_prefix, prefix_trans}, Orders.either_begins}
 
 -- Lists.
 

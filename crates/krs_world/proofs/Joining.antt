@@ -1,25 +1,18 @@
 -- Joining two seats and splitting them again keeps the one history.
-use Rattle.std.proofs.Common.{◌≡◌, ◌≢◌, ℕ, List, []}
-use Rattle.std.proofs.Common.{◌∷◌, ◌++◌, length, set, Option, Some, None, refl, sym, ap, ◌∙◌, subst, inl, inr, ◌⊎◌}
-use Rattle.std.proofs.Common.{⊎_elim, length-set}
-use mathlib.Core.Option.{some, some-injective}
-use mathlib.Core.Logic.{dite}
-use native.Mathlib.Decide.{ℕ_discrete}
+use Rattle.std.proofs.Common.{[], ⊎_elim, ◌++◌, ◌∙◌, ◌∷◌, ◌≡◌, ◌≢◌, ◌⊎◌, ap, inl, inr, length, length-set, List, None}
+use Rattle.std.proofs.Common.{Option, refl, set, Some, subst, sym, ℕ}
 use lib.ListN.{get_elem?}
+use mathlib.Core.{Logic.dite, Option.{some, some-injective}}
+use native.Mathlib.Decide.{ℕ_discrete}
 use Rattle.krs_types.specs.declared.event.Event.{Event}
 use Rattle.krs_model.specs.State.{State}
-use Rattle.krs_world.specs.declared.view.Cell.{Cell}
-use Rattle.krs_world.specs.declared.view.Part.{Part}
-use Rattle.krs_world.specs.declared.view.Standing.TheVariants.{Spent, Two}
-use Rattle.krs_world.specs.declared.view.View.{View}
-use Rattle.krs_world.specs.Knowing.{events_of, view, one, loaded}
-use Rattle.krs_world.specs.History.{Shared, Holds, Known, Stands, StandsFor, HasSeen, IsSeen, OneHistory}
-use Rattle.krs_world.proofs.Keeping.{at_snoc, prefix_self, prefix_trans, events_prefix, set_at, set_else}
-use Rattle.krs_world.proofs.Keeping.{snoc_at, snoc_end, held_set, held_snoc, each_set}
-use Rattle.krs_world.proofs.Keeping.{shares, others_stand, fits_same}
-use Rattle.krs_world.proofs.Places.{seated_set, seated_snoc, dealing_set, dealing_snoc, seats_again, seated_here}
-use Rattle.krs_world.proofs.Places.{seated_else}
-use Rattle.krs_world.proofs.Places.{seated}
+use Rattle.krs_world.specs.History.{HasSeen, Holds, IsSeen, Known, OneHistory, Shared, Stands, StandsFor}
+use Rattle.krs_world.specs.Knowing.{events_of, loaded, one, view}
+use Rattle.krs_world.specs.declared.view.{Cell.Cell, Part.Part, Standing.TheVariants.{Spent, Two}, View.View}
+use Rattle.krs_world.proofs.Keeping.{at_snoc, each_set, events_prefix, fits_same, held_set, held_snoc, others_stand}
+use Rattle.krs_world.proofs.Keeping.{prefix_self, prefix_trans, set_at, set_else, shares, snoc_at, snoc_end}
+use Rattle.krs_world.proofs.Places.{dealing_set, dealing_snoc, seated, seated_else, seated_here, seated_set}
+use Rattle.krs_world.proofs.Places.{seated_snoc, seats_again}
 
 pub each_snoc : (S : ℕ → View → Type 0) (views : List View) (n : ℕ) (w : View) → length views ≡ n → S n w
     → ((j : ℕ) (v : View) → get_elem? views j ≡ some v → S j v)

@@ -1,24 +1,15 @@
 -- Each step keeps the one history.
-use Rattle.std.proofs.Common.{◌≡◌, ◌≢◌, ℕ, ◌<◌, List, []}
-use Rattle.std.proofs.Common.{◌∷◌, ◌++◌, set, Option, Some, None, refl, sym, ap, ◌∙◌, subst, inr}
-use Rattle.std.proofs.Common.{◌⊎◌, arith}
-use mathlib.Core.Option.{some}
-use Rattle.krs_model.specs.Lists.{Begins}
+use Rattle.std.proofs.Common.{[], ◌++◌, ◌<◌, ◌∙◌, ◌∷◌, ◌≡◌, ◌≢◌, ◌⊎◌, ap, arith, inr, List, None, Option, refl, set}
+use Rattle.std.proofs.Common.{Some, subst, sym, ℕ}
 use lib.ListN.{get_elem?}
+use mathlib.Core.Option.{some}
 use Rattle.krs_types.specs.declared.event.Event.{Event}
-use Rattle.krs_model.specs.State.{State}
-use Rattle.krs_model.specs.Step.{Step}
-use Rattle.krs_model.specs.History.{IsLegal}
+use Rattle.krs_model.specs.{History.IsLegal, Lists.Begins, State.State, Step.Step}
 use Rattle.krs_model.proofs.History.Legal.{legal_more}
-use Rattle.krs_world.specs.declared.view.Cell.{Cell}
-use Rattle.krs_world.specs.declared.view.Cell.TheVariants.{Empty}
-use Rattle.krs_world.specs.declared.view.Part.{Part}
-use Rattle.krs_world.specs.declared.view.Standing.{Standing}
-use Rattle.krs_world.specs.declared.view.Standing.TheVariants.{Spent, One}
-use Rattle.krs_world.specs.declared.view.View.{View}
-use Rattle.krs_world.specs.Knowing.{events_of, view, one, taken, missed, put_own, kept}
-use Rattle.krs_world.specs.Knowing.{put_none, loaded}
-use Rattle.krs_world.specs.History.{Shared, Fits, Known, Stands, OneHistory}
+use Rattle.krs_world.specs.History.{Fits, Known, OneHistory, Shared, Stands}
+use Rattle.krs_world.specs.Knowing.{events_of, kept, loaded, missed, one, put_none, put_own, taken, view}
+use Rattle.krs_world.specs.declared.view.Cell.{Cell, TheVariants.Empty}
+use Rattle.krs_world.specs.declared.view.{Part.Part, Standing.{Standing, TheVariants.{One, Spent}}, View.View}
 pub use Rattle.krs_world.proofs.Lanes.{prefix_self, prefix_more, prefix_trans, prefix_both, events_prefix, own_event}
 pub use Rattle.krs_world.proofs.Lanes.{other_event, at_set, set_at, set_else, snoc_at, snoc_end, at_snoc, seen_set}
 pub use Rattle.krs_world.proofs.Lanes.{held_set, seen_snoc, held_snoc, each_set, shares, others_stand, celled_here}

@@ -1,24 +1,16 @@
 -- The history of the machine as it is kept: the list of all calls.
-use Rattle.std.proofs.Common.{◌≡◌, ◌≢◌, ℕ, ◌<◌, ◌≤◌, Bool, true, false, cond, List, [], ◌∷◌, ◌++◌, map, length}
-use Rattle.std.proofs.Common.{get_or, take, drop, set, Option, Some, None, refl, sym, ap, ◌∙◌, subst, inl}
-use Rattle.std.proofs.Common.{inr, ◌⊎◌}
-use Rattle.std.proofs.Common.{⊎_elim, arith, length-set, length-append, zero, suc}
-use Rattle.std.proofs.lemmas.List.{map-set, take-append-drop, length-take-le, take-take}
-use Rattle.std.proofs.Math.Seq.{take-length}
-use mathlib.Core.Option.{some, some-injective, some-ne-none}
+use Rattle.std.proofs.Common.{[], ⊎_elim, ◌++◌, ◌<◌, ◌∙◌, ◌∷◌, ◌≡◌, ◌≢◌, ◌≤◌, ◌⊎◌, ap, arith, Bool, cond, drop, false}
+use Rattle.std.proofs.Common.{get_or, inl, inr, length, length-append, length-set, length-take-le, List, map, None}
+use Rattle.std.proofs.Common.{Option, refl, set, Some, subst, suc, sym, take, take-append-drop, take-take, true, zero}
+use Rattle.std.proofs.{Common.ℕ, Math.Seq.take-length, lemmas.List.map-set}
 use lib.ListN.{get_elem?}
+use mathlib.Core.Option.{some, some-injective, some-ne-none}
 use Rattle.krs_types.specs.declared.event.Event.{Event}
-use Rattle.krs_model.specs.State.{State, starting_at}
-use Rattle.krs_model.specs.Lists.{Begins}
-use Rattle.krs_world.specs.declared.view.Part.{Part}
-use Rattle.krs_world.specs.declared.view.Cell.{Cell}
-use Rattle.krs_world.specs.declared.view.Service.{Service}
-use Rattle.krs_world.specs.declared.lane.Lane.{Lane}
-use Rattle.krs_world.specs.World.{Free, IsHistory, reseated, recelled, cell_of}
-use Rattle.krs_world.specs.World.{IsOneHistory}
-use Rattle.krs_world.specs.Kept.{part_by, cell_by, lane_cell, turn_by, world_of, IsKept}
-use Rattle.krs_world.proofs.Lanes.{at_set}
-use Rattle.krs_world.proofs.Worlds.{get_map, of_map, history_is}
+use Rattle.krs_model.specs.{Lists.Begins, State.{starting_at, State}}
+use Rattle.krs_world.specs.Kept.{cell_by, IsKept, lane_cell, part_by, turn_by, world_of}
+use Rattle.krs_world.specs.World.{cell_of, Free, IsHistory, IsOneHistory, recelled, reseated}
+use Rattle.krs_world.specs.declared.{lane.Lane.Lane, view.{Cell.Cell, Part.Part, Service.Service}}
+use Rattle.krs_world.proofs.{Lanes.at_set, Worlds.{get_map, history_is, of_map}}
 
 -- what the seats know, by the list of all calls
 abbrev pub seats_by : List Event → Option Service → List Lane → List Part

@@ -1,14 +1,10 @@
 -- What is kept of a lane, where another lane is out, and where the list of all calls has an event more.
-use Rattle.std.proofs.Common.{◌≡◌, ◌≢◌, ℕ, ◌+◌, Bool, true, false, cond, List, [], ◌∷◌, ◌++◌, length}
-use Rattle.std.proofs.Common.{take, Option, Some, None, refl, sym, ap, ◌∙◌, subst}
-use Rattle.std.proofs.Common.{arith, length-append}
-use Rattle.std.proofs.lemmas.List.{take-append-le}
+use Rattle.std.proofs.Common.{[], ◌++◌, ◌+◌, ◌∙◌, ◌∷◌, ◌≡◌, ◌≢◌, ap, arith, Bool, cond, false, length, length-append}
+use Rattle.std.proofs.{Common.{List, None, Option, refl, Some, subst, sym, take, true, ℕ}, lemmas.List.take-append-le}
 use Rattle.krs_types.specs.declared.event.Event.{Event}
-use Rattle.krs_world.specs.declared.view.Service.{Service}
-use Rattle.krs_world.specs.declared.lane.Lane.{Lane}
-use Rattle.krs_world.specs.Knowing.{events_of}
-use Rattle.krs_world.specs.Kept.{part_by, lane_cell, known_by, flight_by, IsLane}
-use Rattle.krs_world.proofs.Slots.{slot_more, cell_more, known_more}
+use Rattle.krs_world.specs.Kept.{flight_by, IsLane, known_by, lane_cell, part_by}
+use Rattle.krs_world.specs.{Knowing.events_of, declared.{lane.Lane.Lane, view.Service.Service}}
+use Rattle.krs_world.proofs.Slots.{cell_more, known_more, slot_more}
 
 -- what is kept of a lane, where another lane is out or none is
 pub lane_out : (out out' : Option ℕ) (serving : Option Service) (log : List Event) (j : ℕ) (l : Lane)

@@ -1,25 +1,16 @@
 -- Lists, the lists that seats see and hold, and what holds of a lane where the list or its seat changes.
-use Rattle.std.proofs.Common.{◌≡◌, ◌≢◌, ℕ, zero, suc, ◌==◌, cond, List, []}
-use Rattle.std.proofs.Common.{◌∷◌, ◌++◌, length, set, Option, Some, None, refl, sym, ap, ◌∙◌, subst, inl, inr}
-use Rattle.std.proofs.Common.{◌⊎◌, ⊎_elim, arith, append_assoc, ne_eqb, eq-eqb}
-use Rattle.std.proofs.lemmas.List.Elements.{filter-append}
-use Rattle.std.proofs.lemmas.List.{append-nil}
-use mathlib.Core.Option.{some, some-injective, some-ne-none}
-use Rattle.krs_model.specs.Lists.{Begins}
-use mathlib.Core.Logic.{dite}
-use native.Mathlib.Decide.{ℕ_discrete}
+use Rattle.std.proofs.Common.{[], ⊎_elim, ◌++◌, ◌==◌, ◌∙◌, ◌∷◌, ◌≡◌, ◌≢◌, ◌⊎◌, ap, append-nil, append_assoc, arith}
+use Rattle.std.proofs.Common.{cond, eq-eqb, inl, inr, length, List, ne_eqb, None, Option, refl, set, Some, subst, suc}
+use Rattle.std.proofs.{Common.{sym, zero, ℕ}, lemmas.List.Elements.filter-append}
 use lib.ListN.{get_elem?}
+use mathlib.Core.{Logic.dite, Option.{some, some-injective, some-ne-none}}
+use native.Mathlib.Decide.{ℕ_discrete}
 use Rattle.krs_types.specs.declared.event.Event.{Event}
-use Rattle.krs_model.specs.State.{State}
-use Rattle.krs_model.specs.History.{event_of}
-use Rattle.krs_world.specs.declared.view.Cell.{Cell}
-use Rattle.krs_world.specs.declared.view.Cell.TheVariants.{Empty, Posted, Serving, Answered}
-use Rattle.krs_world.specs.declared.view.Part.{Part}
-use Rattle.krs_world.specs.declared.view.Standing.{Standing}
-use Rattle.krs_world.specs.declared.view.Standing.TheVariants.{Spent, One, Two, Opening}
-use Rattle.krs_world.specs.declared.view.View.{View}
-use Rattle.krs_world.specs.Knowing.{events_of, flight, celled}
-use Rattle.krs_world.specs.History.{Shared, Fits, Known, Stands, HasSeen, HasTurn, IsSeen, IsHeld, OneHistory}
+use Rattle.krs_model.specs.{History.event_of, Lists.Begins, State.State}
+use Rattle.krs_world.specs.History.{Fits, HasSeen, HasTurn, IsHeld, IsSeen, Known, OneHistory, Shared, Stands}
+use Rattle.krs_world.specs.Knowing.{celled, events_of, flight}
+use Rattle.krs_world.specs.declared.view.{Cell.{Cell, TheVariants.{Answered, Empty, Posted, Serving}}, Part.Part}
+use Rattle.krs_world.specs.declared.view.{Standing.{Standing, TheVariants.{One, Opening, Spent, Two}}, View.View}
 
 -- Lists.
 

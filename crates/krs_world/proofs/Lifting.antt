@@ -1,23 +1,18 @@
 -- A lane goes over from one seat to another that stands for none, and the one history stays.
-use Rattle.std.proofs.Common.{◌≡◌, ◌≢◌, ◌<◌, ℕ, zero, suc, List, [], ◌∷◌, ◌++◌, length, set, Option, Some, None}
-use Rattle.std.proofs.Common.{refl, sym, ap, ◌∙◌, subst, inl, inr, ◌⊎◌, ⊎_elim, length-set, arith}
-use Rattle.std.proofs.lemmas.List.{set-append_left}
-use Rattle.std.proofs.Math.Seq.{set-append_seam}
-use mathlib.Core.Option.{some, some-injective, some-ne-none}
-use mathlib.Core.Logic.{dite}
-use native.Mathlib.Decide.{ℕ_discrete}
+use Rattle.std.proofs.Common.{[], ⊎_elim, ◌++◌, ◌<◌, ◌∙◌, ◌∷◌, ◌≡◌, ◌≢◌, ◌⊎◌, ap, arith, inl, inr, length, length-set}
+use Rattle.std.proofs.Common.{List, None, Option, refl, set, Some, subst, suc, sym, zero, ℕ}
+use Rattle.std.proofs.{Math.Seq.set-append_seam, lemmas.List.set-append_left}
 use lib.ListN.{get_elem?}
+use mathlib.Core.{Logic.dite, Option.{some, some-injective, some-ne-none}}
+use native.Mathlib.Decide.{ℕ_discrete}
 use Rattle.krs_types.specs.declared.event.Event.{Event}
 use Rattle.krs_model.specs.State.{State}
-use Rattle.krs_world.specs.declared.view.Cell.{Cell}
-use Rattle.krs_world.specs.declared.view.Part.{Part}
-use Rattle.krs_world.specs.declared.view.Standing.TheVariants.{Spent, Opening}
-use Rattle.krs_world.specs.declared.view.View.{View}
-use Rattle.krs_world.specs.Knowing.{view, one}
-use Rattle.krs_world.specs.History.{Shared, Stands, StandsFor, HasSeen, HasTurn, IsSeen, OneHistory}
-use Rattle.krs_world.proofs.Keeping.{set_at, set_else, snoc_at, snoc_end, held_set, each_set, shares, others_stand}
-use Rattle.krs_world.proofs.Places.{seated_set, dealing_set, seats_again, seated_here, seated_else, seated}
+use Rattle.krs_world.specs.History.{HasSeen, HasTurn, IsSeen, OneHistory, Shared, Stands, StandsFor}
+use Rattle.krs_world.specs.Knowing.{one, view}
+use Rattle.krs_world.specs.declared.view.{Cell.Cell, Part.Part, Standing.TheVariants.{Opening, Spent}, View.View}
 use Rattle.krs_world.proofs.Joining.{reseat}
+use Rattle.krs_world.proofs.Keeping.{each_set, held_set, others_stand, set_at, set_else, shares, snoc_at, snoc_end}
+use Rattle.krs_world.proofs.Places.{dealing_set, seated, seated_else, seated_here, seated_set, seats_again}
 use Rattle.krs_world.proofs.Seating.{spares}
 
 -- the longest list that is seen, where a lane goes over

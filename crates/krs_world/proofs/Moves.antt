@@ -1,41 +1,27 @@
 -- What each step of the turn comes to on the machine as it is kept: by one list of all calls, and lengths of it.
-use Rattle.std.proofs.Common.{◌≡◌, ◌≢◌, ℕ, ◌+◌, ◌<◌, ◌≤◌, Bool, true, false, cond, List, [], ◌∷◌, ◌++◌, map, length}
-use Rattle.std.proofs.Common.{take, set, Option, Some, None, Result, refl, sym, ap, ◌∙◌, subst, inl, inr, ◌⊎◌}
-use Rattle.std.proofs.Common.{⊎_elim, arith, length-set, length-append}
-use Rattle.std.proofs.lemmas.List.{length-take-le, take-append-le}
-use Rattle.std.proofs.Math.Seq.{take-length}
-use mathlib.Core.Option.{some, some-injective}
-use mathlib.Core.Logic.{dite}
-use native.Mathlib.Decide.{ℕ_discrete}
-use lib.ListN.{get_elem?}
-use Rattle.std.specs.Prelude.{Vec}
+use Rattle.std.proofs.Common.{[], ⊎_elim, ◌++◌, ◌+◌, ◌<◌, ◌∙◌, ◌∷◌, ◌≡◌, ◌≢◌, ◌≤◌, ◌⊎◌, ap, arith, Bool, cond, false}
+use Rattle.std.proofs.Common.{inl, inr, length, length-append, length-set, length-take-le, List, map, None, Option}
+use Rattle.std.proofs.Common.{refl, Result, set, Some, subst, sym, take, true, Vec, ℕ}
 use Rattle.std.specs.declared.alloc.Global.{Global}
-use Rattle.krs_types.specs.declared.ask.Ask.{Ask}
-use Rattle.krs_types.specs.declared.ask.Answer.{Answer}
-use Rattle.krs_types.specs.declared.errno.Errno.{Errno}
-use Rattle.krs_types.specs.declared.event.Event.{Event}
-use Rattle.krs_model.specs.State.{State, starting_at}
-use Rattle.krs_model.specs.Step.{Step}
-use Rattle.krs_model.specs.History.{event_of, IsLegal}
+use Rattle.std.proofs.{Math.Seq.take-length, lemmas.List.take-append-le}
+use lib.ListN.{get_elem?}
+use mathlib.Core.{Logic.dite, Option.{some, some-injective}}
+use native.Mathlib.Decide.{ℕ_discrete}
+use Rattle.krs_types.specs.declared.{ask.{Answer.Answer, Ask.Ask}, errno.Errno.Errno, event.Event.Event}
+use Rattle.krs_model.specs.{History.{event_of, IsLegal}, State.{starting_at, State}, Step.Step}
 use Rattle.krs_model.proofs.History.Legal.{legal_more}
-use Rattle.krs_world.specs.declared.view.Part.{Part}
-use Rattle.krs_world.specs.declared.view.Service.{Service}
-use Rattle.krs_world.specs.declared.step.Kind.{Kind}
-use Rattle.krs_world.specs.declared.step.Kind.TheVariants.{Take, TakeFound, Put, Serve, Load}
+use Rattle.krs_world.specs.Kept.{cell_by, flight_by, IsKept, IsLane, known_by, lane_cell, part_by, turn_by, world_of}
+use Rattle.krs_world.specs.Knowing.{events_of, kept, loaded, missed, put_none, put_own, taken}
+use Rattle.krs_world.specs.World.{IsHistory, IsHolder, IsOneHistory, reseated, StepsAs, World}
 use Rattle.krs_world.specs.declared.lane.Lane.{Lane}
-use Rattle.krs_world.specs.declared.lane.Slot.{Slot}
+use Rattle.krs_world.specs.declared.{lane.Slot.Slot, step.Kind.{Kind, TheVariants.{Load, Put, Serve, Take, TakeFound}}}
+use Rattle.krs_world.specs.declared.view.{Part.Part, Service.Service}
+use Rattle.krs_world.proofs.Keeping.{at_set, own_event, set_at, set_else}
+use Rattle.krs_world.proofs.KeptHistory.{begins_further, begins_short, begins_take, cells_by, each_at, history_kept}
+use Rattle.krs_world.proofs.KeptHistory.{IsSeenWhole, kept_history, map_alike, map_else, not_true, reseats, seats_by}
+use Rattle.krs_world.proofs.{KeptHistory.{seen_whole, whole_now}, KeptLanes.{held_true, lane_more, lane_out, part_more}}
+use Rattle.krs_world.proofs.{Slots.{cell_more, cond_none, slot_more}, Worlds.{get_map, step_as}}
 use Rattle.krs_world.specs.declared.lane.Slot.TheVariants as slots
-use Rattle.krs_world.specs.Knowing.{events_of, taken, missed, put_own, put_none, loaded, kept}
-use Rattle.krs_world.specs.World.{World, IsHistory, reseated, IsHolder, StepsAs, IsOneHistory}
-use Rattle.krs_world.specs.Kept.{part_by, lane_cell, cell_by, known_by, flight_by, turn_by, world_of, IsLane}
-use Rattle.krs_world.specs.Kept.{IsKept}
-use Rattle.krs_world.proofs.Keeping.{at_set, set_at, set_else, own_event}
-use Rattle.krs_world.proofs.Worlds.{get_map, step_as}
-use Rattle.krs_world.proofs.KeptHistory.{seats_by, cells_by, begins_take, begins_further, begins_short, map_else}
-use Rattle.krs_world.proofs.KeptHistory.{map_alike, each_at, not_true, history_kept, kept_history}
-use Rattle.krs_world.proofs.KeptHistory.{IsSeenWhole, whole_now, seen_whole, reseats}
-use Rattle.krs_world.proofs.Slots.{cond_none, slot_more, cell_more}
-use Rattle.krs_world.proofs.KeptLanes.{lane_out, lane_more, part_more, held_true}
 
 -- The steps, by the lane at its place.
 module _ (store : State) (out : Option ℕ) (serving : Option Service) (log : List Event) (lanes : List Lane) (i : ℕ)

@@ -1,29 +1,21 @@
 -- The history only grows, and so does what seats have seen, which begins it.
-use Rattle.std.proofs.Common.{◌≡◌, ℕ, List, [], ◌∷◌, ◌++◌, set, Some, None, refl, sym, ap, ◌∙◌, subst}
-use Rattle.std.proofs.Common.{inl, inr, cond, ◌==◌, false}
-use Rattle.std.proofs.Common.{◌⊎◌, ⊎_elim, append_assoc}
-use mathlib.Core.Option.{some, some-injective}
-use mathlib.Core.Logic.{dite}
-use native.Mathlib.Decide.{ℕ_discrete}
+use Rattle.std.proofs.Common.{[], ⊎_elim, ◌++◌, ◌==◌, ◌∙◌, ◌∷◌, ◌≡◌, ◌⊎◌, ap, append_assoc, cond, false, inl, inr, List}
+use Rattle.std.proofs.Common.{None, refl, set, Some, subst, sym, ℕ}
 use lib.ListN.{get_elem?}
+use mathlib.Core.{Logic.dite, Option.{some, some-injective}}
+use native.Mathlib.Decide.{ℕ_discrete}
 use Rattle.krs_types.specs.declared.event.Event.{Event}
-use Rattle.krs_model.specs.State.{State}
-use Rattle.krs_model.specs.Lists.{Begins}
-use Rattle.krs_model.specs.History.{event_of}
-use Rattle.krs_world.specs.declared.view.Part.{Part}
-use Rattle.krs_world.specs.declared.step.Kind.{Kind}
-use Rattle.krs_world.specs.declared.step.Kind.TheVariants.{Take, TakeFound, Put, Load, Post, Grab, Answer, Collect}
-use Rattle.krs_world.specs.declared.step.Kind.TheVariants.{CollectFound, LookAt, Serve}
-use Rattle.krs_world.specs.declared.step.WorldStep.{WorldStep}
-use Rattle.krs_world.specs.Knowing.{one, taken, missed, put_own, put_none, loaded, posted, grabbed, answered}
-use Rattle.krs_world.specs.Knowing.{collected, looked_at, kept}
-use Rattle.krs_world.specs.History.{StandsAfter}
-use Rattle.krs_world.specs.World.{Turn, Free, Out, World, begun, Runs, StepsAs, IsLongest, IsHistoryBy, IsHistory}
-use Rattle.krs_world.specs.World.{reseated, cell_of, IsOneHistory, is_answered, event_by}
-use Rattle.krs_world.specs.Order.{SeenGrows, OnlyGrows, KeepsSessionOrder, KeepsServedOrder}
-use Rattle.krs_world.proofs.Keeping.{prefix_self, prefix_more, prefix_trans, set_at, set_else}
-use Rattle.krs_world.proofs.Worlds.{get_map, prefix_none, history_is, history_is_one, step_as, steps_keep, runs_keep}
-use Rattle.krs_world.proofs.Beginning.{begins_world}
+use Rattle.krs_model.specs.{History.event_of, Lists.Begins, State.State}
+use Rattle.krs_world.specs.{History.StandsAfter, Knowing.{answered, collected, grabbed, kept, loaded, looked_at}}
+use Rattle.krs_world.specs.Knowing.{missed, one, posted, put_none, put_own, taken}
+use Rattle.krs_world.specs.Order.{KeepsServedOrder, KeepsSessionOrder, OnlyGrows, SeenGrows}
+use Rattle.krs_world.specs.World.{begun, cell_of, event_by, Free, is_answered, IsHistory, IsHistoryBy, IsLongest}
+use Rattle.krs_world.specs.World.{IsOneHistory, Out, reseated, Runs, StepsAs, Turn, World}
+use Rattle.krs_world.specs.declared.step.Kind.{Kind, TheVariants.{Answer, Collect, CollectFound, Grab, Load, LookAt}}
+use Rattle.krs_world.specs.declared.step.Kind.TheVariants.{Post, Put, Serve, Take, TakeFound}
+use Rattle.krs_world.specs.declared.{step.WorldStep.WorldStep, view.Part.Part}
+use Rattle.krs_world.proofs.{Beginning.begins_world, Keeping.{prefix_more, prefix_self, prefix_trans, set_at, set_else}}
+use Rattle.krs_world.proofs.Worlds.{get_map, history_is, history_is_one, prefix_none, runs_keep, step_as, steps_keep}
 
 -- two lists that begin one
 pub either_begins : {A : Type 0} (xs ys zs : List A) → Begins xs zs → Begins ys zs → Begins xs ys ⊎ Begins ys xs

@@ -1,14 +1,11 @@
 -- The places of the seats: which lane has which, and what a step leaves at them.
-use Rattle.std.proofs.Common.{◌≡◌, ◌≢◌, ℕ, ◌==◌, cond, List, [], ◌∷◌, ◌++◌, set, refl, sym, ap, ◌∙◌}
-use Rattle.std.proofs.Common.{subst, ne_eqb, eq-eqb}
-use mathlib.Core.Option.{some, some-injective}
-use mathlib.Core.Logic.{dite}
-use native.Mathlib.Decide.{ℕ_discrete}
+use Rattle.std.proofs.Common.{[], ◌++◌, ◌==◌, ◌∙◌, ◌∷◌, ◌≡◌, ◌≢◌, ap, cond, eq-eqb, List, ne_eqb, refl, set, subst, sym}
+use Rattle.std.proofs.Common.{ℕ}
 use lib.ListN.{get_elem?}
-use Rattle.krs_world.specs.declared.view.Standing.{Standing}
-use Rattle.krs_world.specs.declared.view.Standing.TheVariants.{Opening}
-use Rattle.krs_world.specs.declared.view.View.{View}
-use Rattle.krs_world.specs.History.{StandsFor, IsSeated, IsDealing}
+use mathlib.Core.{Logic.dite, Option.{some, some-injective}}
+use native.Mathlib.Decide.{ℕ_discrete}
+use Rattle.krs_world.specs.History.{IsDealing, IsSeated, StandsFor}
+use Rattle.krs_world.specs.declared.view.{Standing.{Standing, TheVariants.Opening}, View.View}
 use Rattle.krs_world.proofs.Lanes.{set_at, set_else, snoc_at}
 
 -- what holds of what the view at a place stands for holds after a step that keeps it

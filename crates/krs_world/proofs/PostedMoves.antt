@@ -1,38 +1,22 @@
 -- What the steps of posted calls come to on the machine as it is kept.
-use Rattle.std.proofs.Common.{◌≡◌, ◌≢◌, ℕ, ◌+◌, ◌<◌, ◌≤◌, false, List, [], ◌∷◌, ◌++◌}
-use Rattle.std.proofs.Common.{length, zero, suc}
-use Rattle.std.proofs.Common.{take, set, Option, Some, None, Result, refl, sym, ap, ◌∙◌, subst, ◌⊎◌}
-use Rattle.std.proofs.Common.{⊎_elim, arith, length-append}
-use Rattle.std.proofs.lemmas.List.{length-take-le}
-use mathlib.Core.Option.{some, some-injective, some-ne-none}
+use Rattle.std.proofs.Common.{[], ⊎_elim, ◌++◌, ◌+◌, ◌<◌, ◌∙◌, ◌∷◌, ◌≡◌, ◌≢◌, ◌≤◌, ◌⊎◌, ap, arith, false, length}
+use Rattle.std.proofs.Common.{length-append, length-take-le, List, None, Option, refl, Result, set, Some, subst, suc}
+use Rattle.std.proofs.Common.{sym, take, zero, ℕ}
 use lib.ListN.{get_elem?}
-use Rattle.krs_types.specs.declared.ask.Ask.{Ask}
+use mathlib.Core.Option.{some, some-injective, some-ne-none}
+use Rattle.krs_types.specs.declared.{ask.Ask.Ask, errno.Errno.Errno, event.Event.Event}
+use Rattle.krs_model.specs.{History.event_of, Lists.Begins, State.{starting_at, State}}
+use Rattle.krs_world.specs.{History.Fits, Kept.{answered_cell, cell_by, IsKept, IsLane, IsSlotOf, known_by, lane_cell}}
+use Rattle.krs_world.specs.{Kept.{part_by, world_of}, Knowing.{collected, events_of, one, posted}}
+use Rattle.krs_world.specs.{World.{cell_of, IsReady, IsUnanswered, StepsAs, World}, declared.lane.Lane.Lane}
+use Rattle.krs_world.specs.declared.{lane.Slot.Slot, step.Kind.{Kind, TheVariants.{Collect, CollectFound, Post}}}
+use Rattle.krs_world.specs.declared.view.{Cell.Cell, Part.Part, Service.Service}
+use Rattle.krs_world.proofs.KeptHistory.{begins_further, begins_short, begins_take, each_at, history_kept, kept_history}
+use Rattle.krs_world.proofs.{KeptHistory.recells, Lanes.{events_prefix, own_event, prefix_both, set_else}}
+use Rattle.krs_world.proofs.{Moves.{after, seat_is, still}, Slots.slot_answered, Worlds.{cell_at, get_map}}
 use Rattle.krs_types.specs.declared.ask.Answer as answer
-use Rattle.krs_types.specs.declared.errno.Errno.{Errno}
-use Rattle.krs_types.specs.declared.event.Event.{Event}
-use Rattle.krs_model.specs.Lists.{Begins}
-use Rattle.krs_model.specs.State.{State, starting_at}
-use Rattle.krs_model.specs.History.{event_of}
-use Rattle.krs_world.specs.declared.view.Cell.{Cell}
-use Rattle.krs_world.specs.declared.view.Cell.TheVariants as cells
-use Rattle.krs_world.specs.declared.view.Part.{Part}
-use Rattle.krs_world.specs.declared.view.Service.{Service}
-use Rattle.krs_world.specs.declared.step.Kind.{Kind}
-use Rattle.krs_world.specs.declared.step.Kind.TheVariants.{Post, Collect, CollectFound}
-use Rattle.krs_world.specs.declared.lane.Lane.{Lane}
-use Rattle.krs_world.specs.declared.lane.Slot.{Slot}
 use Rattle.krs_world.specs.declared.lane.Slot.TheVariants as slots
-use Rattle.krs_world.specs.Knowing.{events_of, one, posted, collected}
-use Rattle.krs_world.specs.History.{Fits}
-use Rattle.krs_world.specs.World.{World, cell_of, IsUnanswered, IsReady, StepsAs}
-use Rattle.krs_world.specs.Kept.{part_by, lane_cell, cell_by, known_by, world_of, IsSlotOf, IsLane}
-use Rattle.krs_world.specs.Kept.{answered_cell, IsKept}
-use Rattle.krs_world.proofs.Lanes.{prefix_both, events_prefix, own_event, set_else}
-use Rattle.krs_world.proofs.Worlds.{get_map, cell_at}
-use Rattle.krs_world.proofs.KeptHistory.{begins_take, begins_further, begins_short, each_at}
-use Rattle.krs_world.proofs.KeptHistory.{history_kept, kept_history, recells}
-use Rattle.krs_world.proofs.Slots.{slot_answered}
-use Rattle.krs_world.proofs.Moves.{after, still, seat_is}
+use Rattle.krs_world.specs.declared.view.Cell.TheVariants as cells
 
 take_next : {A : Type 0} (l : List A) (n : ℕ) (e : A) → get_elem? l n ≡ some e → take (suc n) l ≡ take n l ++ e ∷ []
 take_next [] n e is = absurd (some-ne-none e (sym is))

@@ -1,21 +1,14 @@
 -- A posted call stands behind all that its seat had seen as it was posted.
-use Rattle.std.proofs.Common.{◌≡◌, ℕ, List, ◌∷◌, ◌++◌, refl, sym, ap, ◌∙◌, subst, append_assoc}
-use mathlib.Core.Option.{some}
+use Rattle.std.proofs.Common.{◌++◌, ◌∙◌, ◌∷◌, ◌≡◌, ap, append_assoc, List, refl, subst, sym, ℕ}
 use lib.ListN.{get_elem?}
+use mathlib.Core.Option.{some}
 use Rattle.krs_types.specs.declared.event.Event.{Event}
-use Rattle.krs_model.specs.Lists.{Begins}
-use Rattle.krs_model.specs.History.{event_of}
-use Rattle.krs_world.specs.declared.view.Cell.TheVariants.{Answered}
-use Rattle.krs_world.specs.declared.view.Part.{Part}
-use Rattle.krs_world.specs.declared.step.Kind.TheVariants.{Collect}
-use Rattle.krs_world.specs.Knowing.{one, collected}
-use Rattle.krs_world.specs.History.{Fits, StandsAfter}
-use Rattle.krs_world.specs.World.{World, begun, IsOneHistory, cell_of}
-use Rattle.krs_world.specs.Order.{KeepsPostedOrder}
-use Rattle.krs_world.proofs.Keeping.{prefix_trans, set_at}
-use Rattle.krs_world.proofs.Worlds.{get_map, history_is, step_as, runs_keep, cell_at}
-use Rattle.krs_world.proofs.Beginning.{begins_world}
-use Rattle.krs_world.proofs.Orders.{log_grows, runs_grow}
+use Rattle.krs_model.specs.{History.event_of, Lists.Begins}
+use Rattle.krs_world.specs.{History.{Fits, StandsAfter}, Knowing.{collected, one}, Order.KeepsPostedOrder}
+use Rattle.krs_world.specs.World.{begun, cell_of, IsOneHistory, World}
+use Rattle.krs_world.specs.declared.{step.Kind.TheVariants.Collect, view.{Cell.TheVariants.Answered, Part.Part}}
+use Rattle.krs_world.proofs.{Beginning.begins_world, Keeping.{prefix_trans, set_at}, Orders.{log_grows, runs_grow}}
+use Rattle.krs_world.proofs.Worlds.{cell_at, get_map, history_is, runs_keep, step_as}
 
 -- what stands behind a list goes on to stand behind it where the history grows
 stands_on : (had : List Event) (e : Event) (log later : List Event)

@@ -1,28 +1,18 @@
 -- A call that is posted, and a reply that is collected, keep the one history.
-use Rattle.std.proofs.Common.{◌≡◌, ℕ, ◌<◌, List, set, Option, None, refl, sym, ap, ◌∙◌}
-use Rattle.std.proofs.Common.{[], ◌∷◌, ◌++◌, subst, arith, Result}
-use mathlib.Core.Option.{some}
-use mathlib.Core.Logic.{dite}
-use native.Mathlib.Decide.{ℕ_discrete}
+use Rattle.std.proofs.Common.{[], ◌++◌, ◌<◌, ◌∙◌, ◌∷◌, ◌≡◌, ap, arith, List, None, Option, refl, Result, set, subst}
+use Rattle.std.proofs.Common.{sym, ℕ}
 use lib.ListN.{get_elem?}
-use Rattle.krs_types.specs.declared.ask.Ask.{Ask}
-use Rattle.krs_types.specs.declared.ask.Answer.{Answer}
-use Rattle.krs_types.specs.declared.errno.Errno.{Errno}
-use Rattle.krs_types.specs.declared.event.Event.{Event}
-use Rattle.krs_model.specs.Lists.{Begins}
-use Rattle.krs_model.specs.History.{event_of}
-use Rattle.krs_model.specs.State.{State}
-use Rattle.krs_world.specs.declared.view.Cell.{Cell}
-use Rattle.krs_world.specs.declared.view.Cell.TheVariants.{Empty, Posted, Serving, Answered}
-use Rattle.krs_world.specs.declared.view.Part.{Part}
-use Rattle.krs_world.specs.declared.view.Standing.TheVariants.{One}
-use Rattle.krs_world.specs.declared.view.View.{View}
-use Rattle.krs_world.specs.Knowing.{events_of, one, posted, collected, celled}
-use Rattle.krs_world.specs.History.{Shared, Fits, Stands, OneHistory}
-use Rattle.krs_world.proofs.Lanes.{held_set, seen_set, each_set, shares, others_stand, celled_here, celled_else}
-use Rattle.krs_world.proofs.Lanes.{empty_if_idle, idle_mine, prefix_both}
-use Rattle.krs_world.proofs.Places.{dealing_set}
-use Rattle.krs_world.proofs.Keeping.{own, views_open, seats_stay}
+use mathlib.Core.{Logic.dite, Option.some}
+use native.Mathlib.Decide.{ℕ_discrete}
+use Rattle.krs_types.specs.declared.{ask.{Answer.Answer, Ask.Ask}, errno.Errno.Errno, event.Event.Event}
+use Rattle.krs_model.specs.{History.event_of, Lists.Begins, State.State}
+use Rattle.krs_world.specs.History.{Fits, OneHistory, Shared, Stands}
+use Rattle.krs_world.specs.Knowing.{celled, collected, events_of, one, posted}
+use Rattle.krs_world.specs.declared.view.Cell.{Cell, TheVariants.{Answered, Empty, Posted, Serving}}
+use Rattle.krs_world.specs.declared.view.{Part.Part, Standing.TheVariants.One, View.View}
+use Rattle.krs_world.proofs.Keeping.{own, seats_stay, views_open}
+use Rattle.krs_world.proofs.Lanes.{celled_else, celled_here, each_set, empty_if_idle, held_set, idle_mine, others_stand}
+use Rattle.krs_world.proofs.{Lanes.{prefix_both, seen_set, shares}, Places.dealing_set}
 
 -- an idle lane's seat writes its call into its empty cell; the history is as before
 pub posts : (a : State) (views : List View) (id : ℕ) (p : Part) → get_elem? views id ≡ some (one a p)

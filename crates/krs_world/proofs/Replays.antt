@@ -1,26 +1,13 @@
 -- A list of events leads to one store, or can't have happened.
-use Rattle.std.proofs.Common.{◌≡◌, ℕ, ◌+◌, ◌<◌, List, [], ◌∷◌, ◌++◌, length, take, drop, get_or, Result, Ok, Err}
-use Rattle.std.proofs.Common.{refl, sym}
-use Rattle.std.proofs.Common.{ap, ◌∙◌, subst, suc, Bool, ⊎_elim, true, false}
-use Rattle.std.specs.Prelude.{◌≢◌, IsErr}
-use Rattle.std.proofs.lemmas.List.{take-append-drop}
+use Rattle.std.proofs.Common.{[], ⊎_elim, ◌++◌, ◌+◌, ◌<◌, ◌∙◌, ◌∷◌, ◌≡◌, ◌≢◌, ap, Bool, drop, Err, false, get_or, IsErr}
+use Rattle.std.proofs.Common.{length, List, Ok, refl, Result, subst, suc, sym, take, take-append-drop, true, ℕ}
 use Rattle.std.proofs.Math.Seq.{drop-cons}
-use Rattle.krs_types.specs.declared.errno.Errno.{Errno}
-use Rattle.krs_types.specs.declared.errno.Errno.TheVariants.{ENOMEM}
-use Rattle.krs_types.specs.declared.ask.Answer.{Answer}
-use Rattle.krs_types.specs.declared.ask.Ask.{Ask}
-use Rattle.krs_types.specs.declared.ask.Op.{Op}
-use Rattle.krs_types.specs.declared.ask.Op.TheVariants.{OpenQueue}
-use Rattle.krs_types.specs.declared.event.Event.{Event}
-use Rattle.krs_types.specs.Growth.{grows}
-use Rattle.krs_model.specs.State.{State, raised}
-use Rattle.krs_model.specs.Outcome.{Outcome}
-use Rattle.krs_model.specs.Asks.Watching.{open_queue, opened}
-use Rattle.krs_model.specs.Step.{Step, Ends, LacksMemory, outcome_of}
-use Rattle.krs_model.specs.History.{event_of}
-use Rattle.krs_model.proofs.History.Steps.{refusal_stays}
-use Rattle.krs_model.proofs.History.Determined.{one_step}
-use Rattle.krs_world.specs.Replay.{FoundNoMemory, Replayed, ReplaysTo, Replays}
+use Rattle.krs_types.specs.{Growth.grows, declared.ask.{Answer.Answer, Ask.Ask, Op.{Op, TheVariants.OpenQueue}}}
+use Rattle.krs_types.specs.declared.{errno.Errno.{Errno, TheVariants.ENOMEM}, event.Event.Event}
+use Rattle.krs_model.specs.{Asks.Watching.{open_queue, opened}, History.event_of, Outcome.Outcome}
+use Rattle.krs_model.specs.{State.{raised, State}, Step.{Ends, LacksMemory, outcome_of, Step}}
+use Rattle.krs_model.proofs.History.{Determined.one_step, Steps.refusal_stays}
+use Rattle.krs_world.specs.Replay.{FoundNoMemory, Replayed, Replays, ReplaysTo}
 
 -- what is true isn't false
 pub no_both : (b : Bool) → b ≡ true → b ≡ false → ⊥

@@ -1,22 +1,16 @@
 -- Dealing the seats, joining two and splitting them keeps the one history.
-use Rattle.std.proofs.Common.{◌≡◌, ℕ, zero, suc, ◌+◌, ◌<◌, List, []}
-use Rattle.std.proofs.Common.{◌∷◌, ◌++◌, length, set, Option, Some, None, refl, sym, ap, ◌∙◌, subst, inl, inr, ◌⊎◌}
-use Rattle.std.proofs.Common.{arith, length-set}
-use mathlib.Core.Option.{some, some-injective, some-ne-none}
+use Rattle.std.proofs.Common.{[], ◌++◌, ◌+◌, ◌<◌, ◌∙◌, ◌∷◌, ◌≡◌, ◌⊎◌, ap, arith, inl, inr, length, length-set, List}
+use Rattle.std.proofs.Common.{None, Option, refl, set, Some, subst, suc, sym, zero, ℕ}
 use lib.ListN.{get_elem?}
+use mathlib.Core.Option.{some, some-injective, some-ne-none}
 use Rattle.krs_model.specs.State.{State}
 use Rattle.krs_model.proofs.History.Legal.{legal_none}
-use Rattle.krs_world.specs.declared.view.Cell.{Cell}
-use Rattle.krs_world.specs.declared.view.Cell.TheVariants.{Empty}
-use Rattle.krs_world.specs.declared.view.Standing.TheVariants.{Spent, Opening}
-use Rattle.krs_world.specs.declared.view.View.{View}
-use Rattle.krs_world.specs.Knowing.{events_of, view, one, fresh}
-use Rattle.krs_world.specs.History.{Shared, Fits, Stands, OneHistory}
-use Rattle.krs_world.proofs.Keeping.{set_at}
-use Rattle.krs_world.proofs.Keeping.{snoc_at, snoc_end, seen_set, held_set, seen_snoc, held_snoc, each_set}
-use Rattle.krs_world.proofs.Keeping.{shares, others_stand}
-use Rattle.krs_world.proofs.Places.{seated_set, seated_snoc, dealing_set, dealing_snoc, seats_again, seated_here}
-use Rattle.krs_world.proofs.Places.{seated_else}
+use Rattle.krs_world.specs.History.{Fits, OneHistory, Shared, Stands}
+use Rattle.krs_world.specs.{Knowing.{events_of, fresh, one, view}, declared.view.Cell.Cell}
+use Rattle.krs_world.specs.declared.view.{Cell.TheVariants.Empty, Standing.TheVariants.{Opening, Spent}, View.View}
+use Rattle.krs_world.proofs.Keeping.{each_set, held_set, held_snoc, others_stand, seen_set, seen_snoc, set_at, shares}
+use Rattle.krs_world.proofs.{Keeping.{snoc_at, snoc_end}, Places.dealing_set}
+use Rattle.krs_world.proofs.Places.{dealing_snoc, seated_else, seated_here, seated_set, seated_snoc, seats_again}
 pub use Rattle.krs_world.proofs.Places.{seated}
 use Rattle.krs_world.proofs.Joining.{each_snoc}
 pub use Rattle.krs_world.proofs.Joining.{joins, looks, parts}

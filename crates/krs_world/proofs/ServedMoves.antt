@@ -1,33 +1,24 @@
 -- What the steps of a holder that serves posted calls come to on the machine as it is kept.
-use Rattle.std.proofs.Common.{◌≡◌, ◌≢◌, ℕ, ◌==◌, Bool, true, false, cond, List, [], ◌∷◌, ◌++◌, map}
-use Rattle.std.proofs.Common.{zero, suc}
-use Rattle.std.proofs.Common.{take, set, Option, Some, None, refl, sym, ap, ◌∙◌, subst, inl, inr, ◌⊎◌}
-use Rattle.std.proofs.Common.{⊎_elim, length-set}
-use Rattle.std.specs.Prelude.{Vec}
+use Rattle.std.proofs.Common.{[], ⊎_elim, ◌++◌, ◌==◌, ◌∙◌, ◌∷◌, ◌≡◌, ◌≢◌, ◌⊎◌, ap, Bool, cond, false, inl, inr}
+use Rattle.std.proofs.Common.{length-set, List, map, None, Option, refl, set, Some, subst, suc, sym, take, true, Vec}
+use Rattle.std.proofs.Common.{zero, ℕ}
 use Rattle.std.specs.declared.alloc.Global.{Global}
-use mathlib.Core.Option as maybe
-use mathlib.Core.Option.{some, some-injective}
 use lib.ListN.{get_elem?}
-use Rattle.krs_types.specs.declared.ask.Ask.{Ask}
-use Rattle.krs_types.specs.declared.event.Event.{Event}
-use Rattle.krs_model.specs.State.{State, starting_at}
-use Rattle.krs_world.specs.declared.view.Cell.TheVariants as cells
-use Rattle.krs_world.specs.declared.view.Part.{Part}
-use Rattle.krs_world.specs.declared.view.Service.{Service}
-use Rattle.krs_world.specs.declared.step.Kind.TheVariants.{Grab, LookAt}
-use Rattle.krs_world.specs.declared.lane.Lane.{Lane}
-use Rattle.krs_world.specs.declared.lane.Slot.{Slot}
+use mathlib.Core.Option.{some, some-injective}
+use Rattle.krs_types.specs.declared.{ask.Ask.Ask, event.Event.Event}
+use Rattle.krs_model.specs.State.{starting_at, State}
+use Rattle.krs_world.specs.Kept.{answered_cell, cell_by, flight_by, has_reply, IsKept, IsLane, IsSlotOf, known_by}
+use Rattle.krs_world.specs.Kept.{lane_cell, part_by, served_cell, turn_by, world_of}
+use Rattle.krs_world.specs.Knowing.{events_of, grabbed, looked_at, service}
+use Rattle.krs_world.specs.World.{is_answered, IsOneHistory, IsUnposted, recelled, reseated, StepsAs, World}
+use Rattle.krs_world.specs.declared.lane.{Lane.Lane, Slot.Slot}
+use Rattle.krs_world.specs.declared.{step.Kind.TheVariants.{Grab, LookAt}, view.{Part.Part, Service.Service}}
+use Rattle.krs_world.proofs.{KeptHistory.{cells_by, each_at, map_else, reseats, seats_by}, KeptLanes.held_true}
+use Rattle.krs_world.proofs.{Lanes.{at_set, set_at}, Moves.{after, holder, holding_is, still_served, unheld}}
+use Rattle.krs_world.proofs.{Slots.slot_posted, Worlds.{get_map, of_map}}
 use Rattle.krs_world.specs.declared.lane.Slot.TheVariants as slots
-use Rattle.krs_world.specs.Knowing.{events_of, service, grabbed, looked_at}
-use Rattle.krs_world.specs.World.{World, IsOneHistory, IsUnposted, is_answered, StepsAs, recelled, reseated}
-use Rattle.krs_world.specs.Kept.{part_by, lane_cell, cell_by, known_by, flight_by, turn_by, world_of, IsSlotOf, IsLane}
-use Rattle.krs_world.specs.Kept.{served_cell, answered_cell, has_reply, IsKept}
-use Rattle.krs_world.proofs.Lanes.{set_at, at_set}
-use Rattle.krs_world.proofs.Worlds.{get_map, of_map}
-use Rattle.krs_world.proofs.KeptHistory.{seats_by, cells_by, each_at, map_else, reseats}
-use Rattle.krs_world.proofs.Slots.{slot_posted}
-use Rattle.krs_world.proofs.KeptLanes.{held_true}
-use Rattle.krs_world.proofs.Moves.{after, still_served, holding_is, holder, unheld}
+use Rattle.krs_world.specs.declared.view.Cell.TheVariants as cells
+use mathlib.Core.Option as maybe
 
 pub set_same : {A : Type 0} (l : List A) (i : ℕ) (a : A) → get_elem? l i ≡ some a → set l i a ≡ l
 set_same [] i a e = refl

@@ -1,31 +1,20 @@
 -- The holder of the turn serves posted calls, and the one history stays: it takes up a call, answers it, and looks at
 -- the cells that are not posted.
-use Rattle.std.proofs.Common.{◌≡◌, ◌≢◌, ℕ, Bool, true, false, cond, List, [], ◌∷◌, ◌++◌, set, Option}
-use Rattle.std.proofs.Common.{Some, None, Result, refl, sym, ap, ◌∙◌, subst, inl, inr, ◌⊎◌, arith, ne_eqb}
-use mathlib.Core.Option.{some}
-use mathlib.Core.Logic.{dite}
-use native.Mathlib.Decide.{ℕ_discrete}
+use Rattle.std.proofs.Common.{[], ◌++◌, ◌∙◌, ◌∷◌, ◌≡◌, ◌≢◌, ◌⊎◌, ap, arith, Bool, cond, false, inl, inr, List, ne_eqb}
+use Rattle.std.proofs.Common.{None, Option, refl, Result, set, Some, subst, sym, true, ℕ}
 use lib.ListN.{get_elem?}
-use Rattle.krs_types.specs.declared.ask.Ask.{Ask}
-use Rattle.krs_types.specs.declared.ask.Answer.{Answer}
-use Rattle.krs_types.specs.declared.errno.Errno.{Errno}
-use Rattle.krs_types.specs.declared.event.Event.{Event}
-use Rattle.krs_model.specs.Lists.{Begins}
-use Rattle.krs_model.specs.History.{event_of, IsLegal}
-use Rattle.krs_model.specs.Step.{Step}
+use mathlib.Core.{Logic.dite, Option.some}
+use native.Mathlib.Decide.{ℕ_discrete}
+use Rattle.krs_types.specs.declared.{ask.{Answer.Answer, Ask.Ask}, errno.Errno.Errno, event.Event.Event}
+use Rattle.krs_model.specs.{History.{event_of, IsLegal}, Lists.Begins, State.State, Step.Step}
 use Rattle.krs_model.proofs.History.Legal.{legal_more}
-use Rattle.krs_model.specs.State.{State}
-use Rattle.krs_world.specs.declared.view.Cell.{Cell}
-use Rattle.krs_world.specs.declared.view.Cell.TheVariants.{Empty, Posted, Serving, Answered}
-use Rattle.krs_world.specs.declared.view.Part.{Part}
-use Rattle.krs_world.specs.declared.view.Service.{Service}
-use Rattle.krs_world.specs.declared.view.Standing.TheVariants.{One}
-use Rattle.krs_world.specs.declared.view.View.{View}
-use Rattle.krs_world.specs.Knowing.{events_of, one, service, grabbed, answered, looked_at, celled}
-use Rattle.krs_world.specs.History.{Shared, Fits, Stands, OneHistory}
-use Rattle.krs_world.proofs.Lanes.{held_set, each_set, shares, others_stand, celled_here, celled_else, set_at}
-use Rattle.krs_world.proofs.Lanes.{prefix_more, own_event, other_event, fits_more, fits_same}
-use Rattle.krs_world.proofs.Keeping.{own, views_open, seats_stay, stays}
+use Rattle.krs_world.specs.History.{Fits, OneHistory, Shared, Stands}
+use Rattle.krs_world.specs.Knowing.{answered, celled, events_of, grabbed, looked_at, one, service}
+use Rattle.krs_world.specs.declared.view.Cell.{Cell, TheVariants.{Answered, Empty, Posted, Serving}}
+use Rattle.krs_world.specs.declared.view.{Part.Part, Service.Service, Standing.TheVariants.One, View.View}
+use Rattle.krs_world.proofs.Keeping.{own, seats_stay, stays, views_open}
+use Rattle.krs_world.proofs.Lanes.{celled_else, celled_here, each_set, fits_more, fits_same, held_set, other_event}
+use Rattle.krs_world.proofs.Lanes.{others_stand, own_event, prefix_more, set_at, shares}
 
 module _ (a : State) (views : List View) (id : ℕ) (p : Part) (at : get_elem? views id ≡ some (one a p)) where
   -- the holder takes up a posted call

@@ -1,23 +1,17 @@
 -- What is kept of a lane's cell: what the cell is, and what it comes to where the list of all calls grows.
-use Rattle.std.proofs.Common.{◌≡◌, ◌≢◌, ℕ, ◌<◌, Bool, true, false, cond, List, [], ◌∷◌, ◌++◌, length}
-use Rattle.std.proofs.Common.{Option, Some, None, Result, refl, sym, ap, ◌∙◌, zero, suc, arith}
-use Rattle.std.proofs.lemmas.List.{take-append-le}
-use Rattle.std.proofs.Math.Seq.{take-length}
-use mathlib.Core.Option as maybe
-use mathlib.Core.Option.{some, some-injective, some-ne-none}
+use Rattle.std.proofs.Common.{[], ◌++◌, ◌<◌, ◌∙◌, ◌∷◌, ◌≡◌, ◌≢◌, ap, arith, Bool, cond, false, length, List, None}
+use Rattle.std.proofs.Common.{Option, refl, Result, Some, suc, sym, true, zero, ℕ}
+use Rattle.std.proofs.{Math.Seq.take-length, lemmas.List.take-append-le}
 use lib.ListN.{get_elem?}
-use Rattle.krs_types.specs.declared.ask.Ask.{Ask}
-use Rattle.krs_types.specs.declared.ask.Answer.{Answer}
-use Rattle.krs_types.specs.declared.errno.Errno.{Errno}
-use Rattle.krs_types.specs.declared.event.Event.{Event}
-use Rattle.krs_world.specs.declared.view.Cell.{Cell}
-use Rattle.krs_world.specs.declared.view.Cell.TheVariants as cells
-use Rattle.krs_world.specs.declared.view.Service.{Service}
-use Rattle.krs_world.specs.declared.lane.Slot.{Slot}
-use Rattle.krs_world.specs.declared.lane.Slot.TheVariants as slots
+use mathlib.Core.Option.{some, some-ne-none}
+use Rattle.krs_types.specs.declared.{ask.{Answer.Answer, Ask.Ask}, errno.Errno.Errno, event.Event.Event}
 use Rattle.krs_world.specs.History.{events_of}
-use Rattle.krs_world.specs.Kept.{served_cell, answered_cell, cell_by, flight_by, known_by, IsSlotOf}
+use Rattle.krs_world.specs.Kept.{answered_cell, cell_by, flight_by, IsSlotOf, known_by, served_cell}
+use Rattle.krs_world.specs.declared.{lane.Slot.Slot, view.{Cell.Cell, Service.Service}}
 use Rattle.krs_world.proofs.Lanes.{other_event, snoc_at, snoc_end}
+use Rattle.krs_world.specs.declared.lane.Slot.TheVariants as slots
+use Rattle.krs_world.specs.declared.view.Cell.TheVariants as cells
+use mathlib.Core.Option as maybe
 
 pub cond_none : {A : Type 0} (b : Bool) (v : Option A) → v ≡ None → cond b v None ≡ None
 cond_none true v e = e

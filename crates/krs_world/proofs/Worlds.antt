@@ -1,38 +1,27 @@
 -- Each step of the machine keeps the one history.
-use Rattle.std.proofs.Common.{inl, inr, ◌≡◌, ◌≢◌, ℕ, zero, suc, List, [], ◌∷◌, ◌++◌, map, set}
-use Rattle.std.proofs.Common.{Option, Some, None, refl, sym, ap, ◌∙◌, subst, ⊎_elim, arith, eq-eqb, ne_eqb, cond}
-use Rattle.std.proofs.Common.{◌==◌, Bool, true, false, Result}
-use mathlib.Core.Option.{some, some-injective, some-ne-none}
-use Rattle.krs_model.specs.Lists.{Begins}
-use mathlib.Core.Logic.{dite}
-use native.Mathlib.Decide.{ℕ_discrete}
+use Rattle.std.proofs.Common.{[], ⊎_elim, ◌++◌, ◌==◌, ◌∙◌, ◌∷◌, ◌≡◌, ◌≢◌, ap, arith, Bool, cond, eq-eqb, false, inl}
+use Rattle.std.proofs.Common.{inr, List, map, ne_eqb, None, Option, refl, Result, set, Some, subst, suc, sym, true}
+use Rattle.std.proofs.Common.{zero, ℕ}
 use lib.ListN.{get_elem?}
-use Rattle.krs_types.specs.declared.ask.Ask.{Ask}
+use mathlib.Core.{Logic.dite, Option.{some, some-injective, some-ne-none}}
+use native.Mathlib.Decide.{ℕ_discrete}
+use Rattle.krs_types.specs.declared.{ask.Ask.Ask, errno.Errno.Errno, event.Event.Event}
+use Rattle.krs_model.specs.{History.event_of, Lists.Begins, State.State}
+use Rattle.krs_world.specs.History.{Fits, HasSeen, OneHistory}
+use Rattle.krs_world.specs.Knowing.{answered, celled, collected, events_of, grabbed, kept, loaded, looked_at, missed}
+use Rattle.krs_world.specs.{Knowing.{one, posted, put_none, put_own, taken}, World.at_home}
+use Rattle.krs_world.specs.World.{cell_of, event_by, Free, is_answered, IsHistory, IsHistoryBy, IsLongest, IsOneHistory}
+use Rattle.krs_world.specs.World.{Out, recelled, reseated, Runs, Steps, StepsAs, Turn, turn_word, views_of, World}
+use Rattle.krs_world.specs.declared.step.Kind.{Kind, TheVariants.{Answer, Collect, CollectFound, Grab, Load, LookAt}}
+use Rattle.krs_world.specs.declared.step.Kind.TheVariants.{Post, Put, Serve, Take, TakeFound}
+use Rattle.krs_world.specs.declared.{step.WorldStep.WorldStep, view.{Cell.Cell, Part.Part, Service.Service, View.View}}
+use Rattle.krs_world.proofs.Keeping.{at_set, prefix_both, set_at, set_else}
+use Rattle.krs_world.proofs.Lanes.{celled_else, celled_here, prefix_self}
 use Rattle.krs_types.specs.declared.ask.Answer as answer
-use Rattle.krs_types.specs.declared.errno.Errno.{Errno}
-use Rattle.krs_types.specs.declared.event.Event.{Event}
-use Rattle.krs_model.specs.State.{State}
-use Rattle.krs_model.specs.History.{event_of}
-use Rattle.krs_world.specs.declared.view.Cell.{Cell}
-use Rattle.krs_world.specs.declared.view.Cell.TheVariants as cells
-use Rattle.krs_world.specs.declared.view.Part.{Part}
-use Rattle.krs_world.specs.declared.view.Service.{Service}
-use Rattle.krs_world.specs.declared.view.View.{View}
-use Rattle.krs_world.specs.declared.step.Kind.{Kind}
-use Rattle.krs_world.specs.declared.step.Kind.TheVariants.{Take, TakeFound, Put, Load, Post, Grab, Answer, Collect}
-use Rattle.krs_world.specs.declared.step.Kind.TheVariants.{CollectFound, LookAt, Serve}
-use Rattle.krs_world.specs.declared.step.WorldStep.{WorldStep}
-use Rattle.krs_world.specs.Knowing.{events_of, one, taken, missed, put_own, put_none, loaded, posted, grabbed, answered}
-use Rattle.krs_world.specs.Knowing.{collected, looked_at, celled, kept}
-use Rattle.krs_world.specs.History.{Fits, OneHistory, HasSeen}
-use Rattle.krs_world.specs.World.{Turn, Free, Out, World, IsLongest, IsHistoryBy, reseated, recelled, StepsAs, Steps, Runs}
-use Rattle.krs_world.specs.World.{is_answered, event_by}
-use Rattle.krs_world.specs.World.{turn_word, at_home, cell_of, views_of, IsHistory, IsOneHistory}
-use Rattle.krs_world.proofs.Keeping.{prefix_both, at_set, set_at, set_else}
-use Rattle.krs_world.proofs.Lanes.{celled_here, celled_else, prefix_self}
 use Rattle.krs_world.proofs.Keeping as law
 use Rattle.krs_world.proofs.Posting as posting
 use Rattle.krs_world.proofs.Serving as serving
+use Rattle.krs_world.specs.declared.view.Cell.TheVariants as cells
 
 map_set : {A B : Type 0} (f : A → B) (xs : List A) (i : ℕ) (x : A) → map f (set xs i x) ≡ set (map f xs) i (f x)
 map_set f [] i x = refl

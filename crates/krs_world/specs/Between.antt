@@ -1,22 +1,12 @@
 -- Real-time order between clients that never met: of two moments, what a call stands behind at the second that wasn't
 -- asked yet at the first. Herlihy and Wing, "Linearizability" (1990).
-use Rattle.std.specs.Prelude.{◌≡◌, ℕ, List, ◌∷◌, ◌++◌, Option, None, Result}
-use mathlib.Core.Option.{some}
+use Rattle.std.specs.Prelude.{◌++◌, ◌∷◌, ◌≡◌, List, None, Option, Result, ℕ}
 use lib.ListN.{get_elem?}
-use Rattle.krs_types.specs.declared.ask.Ask.{Ask}
-use Rattle.krs_types.specs.declared.ask.Answer.{Answer}
-use Rattle.krs_types.specs.declared.errno.Errno.{Errno}
-use Rattle.krs_types.specs.declared.event.Event.{Event}
-use Rattle.krs_model.specs.State.{State}
-use Rattle.krs_model.specs.Lists.{Begins}
-use Rattle.krs_model.specs.History.{event_of}
-use Rattle.krs_world.specs.declared.view.Cell.{Cell}
-use Rattle.krs_world.specs.declared.view.Cell.TheVariants.{Answered}
-use Rattle.krs_world.specs.declared.view.Part.{Part}
-use Rattle.krs_world.specs.declared.view.View.{View}
-use Rattle.krs_world.specs.Knowing.{one}
-use Rattle.krs_world.specs.History.{OneHistory, HasSeen, events_of}
-use Rattle.krs_world.specs.World.{IsUnanswered}
+use mathlib.Core.Option.{some}
+use Rattle.krs_types.specs.declared.{ask.{Answer.Answer, Ask.Ask}, errno.Errno.Errno, event.Event.Event}
+use Rattle.krs_model.specs.{History.event_of, Lists.Begins, State.State}
+use Rattle.krs_world.specs.{History.{events_of, HasSeen, OneHistory}, Knowing.one, World.IsUnanswered}
+use Rattle.krs_world.specs.declared.view.{Cell.{Cell, TheVariants.Answered}, Part.Part, View.View}
 
 -- The event stands in the list behind all of `before`, and is the operation of this lane that comes next after these:
 -- so it is that one operation, and no other that looks like it.

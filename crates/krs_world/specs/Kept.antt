@@ -1,26 +1,16 @@
 -- How the machine is kept: one store, one list of all calls, the call that is being served, and for each lane a slot,
 -- and numbers and lengths of that list.
-use Rattle.std.specs.Prelude.{◌≡◌, ℕ, ◌≤◌, true, false, Bool, cond, List, [], ◌∷◌, ◌++◌, Option, Some, None, Result, map, length, take}
-use mathlib.Core.Option as maybe
-use mathlib.Core.Option.{some}
+use Rattle.std.specs.Prelude.{[], ◌++◌, ◌∷◌, ◌≡◌, ◌≤◌, Bool, cond, false, length, List, map, None, Option, Result, Some}
+use Rattle.std.specs.Prelude.{take, true, ℕ}
 use lib.ListN.{get_elem?}
-use Rattle.krs_types.specs.declared.ask.Ask.{Ask}
-use Rattle.krs_types.specs.declared.ask.Answer.{Answer}
-use Rattle.krs_types.specs.declared.errno.Errno.{Errno}
-use Rattle.krs_types.specs.declared.event.Event.{Event}
-use Rattle.krs_model.specs.State.{State, starting_at}
-use Rattle.krs_model.specs.Step.{Step}
-use Rattle.krs_model.specs.History.{IsLegal, event_of}
-use Rattle.krs_world.specs.declared.view.Cell.{Cell}
+use mathlib.Core.Option.{some}
+use Rattle.krs_types.specs.declared.{ask.{Answer.Answer, Ask.Ask}, errno.Errno.Errno, event.Event.Event}
+use Rattle.krs_model.specs.{History.{event_of, IsLegal}, State.{starting_at, State}, Step.Step}
+use Rattle.krs_world.specs.{History.{events_of, flight}, World.{Free, IsOneHistory, Out, Turn, World}}
+use Rattle.krs_world.specs.declared.lane.{Lane.Lane, Slot.{Slot, TheVariants.{Answered, Empty, Posted, Serving}}}
+use Rattle.krs_world.specs.declared.view.{Cell.Cell, Flight.Flight, Part.Part, Service.Service}
 use Rattle.krs_world.specs.declared.view.Cell.TheVariants as cells
-use Rattle.krs_world.specs.declared.view.Flight.{Flight}
-use Rattle.krs_world.specs.declared.view.Part.{Part}
-use Rattle.krs_world.specs.declared.view.Service.{Service}
-use Rattle.krs_world.specs.declared.lane.Lane.{Lane}
-use Rattle.krs_world.specs.declared.lane.Slot.{Slot}
-use Rattle.krs_world.specs.declared.lane.Slot.TheVariants.{Empty, Posted, Serving, Answered}
-use Rattle.krs_world.specs.History.{events_of, flight}
-use Rattle.krs_world.specs.World.{Turn, Free, Out, World, IsOneHistory}
+use mathlib.Core.Option as maybe
 
 -- the cell of a call that is served, and of one that stands in the list
 abbrev pub served_cell : Option Service → Cell

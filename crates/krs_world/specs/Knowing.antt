@@ -1,13 +1,8 @@
 -- What a seat knows, and how each kind of step changes it. The form is this project's own.
-use Rattle.std.specs.Prelude.{ℕ, ◌+◌, ◌==◌, Bool, true, false, cond, List, [], ◌∷◌, ◌++◌, Some, None}
-use Rattle.krs_types.specs.declared.ask.Ask.{Ask}
-use Rattle.krs_types.specs.declared.event.Event.{Event}
+use Rattle.std.specs.Prelude.{[], ◌++◌, ◌+◌, ◌==◌, ◌∷◌, Bool, cond, false, List, None, Some, true, ℕ}
+use Rattle.krs_types.specs.declared.{ask.Ask.Ask, event.Event.Event}
 use Rattle.krs_model.specs.State.{State}
-use Rattle.krs_world.specs.declared.view.Cell.{Cell}
-use Rattle.krs_world.specs.declared.view.Part.{Part}
-use Rattle.krs_world.specs.declared.view.Standing.{Standing}
-use Rattle.krs_world.specs.declared.view.Standing.TheVariants.{One}
-use Rattle.krs_world.specs.declared.view.View.{View}
+use Rattle.krs_world.specs.declared.view.{Cell.Cell, Part.Part, Standing.{Standing, TheVariants.One}, View.View}
 pub use Rattle.krs_world.specs.History.{events_of, service, flight}
 
 -- what a seat knows, by the opening state and the lanes that it stands for

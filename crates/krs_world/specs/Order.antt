@@ -1,21 +1,13 @@
 -- What follows for those who call: the history only grows, seats see one order, and a call stands behind all that its
 -- own seat had seen, which is session order. Real-time order, of clients that never met, is in specs/Between.antt.
 -- Herlihy and Wing, "Linearizability" (1990).
-use Rattle.std.specs.Prelude.{◌≡◌, ◌⊎◌, ℕ, List, [], ◌∷◌, ◌++◌, Some, Result}
-use mathlib.Core.Option.{some}
+use Rattle.std.specs.Prelude.{[], ◌++◌, ◌∷◌, ◌≡◌, ◌⊎◌, List, Result, Some, ℕ}
 use lib.ListN.{get_elem?}
-use Rattle.krs_types.specs.declared.ask.Ask.{Ask}
-use Rattle.krs_types.specs.declared.ask.Answer.{Answer}
-use Rattle.krs_types.specs.declared.errno.Errno.{Errno}
-use Rattle.krs_types.specs.declared.event.Event.{Event}
-use Rattle.krs_model.specs.State.{State}
-use Rattle.krs_model.specs.Lists.{Begins}
-use Rattle.krs_model.specs.History.{event_of}
-use Rattle.krs_world.specs.declared.view.Part.{Part}
-use Rattle.krs_world.specs.declared.step.Kind.TheVariants.{Put, Serve, Collect}
-use Rattle.krs_world.specs.declared.step.WorldStep.{WorldStep}
-use Rattle.krs_world.specs.History.{StandsAfter, flight}
-use Rattle.krs_world.specs.World.{World, begun, Runs, StepsAs, IsHistory}
+use mathlib.Core.Option.{some}
+use Rattle.krs_types.specs.declared.{ask.{Answer.Answer, Ask.Ask}, errno.Errno.Errno, event.Event.Event}
+use Rattle.krs_model.specs.{History.event_of, Lists.Begins, State.State}
+use Rattle.krs_world.specs.{History.{flight, StandsAfter}, World.{begun, IsHistory, Runs, StepsAs, World}}
+use Rattle.krs_world.specs.declared.{step.{Kind.TheVariants.{Collect, Put, Serve}, WorldStep.WorldStep}, view.Part.Part}
 
 -- each seat is still there, and what it had seen begins what it has seen
 abbrev pub SeenGrows : World → World → Type 0

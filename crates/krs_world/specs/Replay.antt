@@ -1,10 +1,7 @@
 -- What a list of events must be to have happened to a new store.
-use Rattle.std.specs.Prelude.{◌≡◌, ◌⊎◌, true, false, Bool, List, [], ◌∷◌, Err}
-use Rattle.krs_types.specs.declared.errno.Errno.TheVariants.{ENOMEM}
-use Rattle.krs_types.specs.declared.event.Event.{Event}
-use Rattle.krs_types.specs.Growth.{grows}
-use Rattle.krs_model.specs.State.{State, raised}
-use Rattle.krs_model.specs.Step.{Step}
+use Rattle.std.specs.Prelude.{[], ◌∷◌, ◌≡◌, ◌⊎◌, Bool, Err, false, List, true}
+use Rattle.krs_types.specs.{Growth.grows, declared.{errno.Errno.TheVariants.ENOMEM, event.Event.Event}}
+use Rattle.krs_model.specs.{State.{raised, State}, Step.Step}
 
 -- an ask that may find no memory, answered with ENOMEM
 abbrev pub FoundNoMemory : Event → Type 0

@@ -1,30 +1,17 @@
 -- The machine of many seats, its steps, and the one history that it has. The form is this project's own.
-use Rattle.std.specs.Prelude.{◌≡◌, ◌≢◌, ◌≤◌, ◌⊎◌, ℕ, zero, suc, ◌+◌, Bool, true, false, List, [], ◌∷◌, Option, Some}
-use Rattle.std.specs.Prelude.{None}
-use Rattle.std.specs.Prelude.{Result, map, length, slice_index_or, slice_set, ◌++◌, ◌==◌, cond}
-use mathlib.Core.Option.{some}
+use Rattle.std.specs.Prelude.{[], ◌++◌, ◌+◌, ◌==◌, ◌∷◌, ◌≡◌, ◌≢◌, ◌≤◌, ◌⊎◌, Bool, cond, false, length, List, map, None}
+use Rattle.std.specs.Prelude.{Option, Result, slice_index_or, slice_set, Some, suc, true, zero, ℕ}
 use lib.ListN.{get_elem?}
-use Rattle.krs_types.specs.declared.ask.Ask.{Ask}
+use mathlib.Core.Option.{some}
+use Rattle.krs_types.specs.declared.{ask.Ask.Ask, errno.Errno.{Errno, TheVariants.{ENOMEM, ENOSPC}}, event.Event.Event}
+use Rattle.krs_model.specs.{History.{event_of, IsLegal}, Lists.Begins, State.{starting_at, State}, Step.Step}
+use Rattle.krs_world.specs.{History.OneHistory, Knowing.{answered, collected, events_of, fresh, grabbed, kept, loaded}}
+use Rattle.krs_world.specs.Knowing.{looked_at, missed, one, posted, put_none, put_own, taken}
+use Rattle.krs_world.specs.declared.step.Kind.{Kind, TheVariants.{Answer, Collect, CollectFound, Grab, Load, LookAt}}
+use Rattle.krs_world.specs.declared.step.{Kind.TheVariants.{Post, Put, Serve, Take, TakeFound}, WorldStep.WorldStep}
+use Rattle.krs_world.specs.declared.view.Cell.{Cell, TheVariants.{Answered, Empty, Posted, Serving}}
+use Rattle.krs_world.specs.declared.view.{Part.Part, Service.Service, View.View}
 use Rattle.krs_types.specs.declared.ask.Answer as answer
-use Rattle.krs_types.specs.declared.errno.Errno.{Errno}
-use Rattle.krs_types.specs.declared.errno.Errno.TheVariants.{ENOMEM, ENOSPC}
-use Rattle.krs_types.specs.declared.event.Event.{Event}
-use Rattle.krs_model.specs.State.{State, starting_at}
-use Rattle.krs_model.specs.Lists.{Begins}
-use Rattle.krs_model.specs.Step.{Step}
-use Rattle.krs_model.specs.History.{event_of, IsLegal}
-use Rattle.krs_world.specs.declared.view.Cell.{Cell}
-use Rattle.krs_world.specs.declared.view.Cell.TheVariants.{Empty, Posted, Serving, Answered}
-use Rattle.krs_world.specs.declared.view.Part.{Part}
-use Rattle.krs_world.specs.declared.view.Service.{Service}
-use Rattle.krs_world.specs.declared.view.View.{View}
-use Rattle.krs_world.specs.declared.step.Kind.{Kind}
-use Rattle.krs_world.specs.declared.step.Kind.TheVariants.{Take, TakeFound, Put, Load, Post, Grab, Answer, Collect}
-use Rattle.krs_world.specs.declared.step.Kind.TheVariants.{CollectFound, LookAt, Serve}
-use Rattle.krs_world.specs.declared.step.WorldStep.{WorldStep}
-use Rattle.krs_world.specs.Knowing.{one, fresh, taken, missed, put_own, put_none, loaded, posted, grabbed, answered}
-use Rattle.krs_world.specs.Knowing.{collected, looked_at, events_of, kept}
-use Rattle.krs_world.specs.History.{OneHistory}
 
 -- the turn is free, with the store's state at home, or out at a lane
 pub data Turn : Type 0 where

@@ -1,5 +1,5 @@
 //! What the machine keeps of a lane.
-ghost use Rattle.std.specs.Prelude.{◌≡◌, true, false, cond};
+ghost use Rattle.std.specs.Prelude.{◌≡◌, cond, false, true};
 ghost use Rattle.krs_world.specs.Kept.{IsIdle};
 
 use krs_types::Ask;

@@ -1,7 +1,7 @@
 //! The laws of the machine.
+ghost use Rattle.krs_world.specs.Between.{KeepsCollectedBetween, KeepsPostedBetween, KeepsRealTimeBetween};
+ghost use Rattle.krs_world.specs.Order.{KeepsPostedOrder, KeepsServedOrder, KeepsSessionOrder, OnlyGrows, SeesOneOrder};
 ghost use Rattle.krs_world.specs.World.{StaysOne};
-ghost use Rattle.krs_world.specs.Order.{OnlyGrows, SeesOneOrder, KeepsSessionOrder, KeepsServedOrder, KeepsPostedOrder};
-ghost use Rattle.krs_world.specs.Between.{KeepsRealTimeBetween, KeepsPostedBetween, KeepsCollectedBetween};
 
 /// However many seats there are, and whatever steps they make in whatever order, there is one history of all calls.
 pub fn there_is_one_history()

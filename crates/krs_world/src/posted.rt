@@ -1,7 +1,7 @@
 //! The steps of posted calls: a seat leaves its call in its cell, and the holder of the turn answers it.
-ghost use Rattle.std.specs.Prelude.{IfOk, IfErr};
-ghost use Rattle.krs_world.specs.declared.step.Kind.TheVariants.{Post, Grab, Answer, Collect, CollectFound, LookAt};
+ghost use Rattle.std.specs.Prelude.{IfErr, IfOk};
 ghost use Rattle.krs_world.specs.World.{MovesBy, RefusedBy};
+ghost use Rattle.krs_world.specs.declared.step.Kind.TheVariants.{Answer, Collect, CollectFound, Grab, LookAt, Post};
 
 use crate::Service;
 use crate::lane::{Slot, is_done, is_idle};

@@ -1,5 +1,5 @@
 //! Whether a list of events may have happened to a new store. For tests of what many seats were answered.
-ghost use Rattle.std.specs.Prelude.{◌≡◌, ◌↔◌, IsTrue, IfOk, IfErr, Err};
+ghost use Rattle.std.specs.Prelude.{◌↔◌, ◌≡◌, Err, IfErr, IfOk, IsTrue};
 ghost use Rattle.krs_types.specs.declared.errno.Errno.TheVariants.{ENOMEM};
 ghost use Rattle.krs_model.specs.State.{raised, starting_at};
 ghost use Rattle.krs_world.specs.Replay.{FoundNoMemory, IsReplayedBy, Replays};

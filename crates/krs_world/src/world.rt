@@ -1,8 +1,7 @@
 //! The machine: it runs the steps, and a contract sees what every seat knows.
-ghost use Rattle.std.specs.Prelude.{◌≡◌, ◌<◌, ◌≤◌, Some, None, IfOk, IfErr, true, false, vec_len, vec_capacity};
-ghost use Rattle.krs_world.specs.Kept.{MayPut, Serves};
-ghost use Rattle.krs_world.specs.declared.step.Kind.TheVariants.{Take, TakeFound, Put, Serve, Load};
-ghost use Rattle.krs_world.specs.World.{new_world, MovesBy, RefusedBy};
+ghost use Rattle.std.specs.Prelude.{◌<◌, ◌≡◌, ◌≤◌, false, IfErr, IfOk, None, Some, true, vec_capacity, vec_len};
+ghost use Rattle.krs_world.specs.{Kept.{MayPut, Serves}, World.{MovesBy, new_world, RefusedBy}};
+ghost use Rattle.krs_world.specs.declared.step.Kind.TheVariants.{Load, Put, Serve, Take, TakeFound};
 
 use crate::lane::{Lane, Slot, is_idle};
 use crate::{Kind, Service, WorldStep};
@@ -23,8 +22,8 @@ pub struct World {
 }
 
 impl Model for World {
+    ghost use Rattle.krs_world.specs.Kept.{IsKept, world_of};
     ghost use Rattle.krs_world.specs.World as world;
-    ghost use Rattle.krs_world.specs.Kept.{world_of, IsKept};
 
     ghost Value = { world.World };
 

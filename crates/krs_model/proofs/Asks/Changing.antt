@@ -1,41 +1,24 @@
 -- What is proved of UPDATE, REVOKE, CHOWN, SET_PERM and SET_TIMEOUT.
-use Rattle.std.proofs.Common.{ℕ, ℤ, ◌==◌, ◌||◌, ◌∙◌, ◌∷◌, ◌≡◌, Err, List, None, Ok, Result, [], ap, arith, refl, sym}
-use Rattle.std.proofs.Common.{true}
-use Rattle.std.proofs.lemmas.Bool.Decides.{nat_tests}
-use Rattle.krs_types.specs.Kind.{paid}
-use Rattle.krs_types.specs.Perm.{perm_of}
-use Rattle.krs_types.specs.Refusing.{◌>>=◌}
-use Rattle.krs_types.specs.Rights.{SETATTR, WRITE}
+use Rattle.std.proofs.Common.{[], ◌==◌, ◌||◌, ◌∙◌, ◌∷◌, ◌≡◌, ap, arith, Err, List, None, Ok, refl, Result, sym, true, ℕ}
+use Rattle.std.proofs.{Common.ℤ, lemmas.Bool.Decides.nat_tests}
+use Rattle.krs_types.specs.{Kind.paid, Perm.perm_of, Refusing.◌>>=◌, Rights.{SETATTR, WRITE}}
 use Rattle.krs_types.specs.declared.ask.Answer.TheVariants.{Nothing}
 use Rattle.krs_types.specs.declared.ask.Op.TheVariants.{Chown, Revoke, SetPerm, SetTimeout, Update}
-use Rattle.krs_types.specs.declared.context.Context.{Context}
-use Rattle.krs_types.specs.declared.errno.Errno.{Errno}
-use Rattle.krs_types.specs.declared.errno.Errno.TheVariants.{EACCES}
-use Rattle.krs_types.specs.declared.kind.Kind.{Kind}
-use Rattle.krs_types.specs.declared.kind.Kind.TheVariants.{Keyring}
-use Rattle.krs_types.specs.declared.rights.Want.TheVariants.{Either, Granted}
-use Rattle.krs_model.specs.Asks.Changing.{changed, chown, emptied, expiry_after, if_may_own, if_owner, may_own}
-use Rattle.krs_model.specs.Asks.Changing.{revoke, revoked, set_perm, set_timeout, updatable, update, updated}
-use Rattle.krs_model.specs.Asks.Changing.{with_expiry, with_owner, with_perm}
-use Rattle.krs_model.specs.Hiding.{Hides, Hiding, blind, blind_content, blind_key, hidden_at, over}
-use Rattle.krs_model.specs.Lookup.{context_of, look_up}
-use Rattle.krs_model.specs.Notes.Telling.{named}
-use Rattle.krs_model.specs.Possession.{links_of_content}
-use Rattle.krs_model.specs.Search.{found}
-use Rattle.krs_model.specs.Sound.{is_links}
-use Rattle.krs_model.specs.State.{Content, Key, Links, Payload, State}
+use Rattle.krs_types.specs.declared.{context.Context.Context, errno.Errno.{Errno, TheVariants.EACCES}, kind.Kind.Kind}
+use Rattle.krs_types.specs.declared.{kind.Kind.TheVariants.Keyring, rights.Want.TheVariants.{Either, Granted}}
+use Rattle.krs_model.specs.Asks.Changing.{changed, chown, emptied, expiry_after, if_may_own, if_owner, may_own, revoke}
+use Rattle.krs_model.specs.Asks.Changing.{revoked, set_perm, set_timeout, updatable, update, updated, with_expiry}
+use Rattle.krs_model.specs.Asks.Changing.{with_owner, with_perm}
+use Rattle.krs_model.specs.Hiding.{blind, blind_content, blind_key, hidden_at, Hides, Hiding, over}
+use Rattle.krs_model.specs.{Lookup.{context_of, look_up}, Notes.Telling.named, Possession.links_of_content}
+use Rattle.krs_model.specs.{Search.found, Sound.is_links, State.{Content, Key, Links, Payload, State}}
 use Rattle.krs_model.proofs.Asks.Fares.{changed_fares}
-use Rattle.krs_model.proofs.Asks.Lawful.{IsLawful}
-use Rattle.krs_model.proofs.Asks.NotedKeys.{about_small}
-use Rattle.krs_model.proofs.Asks.Outcomes.{meets_after, meets_ok}
+use Rattle.krs_model.proofs.Asks.{Lawful.IsLawful, NotedKeys.about_small, Outcomes.{meets_after, meets_ok}}
 use Rattle.krs_model.proofs.Asks.Plain.{plain, plain_context, plain_look_up, plain_paid}
 use Rattle.krs_model.proofs.Hiding.Accepted.{blind_done, done_changed, found_in, named_is, paid_blind}
 use Rattle.krs_model.proofs.Hiding.Over.{after, bound, either}
-use Rattle.krs_model.proofs.Isolation.Guarded.{none_found}
-use Rattle.krs_model.proofs.Sound.Changes.{Lessens}
-use Rattle.krs_model.proofs.Sound.Contents.{form_stays}
-use Rattle.krs_model.proofs.Sound.KeyChanges.{leaves, updated_lessens}
-use Rattle.krs_model.proofs.Tables.Counts.{IsPart, none_part}
+use Rattle.krs_model.proofs.{Isolation.Guarded.none_found, Sound.{Changes.Lessens, Contents.form_stays}}
+use Rattle.krs_model.proofs.{Sound.KeyChanges.{leaves, updated_lessens}, Tables.Counts.{IsPart, none_part}}
 use Rattle.krs_types.specs.declared.note.KeyEvent.TheVariants as told_of
 
 emptied_part : (content : Content) → IsPart (links_of_content (emptied content)) (links_of_content content)

@@ -1,30 +1,18 @@
 -- What an accepted ask has done: an ask of keys leaves queues and watches, and the asks of queues leave the rest.
-use Rattle.std.proofs.Common.{◌≡◌, ℕ, ℤ, ◌≤◌, ◌==◌, List, [], ◌∷◌, Option, Some, None, Bool, true, false, cond}
-use Rattle.std.proofs.Common.{nat_le, length}
-use Rattle.std.proofs.Common.{Ok, Err, refl, ap, ◌∙◌, subst}
-use Rattle.std.specs.Option.{IsSome}
-use Rattle.krs_types.specs.declared.errno.Errno.TheVariants.{EBADF, EBADSLT, ENOBUFS}
-use Rattle.krs_types.specs.declared.note.FilterEntry.{FilterEntry}
-use Rattle.krs_types.specs.declared.note.Record.{Record}
-use Rattle.krs_types.specs.declared.ask.Answer.{Answer}
-use Rattle.krs_types.specs.declared.ask.Answer.TheVariants.{Nothing, Number, Bytes}
-use Rattle.krs_types.specs.declared.ask.Op.{Op}
-use Rattle.krs_types.specs.declared.ask.Op.TheVariants.{Watch, OpenQueue, SetFilter, ReadQueue}
-use Rattle.krs_types.specs.declared.ask.Op.TheVariants.{CloseQueue, Leave}
+use Rattle.std.proofs.Common.{[], ◌==◌, ◌∙◌, ◌∷◌, ◌≡◌, ◌≤◌, ap, Bool, cond, Err, false, IsSome, length, List, nat_le}
+use Rattle.std.proofs.Common.{None, Ok, Option, refl, Some, subst, true, ℕ, ℤ}
 use Rattle.krs_types.specs.Refusing.{◌>>=◌, or_refuse}
-use Rattle.krs_model.specs.Table.{Table, at, alter}
-use Rattle.krs_model.specs.State.{State, Queue}
-use Rattle.krs_model.specs.Queues.{Queues, queues_of, with_queues, if_own_queue, queue_of, watch_at, with_watch}
-use Rattle.krs_model.specs.Queues.{without_watch}
-use Rattle.krs_model.specs.Notes.Bytes.{bytes_of, bytes_of_all}
-use Rattle.krs_model.specs.Notes.Front.{front, readable}
-use Rattle.krs_model.specs.Notes.Telling.{named, ended_by}
-use Rattle.krs_model.specs.Notes.Waiting.{is_capacity}
+use Rattle.krs_types.specs.declared.ask.Answer.{Answer, TheVariants.{Bytes, Nothing, Number}}
+use Rattle.krs_types.specs.declared.ask.Op.{Op, TheVariants.{CloseQueue, Leave, OpenQueue, ReadQueue, SetFilter, Watch}}
+use Rattle.krs_types.specs.declared.errno.Errno.TheVariants.{EBADF, EBADSLT, ENOBUFS}
+use Rattle.krs_types.specs.declared.note.{FilterEntry.FilterEntry, Record.Record}
 use Rattle.krs_model.specs.Asks.Leaving.{left}
-use Rattle.krs_model.specs.Asks.Watching.{with_queue, with_filter, after_read}
-use Rattle.krs_model.specs.Asks.Watching.{without_queue, unwatched, watch_id_of}
-use Rattle.krs_model.proofs.Lookups.Serials.{refused_is}
-use Rattle.krs_model.proofs.Asks.Later.{Comes, bind_ok, same_ok}
+use Rattle.krs_model.specs.Asks.Watching.{after_read, unwatched, watch_id_of, with_filter, with_queue, without_queue}
+use Rattle.krs_model.specs.Notes.Bytes.{bytes_of, bytes_of_all}
+use Rattle.krs_model.specs.Notes.{Front.{front, readable}, Telling.{ended_by, named}, Waiting.is_capacity}
+use Rattle.krs_model.specs.Queues.{if_own_queue, queue_of, Queues, queues_of, watch_at, with_queues, with_watch}
+use Rattle.krs_model.specs.{Queues.without_watch, State.{Queue, State}, Table.{alter, at, Table}}
+use Rattle.krs_model.proofs.{Asks.Later.{bind_ok, Comes, same_ok}, Lookups.Serials.refused_is}
 
 -- the queues with these in their place
 abbrev pub with_table : State → Table Queue → State

@@ -1,12 +1,8 @@
 -- What an accepted ask has done.
-use Rattle.std.proofs.Common.{◌≡◌, ℕ, Ok, refl}
-use Rattle.krs_types.specs.declared.ask.Answer.{Answer}
-use Rattle.krs_types.specs.declared.ask.Answer.TheVariants.{Nothing}
-use Rattle.krs_types.specs.declared.ask.Op.{Op}
-use Rattle.krs_types.specs.declared.ask.Op.TheVariants.{Watch, OpenQueue, SetFilter, ReadQueue, CloseQueue, Leave}
-use Rattle.krs_model.specs.State.{State}
-use Rattle.krs_model.specs.Step.{outcome_of}
-use Rattle.krs_model.specs.Asks.Leaving.{left}
+use Rattle.std.proofs.Common.{◌≡◌, Ok, refl, ℕ}
+use Rattle.krs_types.specs.declared.ask.Answer.{Answer, TheVariants.Nothing}
+use Rattle.krs_types.specs.declared.ask.Op.{Op, TheVariants.{CloseQueue, Leave, OpenQueue, ReadQueue, SetFilter, Watch}}
+use Rattle.krs_model.specs.{Asks.Leaving.left, State.State, Step.outcome_of}
 pub use Rattle.krs_model.proofs.Asks.Done.{Effect, Closes, Filters, Leaves, OfKeys, Opens, Reads, Unwatches, Watches}
 pub use Rattle.krs_model.proofs.Asks.Done.{is_of_queues, queue_there, readable_is, unwatched_is}
 use Rattle.krs_model.proofs.Asks.Done.{ends_as}

@@ -1,32 +1,16 @@
 -- What is proved of THREAD, FORK and EXEC.
-use Rattle.std.proofs.Common.{ℕ, ◌+◌, ◌≡◌, arith, inl, refl}
-use Rattle.std.specs.Option.{option_to_list}
+use Rattle.std.proofs.Common.{◌+◌, ◌≡◌, arith, inl, option_to_list, refl, ℕ}
 use Rattle.krs_types.specs.declared.ask.Op.TheVariants.{Exec, Fork, Thread}
-use Rattle.krs_model.specs.Asks.Adding.{made}
-use Rattle.krs_model.specs.Asks.Entering.{exec, execed, fork, if_context_number, thread, without_thread}
-use Rattle.krs_model.specs.Asks.Hello.{has_context_left, with_context}
-use Rattle.krs_model.specs.Asks.Leaving.{left}
-use Rattle.krs_model.specs.Hiding.{Hiding, blind, over}
-use Rattle.krs_model.specs.Lookup.{context_of}
-use Rattle.krs_model.specs.Possession.{process_ring}
-use Rattle.krs_model.specs.State.{State}
-use Rattle.krs_model.specs.Table.{put}
-use Rattle.krs_model.proofs.Asks.Houses.{Enters, Execs, Forked, Threads}
-use Rattle.krs_model.proofs.Asks.Later.{same_comes}
-use Rattle.krs_model.proofs.Asks.Lawful.{IsLawful}
-use Rattle.krs_model.proofs.Asks.NewSerials.{same_counts}
-use Rattle.krs_model.proofs.Asks.Outcomes.{meets_after, meets_ok}
-use Rattle.krs_model.proofs.Asks.Plain.{plain, plain_context}
-use Rattle.krs_model.proofs.Hiding.Accepted.{blind_done}
-use Rattle.krs_model.proofs.Hiding.Over.{after}
+use Rattle.krs_model.specs.Asks.{Adding.made, Entering.{exec, execed, fork, if_context_number, thread, without_thread}}
+use Rattle.krs_model.specs.{Asks.{Hello.{has_context_left, with_context}, Leaving.left}, Hiding.{blind, Hiding, over}}
+use Rattle.krs_model.specs.{Lookup.context_of, Possession.process_ring, State.State, Table.put}
+use Rattle.krs_model.proofs.Asks.{Houses.{Enters, Execs, Forked, Threads}, Later.same_comes, Lawful.IsLawful}
+use Rattle.krs_model.proofs.Asks.{NewSerials.same_counts, Outcomes.{meets_after, meets_ok}}
+use Rattle.krs_model.proofs.{Asks.Plain.{plain, plain_context}, Hiding.{Accepted.blind_done, Over.after}}
 use Rattle.krs_model.proofs.Isolation.Attachments.{attaches_none, entered_unattached, execed_unattached}
-use Rattle.krs_model.proofs.Isolation.Attachments.{threaded_unattached}
-use Rattle.krs_model.proofs.Isolation.Guarded.{next_apart}
-use Rattle.krs_model.proofs.Lookups.Serials.{own_there}
-use Rattle.krs_model.proofs.Reach.Levels.{in_right}
-use Rattle.krs_model.proofs.Sound.Contexts.{owner_there}
-use Rattle.krs_model.proofs.Sound.NewContexts.{context_stands, entered_stands, execed_stands, own_process_there}
-use Rattle.krs_model.proofs.Sound.NewContexts.{own_session_there}
+use Rattle.krs_model.proofs.{Isolation.{Attachments.threaded_unattached, Guarded.next_apart}, Lookups.Serials.own_there}
+use Rattle.krs_model.proofs.{Reach.Levels.in_right, Sound.{Contexts.owner_there, NewContexts.context_stands}}
+use Rattle.krs_model.proofs.Sound.NewContexts.{entered_stands, execed_stands, own_process_there, own_session_there}
 
 -- the asks that leave the keys
 thread_blind : (hide : Hiding) (s : State) (client context : ℕ)

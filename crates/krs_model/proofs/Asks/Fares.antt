@@ -1,40 +1,23 @@
 -- What becomes of a store by an accepted ask.
-use Rattle.std.proofs.lemmas.Bool.{true≢false}
-use Rattle.std.proofs.Common.{ℕ, ℤ, ◌≡◌, ◌∙◌, sym, Bool, Ok, Result, Some, cond, false, inl, refl, subst, true}
-use Rattle.krs_types.specs.Refusing.{or_refuse}
-use Rattle.krs_types.specs.Rights.{WRITE, allows}
-use Rattle.krs_types.specs.declared.ask.Op.{Op}
-use Rattle.krs_types.specs.declared.context.Context.{Context}
-use Rattle.krs_types.specs.declared.errno.Errno.{Errno}
-use Rattle.krs_types.specs.declared.errno.Errno.TheVariants.{ENOKEY}
-use Rattle.krs_types.specs.declared.rights.Want.{Want}
-use Rattle.krs_types.specs.declared.rights.Want.TheVariants.{Granted}
-use Rattle.krs_model.specs.Asks.Changing.{changed}
-use Rattle.krs_model.specs.Asks.Finding.{found_into, if_linkable}
-use Rattle.krs_model.specs.Asks.Linked.{linked_into}
+use Rattle.std.proofs.Common.{◌∙◌, ◌≡◌, Bool, cond, false, inl, Ok, refl, Result, Some, subst, sym, true, true≢false, ℕ}
+use Rattle.std.proofs.Common.{ℤ}
+use Rattle.krs_types.specs.{Refusing.or_refuse, Rights.{allows, WRITE}, declared.{ask.Op.Op, context.Context.Context}}
+use Rattle.krs_types.specs.declared.{errno.Errno.{Errno, TheVariants.ENOKEY}, rights.Want.{Want, TheVariants.Granted}}
+use Rattle.krs_model.specs.Asks.{Changing.changed, Finding.{found_into, if_linkable}, Linked.linked_into}
 use Rattle.krs_model.specs.Confidentiality.{HasToItself, is_own, may_give}
-use Rattle.krs_model.specs.Lookup.{context_of, look_up}
-use Rattle.krs_model.specs.Making.{made_for, within_serials}
-use Rattle.krs_model.specs.Outcome.{Outcome}
-use Rattle.krs_model.specs.Queues.{Queues, with_queues}
-use Rattle.krs_model.specs.Sound.{AllPlaced}
-use Rattle.krs_model.specs.State.{Key, State}
-use Rattle.krs_model.specs.Table.{at}
-use Rattle.krs_model.proofs.Asks.Houses.{HousesIn, Same, linked_houses, made_houses}
-use Rattle.krs_model.proofs.Asks.Done.{is_of_queues}
-use Rattle.krs_model.proofs.Asks.Later.{Comes, changed_comes, comes_trans, same_comes, within_ok}
+use Rattle.krs_model.specs.{Lookup.{context_of, look_up}, Making.{made_for, within_serials}, Outcome.Outcome}
+use Rattle.krs_model.specs.{Queues.{Queues, with_queues}, Sound.AllPlaced, State.{Key, State}, Table.at}
+use Rattle.krs_model.proofs.Asks.{Done.is_of_queues, Houses.{HousesIn, linked_houses, made_houses, Same}}
+use Rattle.krs_model.proofs.Asks.Later.{changed_comes, Comes, comes_trans, same_comes, within_ok}
 use Rattle.krs_model.proofs.Asks.LaterByAsk.{linked_into_comes, made_for_comes}
-use Rattle.krs_model.proofs.Asks.NewSerials.{IsWithin, counts_within, same_counts}
+use Rattle.krs_model.proofs.Asks.NewSerials.{counts_within, IsWithin, same_counts}
 use Rattle.krs_model.proofs.Asks.Outcomes.{Meets, meets_after, meets_ok}
-use Rattle.krs_model.proofs.Isolation.Attachments.{same_unattached}
-use Rattle.krs_model.proofs.Isolation.Guarded.{Guarded, Holds, NotBy, alone_guarded, changed_guarded, lessens_keeps}
-use Rattle.krs_model.proofs.Isolation.Guarded.{none_found}
+use Rattle.krs_model.proofs.Isolation.{Attachments.same_unattached, Guarded.alone_guarded}
+use Rattle.krs_model.proofs.Isolation.Guarded.{changed_guarded, Guarded, Holds, lessens_keeps, none_found, NotBy}
 use Rattle.krs_model.proofs.Isolation.Links.{linked_guarded, made_alone, other_linkable, other_made}
 use Rattle.krs_model.proofs.Isolation.Untouched.{KeysAfter, linked_same, made_same, not_into, other_same, same_trans}
-use Rattle.krs_model.proofs.Lookups.Serials.{refused_is}
-use Rattle.krs_model.proofs.Sound.Changes.{Lessens, Stands, changed_stands, same_stands}
-use Rattle.krs_model.proofs.Sound.Links.{linkable_is, linked_into_stands}
-use Rattle.krs_model.proofs.Sound.NewContexts.{made_for_stands}
+use Rattle.krs_model.proofs.{Lookups.Serials.refused_is, Sound.Changes.{changed_stands, Lessens, same_stands, Stands}}
+use Rattle.krs_model.proofs.Sound.{Links.{linkable_is, linked_into_stands}, NewContexts.made_for_stands}
 
 -- what an accepted ask leaves before the sweep
 pub record Fares (s : State) (client context : ℕ) (op : Op) (new : State) : Type 0 where

@@ -1,36 +1,18 @@
 -- What is proved of GET_ID.
-use Rattle.std.proofs.Common.{ℕ, ℤ, ◌∙◌, ◌≡◌, Bool, Ok, Result, ap, false, inl, refl, true}
+use Rattle.std.proofs.Common.{◌∙◌, ◌≡◌, ap, Bool, false, inl, Ok, refl, Result, true, ℕ, ℤ}
 use Rattle.krs_types.specs.Refusing.{◌>>=◌}
-use Rattle.krs_types.specs.Rights.{SEARCH}
-use Rattle.krs_types.specs.declared.ask.Answer.TheVariants.{Number}
-use Rattle.krs_types.specs.declared.ask.Op.{Op}
-use Rattle.krs_types.specs.declared.ask.Op.TheVariants.{GetId}
-use Rattle.krs_types.specs.declared.context.Context.{Context}
-use Rattle.krs_types.specs.declared.errno.Errno.{Errno}
-use Rattle.krs_types.specs.declared.rights.Want.TheVariants.{Granted}
-use Rattle.krs_model.specs.Asks.Adding.{made}
-use Rattle.krs_model.specs.Asks.Finding.{get_id, got, made_where}
-use Rattle.krs_model.specs.Confidentiality.{HasToItself}
-use Rattle.krs_model.specs.Hiding.{Hiding, blind, over}
-use Rattle.krs_model.specs.Lookup.{context_of, look_up}
-use Rattle.krs_model.specs.Making.{within_serials}
-use Rattle.krs_model.specs.State.{Key, State}
-use Rattle.krs_model.proofs.Asks.Fares.{fares_within}
-use Rattle.krs_model.proofs.Asks.Houses.{HousesIn, Same, made_houses}
-use Rattle.krs_model.proofs.Asks.Later.{Comes, same_comes}
-use Rattle.krs_model.proofs.Asks.LaterByAsk.{made_for_comes}
-use Rattle.krs_model.proofs.Asks.Lawful.{IsLawful}
-use Rattle.krs_model.proofs.Asks.Outcomes.{meets_after, meets_ok}
+use Rattle.krs_types.specs.{Rights.SEARCH, declared.ask.{Answer.TheVariants.Number, Op.{Op, TheVariants.GetId}}}
+use Rattle.krs_types.specs.declared.{context.Context.Context, errno.Errno.Errno, rights.Want.TheVariants.Granted}
+use Rattle.krs_model.specs.Asks.{Adding.made, Finding.{get_id, got, made_where}}
+use Rattle.krs_model.specs.{Confidentiality.HasToItself, Hiding.{blind, Hiding, over}, Lookup.{context_of, look_up}}
+use Rattle.krs_model.specs.{Making.within_serials, State.{Key, State}}
+use Rattle.krs_model.proofs.Asks.{Fares.fares_within, Houses.{HousesIn, made_houses, Same}, Later.{Comes, same_comes}}
+use Rattle.krs_model.proofs.Asks.{LaterByAsk.made_for_comes, Lawful.IsLawful, Outcomes.{meets_after, meets_ok}}
 use Rattle.krs_model.proofs.Asks.Plain.{IsPlain, plain, plain_context, plain_look_up, plain_within}
-use Rattle.krs_model.proofs.Hiding.Accepted.{accepted, blind_done}
-use Rattle.krs_model.proofs.Hiding.Links.{blind_made, made_blind, within_blind}
-use Rattle.krs_model.proofs.Hiding.Lookups.{blind_found, look_up_blind}
-use Rattle.krs_model.proofs.Hiding.Over.{after, bound}
-use Rattle.krs_model.proofs.Isolation.Guarded.{alone_guarded}
-use Rattle.krs_model.proofs.Isolation.Links.{made_alone}
-use Rattle.krs_model.proofs.Isolation.Untouched.{AreSame, made_same}
-use Rattle.krs_model.proofs.Sound.Changes.{Stands}
-use Rattle.krs_model.proofs.Sound.NewContexts.{made_for_stands}
+use Rattle.krs_model.proofs.Hiding.{Accepted.{accepted, blind_done}, Links.{blind_made, made_blind, within_blind}}
+use Rattle.krs_model.proofs.Hiding.{Lookups.{blind_found, look_up_blind}, Over.{after, bound}}
+use Rattle.krs_model.proofs.Isolation.{Guarded.alone_guarded, Links.made_alone, Untouched.{AreSame, made_same}}
+use Rattle.krs_model.proofs.Sound.{Changes.Stands, NewContexts.made_for_stands}
 
 made_where_comes :
     (create : Bool) (s : State) (number : ℕ) (c : Context) (id : ℤ) → Comes s (made_where create s number c id).0

@@ -1,18 +1,9 @@
 -- Serials are at most 2147483647: no accepted ask gives one above it.
-use Rattle.std.proofs.Common.{◌≡◌, ℕ}
-use Rattle.std.proofs.Common.{Ok}
-use Rattle.krs_types.specs.declared.ask.Answer.{Answer}
-use Rattle.krs_types.specs.declared.ask.Op.{Op}
-use Rattle.krs_model.specs.Table.{IsBelow}
-use Rattle.krs_model.specs.State.{State}
-use Rattle.krs_model.specs.Sound.{AllPlaced}
-use Rattle.krs_model.specs.Sweep.{IsSweep}
-use Rattle.krs_model.specs.Step.{outcome_of}
+use Rattle.std.proofs.Common.{◌≡◌, Ok, ℕ}
+use Rattle.krs_types.specs.declared.ask.{Answer.Answer, Op.Op}
+use Rattle.krs_model.specs.{Sound.AllPlaced, State.State, Step.outcome_of, Sweep.IsSweep, Table.IsBelow}
+use Rattle.krs_model.proofs.Asks.{Effects.effect_of, LaterByStep.effect_follows, Laws.law_of, NewSerials.few_follow}
 use Rattle.krs_model.proofs.Tables.Changes.{below_filter}
-use Rattle.krs_model.proofs.Asks.Effects.{effect_of}
-use Rattle.krs_model.proofs.Asks.LaterByStep.{effect_follows}
-use Rattle.krs_model.proofs.Asks.NewSerials.{few_follow}
-use Rattle.krs_model.proofs.Asks.Laws.{law_of}
 
 -- the keys that an accepted ask leaves before the sweep have serials up to the last
 pub mid_few :

@@ -1,38 +1,20 @@
 -- What is proved of HELLO.
-use Rattle.std.proofs.Common.{ℕ, ◌+◌, ◌<◌, ◌||◌, ◌∙◌, ◌∷◌, ◌≡◌, ◌≢◌, Bool, Err, None, Ok, Option, Some, [], ap, arith}
-use Rattle.std.proofs.Common.{cond, false, inl, inr, nat_lt, refl, subst, sym, true}
-use Rattle.std.proofs.lemmas.Bool.{true≢false, ltb-false}
-use Rattle.std.specs.Prelude.{codes}
-use Rattle.krs_types.specs.Caller.{caller_check}
-use Rattle.krs_types.specs.declared.ask.Answer.TheVariants.{Number}
-use Rattle.krs_types.specs.declared.ask.Op.TheVariants.{Hello}
-use Rattle.krs_types.specs.declared.caller.Caller.{Caller}
-use Rattle.krs_types.specs.declared.context.UidRings.{UidRings}
-use Rattle.krs_types.specs.declared.errno.Errno.TheVariants.{ENOSPC}
-use Rattle.krs_model.specs.Asks.Adding.{made}
-use Rattle.krs_model.specs.Asks.Hello.{first_session, has_context_left, has_numbers, hello, uid_ring, with_context}
-use Rattle.krs_model.specs.Asks.Hello.{with_uid}
-use Rattle.krs_model.specs.Asks.Leaving.{left}
-use Rattle.krs_model.specs.Confidentiality.{AreEnclosed, AreUnattached, HasToItself}
-use Rattle.krs_model.specs.Hiding.{Hiding, blind}
-use Rattle.krs_model.specs.Making.{with_new}
-use Rattle.krs_model.specs.State.{Key, State}
-use Rattle.krs_model.specs.Table.{Table, at, put}
+use Rattle.std.proofs.Common.{[], ◌+◌, ◌<◌, ◌||◌, ◌∙◌, ◌∷◌, ◌≡◌, ◌≢◌, ap, arith, Bool, codes, cond, Err, false, inl}
+use Rattle.std.proofs.Common.{inr, ltb-false, nat_lt, None, Ok, Option, refl, Some, subst, sym, true, true≢false, ℕ}
+use Rattle.krs_types.specs.{Caller.caller_check, declared.ask.{Answer.TheVariants.Number, Op.TheVariants.Hello}}
+use Rattle.krs_types.specs.declared.{caller.Caller.Caller, context.UidRings.UidRings, errno.Errno.TheVariants.ENOSPC}
+use Rattle.krs_model.specs.Asks.{Adding.made, Hello.first_session}
+use Rattle.krs_model.specs.Asks.Hello.{has_context_left, has_numbers, hello, uid_ring, with_context, with_uid}
+use Rattle.krs_model.specs.{Asks.Leaving.left, Confidentiality.{AreEnclosed, AreUnattached, HasToItself}}
+use Rattle.krs_model.specs.{Hiding.{blind, Hiding}, Making.with_new, State.{Key, State}, Table.{at, put, Table}}
 use Rattle.krs_model.proofs.Asks.Houses.{Begins, Enters, HousesIn, Named}
 use Rattle.krs_model.proofs.Asks.Later.{Comes, comes_trans, same_comes, with_new_comes}
-use Rattle.krs_model.proofs.Asks.Lawful.{IsLawful}
-use Rattle.krs_model.proofs.Asks.NewSerials.{IsWithin, same_counts}
-use Rattle.krs_model.proofs.Asks.Outcomes.{meets_after, meets_ok}
-use Rattle.krs_model.proofs.Asks.Plain.{plain}
-use Rattle.krs_model.proofs.Hiding.Accepted.{accepted, blind_done}
-use Rattle.krs_model.proofs.Hiding.Keys.{put_blind}
-use Rattle.krs_model.proofs.Hiding.Over.{after}
+use Rattle.krs_model.proofs.Asks.{Lawful.IsLawful, NewSerials.{IsWithin, same_counts}, Outcomes.{meets_after, meets_ok}}
+use Rattle.krs_model.proofs.{Asks.Plain.plain, Hiding.{Accepted.{accepted, blind_done}, Keys.put_blind, Over.after}}
 use Rattle.krs_model.proofs.Isolation.Attachments.{entered_unattached, first_session_apart, with_uid_unattached}
 use Rattle.krs_model.proofs.Isolation.Guarded.{next_apart, uid_placed, uid_processes}
-use Rattle.krs_model.proofs.Isolation.Keys.{put_enclosed}
-use Rattle.krs_model.proofs.Isolation.Untouched.{AreSame, put_same, same_trans}
-use Rattle.krs_model.proofs.Reach.Levels.{only_in}
-use Rattle.krs_model.proofs.Sound.Changes.{Stands}
+use Rattle.krs_model.proofs.Isolation.{Keys.put_enclosed, Untouched.{AreSame, put_same, same_trans}}
+use Rattle.krs_model.proofs.{Reach.Levels.only_in, Sound.Changes.Stands}
 use Rattle.krs_model.proofs.Sound.NewContexts.{entered_stands, session_there, uid_there, with_uid_stands}
 
 -- the keyrings of a uid come one by one

@@ -1,29 +1,15 @@
 -- What an accepted ask does to contexts, processes and uids.
-use Rattle.std.proofs.Common.{◌≡◌, ℕ, ℤ, Option, Some, None}
-use Rattle.std.proofs.Common.{Result, Ok, refl, subst}
-use Rattle.krs_types.specs.declared.errno.Errno.{Errno}
-use Rattle.krs_types.specs.declared.caller.Caller.{Caller}
-use Rattle.krs_types.specs.declared.context.Context.{Context}
-use Rattle.krs_types.specs.declared.context.UidRings.{UidRings}
-use Rattle.krs_types.specs.declared.key_id.KeyId.{KeyId}
-use Rattle.krs_types.specs.declared.rights.Want.TheVariants.{Granted}
-use Rattle.krs_types.specs.declared.ask.Op.{Op}
-use Rattle.krs_types.specs.declared.ask.Op.TheVariants.{Hello, Thread, Fork, Exec}
-use Rattle.krs_types.specs.declared.ask.Op.TheVariants.{Invalidate}
-use Rattle.krs_types.specs.declared.ask.Op.TheVariants.{Exit, Leave}
-use Rattle.krs_types.specs.Rights.{SEARCH}
-use Rattle.krs_types.specs.KeyId.{key_id_of}
-use Rattle.krs_model.specs.Table.{Table, at, put, alter, map_values}
-use Rattle.krs_model.specs.State.{State, Key}
-use Rattle.krs_model.specs.Lookup.{context_of, look_up}
-use Rattle.krs_model.specs.Making.{made_for, thread_to}
-use Rattle.krs_model.specs.Search.{found}
-use Rattle.krs_model.specs.Asks.Entering.{thread, execed, without_thread}
-use Rattle.krs_model.specs.Asks.Invalidating.{context_without, detached, rings_without}
-use Rattle.krs_model.specs.Asks.Linked.{linked_into}
-use Rattle.krs_model.specs.Asks.Leaving.{left, exited}
+use Rattle.std.proofs.Common.{◌≡◌, None, Ok, Option, refl, Result, Some, subst, ℕ, ℤ}
+use Rattle.krs_types.specs.{KeyId.key_id_of, Rights.SEARCH, declared.ask.Op.Op}
+use Rattle.krs_types.specs.declared.ask.Op.TheVariants.{Exec, Exit, Fork, Hello, Invalidate, Leave, Thread}
+use Rattle.krs_types.specs.declared.{caller.Caller.Caller, context.{Context.Context, UidRings.UidRings}}
+use Rattle.krs_types.specs.declared.{errno.Errno.Errno, key_id.KeyId.KeyId, rights.Want.TheVariants.Granted}
+use Rattle.krs_model.specs.Asks.Entering.{execed, thread, without_thread}
+use Rattle.krs_model.specs.Asks.{Invalidating.{context_without, detached, rings_without}, Leaving.{exited, left}}
+use Rattle.krs_model.specs.{Asks.Linked.linked_into, Lookup.{context_of, look_up}, Making.{made_for, thread_to}}
+use Rattle.krs_model.specs.{Search.found, State.{Key, State}, Table.{alter, at, map_values, put, Table}}
 use Rattle.krs_model.proofs.Asks.LaterByAsk.{linked_into_is}
-use Rattle.krs_model.proofs.MadeKeyring.Which.{IsMade, NoneMade, ThreadMade, ProcessMade, made_for_is}
+use Rattle.krs_model.proofs.MadeKeyring.Which.{IsMade, made_for_is, NoneMade, ProcessMade, ThreadMade}
 
 -- a context in a process of its own
 abbrev pub entering : State → ℕ → Caller → Option ℕ → Context

@@ -1,43 +1,25 @@
 -- What is proved of INVALIDATE.
-use Rattle.std.proofs.Common.{ℕ, ℤ, ◌∙◌, ◌≡◌, None, Option, Some, ap, arith, inr, refl, true}
-use Rattle.std.specs.Option.{option_map, option_to_list}
-use Rattle.krs_types.specs.Rights.{SEARCH}
-use Rattle.krs_types.specs.declared.ask.Answer.TheVariants.{Nothing}
-use Rattle.krs_types.specs.declared.ask.Op.TheVariants.{Invalidate}
-use Rattle.krs_types.specs.declared.rights.Want.TheVariants.{Granted}
+use Rattle.std.proofs.Common.{◌∙◌, ◌≡◌, ap, arith, inr, None, Option, option_map, option_to_list, refl, Some, true, ℕ}
+use Rattle.std.proofs.Common.{ℤ}
+use Rattle.krs_types.specs.{Rights.SEARCH, declared.ask.Answer.TheVariants.Nothing}
+use Rattle.krs_types.specs.declared.{ask.Op.TheVariants.Invalidate, rights.Want.TheVariants.Granted}
 use Rattle.krs_model.specs.Asks.Adding.{made}
 use Rattle.krs_model.specs.Asks.Invalidating.{context_without, detached, invalidate, invalidated, rings_without}
 use Rattle.krs_model.specs.Asks.Leaving.{left}
-use Rattle.krs_model.specs.Asks.Linked.{without_link}
-use Rattle.krs_model.specs.Hiding.{Hiding, blind}
-use Rattle.krs_model.specs.Lookup.{context_of, look_up}
-use Rattle.krs_model.specs.Notes.Telling.{named}
-use Rattle.krs_model.specs.Queues.{queues_of}
-use Rattle.krs_model.specs.Search.{found}
-use Rattle.krs_model.specs.Sound.{AllAttached}
-use Rattle.krs_model.specs.State.{Key, State}
-use Rattle.krs_model.specs.Sweep.{context_roots, process_roots, uid_roots}
-use Rattle.krs_model.specs.Table.{Table, at, map_values}
-use Rattle.krs_model.proofs.Asks.Houses.{Detaches}
-use Rattle.krs_model.proofs.Asks.Later.{Comes, is_gone}
-use Rattle.krs_model.proofs.Asks.Lawful.{IsLawful}
-use Rattle.krs_model.proofs.Asks.NewSerials.{same_counts}
+use Rattle.krs_model.specs.{Asks.Linked.without_link, Hiding.{blind, Hiding}, Lookup.{context_of, look_up}}
+use Rattle.krs_model.specs.{Notes.Telling.named, Queues.queues_of, Search.found, Sound.AllAttached, State.{Key, State}}
+use Rattle.krs_model.specs.{Sweep.{context_roots, process_roots, uid_roots}, Table.{at, map_values, Table}}
+use Rattle.krs_model.proofs.Asks.{Houses.Detaches, Later.{Comes, is_gone}, Lawful.IsLawful, NewSerials.same_counts}
 use Rattle.krs_model.proofs.Asks.NotedKeys.{about_small}
-use Rattle.krs_model.proofs.Asks.Outcomes.{meets_after, meets_ok}
-use Rattle.krs_model.proofs.Asks.Plain.{plain, plain_context, plain_look_up}
+use Rattle.krs_model.proofs.Asks.{Outcomes.{meets_after, meets_ok}, Plain.{plain, plain_context, plain_look_up}}
 use Rattle.krs_model.proofs.Hiding.Accepted.{accepted, blind_done, found_in}
-use Rattle.krs_model.proofs.Hiding.Keys.{map_blind}
-use Rattle.krs_model.proofs.Hiding.Links.{without_blind}
-use Rattle.krs_model.proofs.Isolation.Attachments.{invalidated_unattached}
-use Rattle.krs_model.proofs.Isolation.Keys.{mapped_enclosed}
-use Rattle.krs_model.proofs.Sound.Attached.{attached_by, attached_mapped, context_keys, in_context, in_process}
-use Rattle.krs_model.proofs.Sound.Attached.{in_uid, own_process, uid_keys}
-use Rattle.krs_model.proofs.Sound.Changes.{Stands, mapped_stands, same_stands, there_map}
-use Rattle.krs_model.proofs.Sound.Contexts.{mapped_housed}
-use Rattle.krs_model.proofs.Sound.KeyChanges.{both_in, detached_in, unlinked_lessens}
+use Rattle.krs_model.proofs.{Hiding.{Keys.map_blind, Links.without_blind}, Isolation.Attachments.invalidated_unattached}
+use Rattle.krs_model.proofs.{Isolation.Keys.mapped_enclosed, Sound.Attached.{attached_by, attached_mapped}}
+use Rattle.krs_model.proofs.Sound.Attached.{context_keys, in_context, in_process, in_uid, own_process, uid_keys}
+use Rattle.krs_model.proofs.Sound.Changes.{mapped_stands, same_stands, Stands, there_map}
+use Rattle.krs_model.proofs.Sound.{Contexts.mapped_housed, KeyChanges.{both_in, detached_in, unlinked_lessens}}
 use Rattle.krs_model.proofs.Sound.NewContexts.{ArePlaced, in_placed, placed_in}
-use Rattle.krs_model.proofs.Tables.Changes.{at_map}
-use Rattle.krs_model.proofs.Tables.Counts.{part_in}
+use Rattle.krs_model.proofs.Tables.{Changes.at_map, Counts.part_in}
 use Rattle.krs_types.specs.declared.note.KeyEvent.TheVariants as told_of
 
 gone_mapped : (f : Key → Key) (o : Option Key) → ((v : Key) → (f v).revoked ≡ v.revoked) → is_gone o ≡ true

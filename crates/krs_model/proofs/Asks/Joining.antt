@@ -1,50 +1,26 @@
 -- What is proved of JOIN.
-use Rattle.std.proofs.Common.{ℕ, ◌==◌, ◌∙◌, ◌∷◌, ◌≡◌, ◌≢◌, Bool, List, None, Ok, Option, Some, [], ap, arith, cond}
-use Rattle.std.proofs.Common.{false, inl, length, refl, sym, true}
-use Rattle.std.proofs.lemmas.Bool.{true≢false}
-use Rattle.std.proofs.lemmas.Bool.Decides.{nat_tests}
-use Rattle.std.proofs.lemmas.Option.{none-some}
-use Rattle.std.specs.List.{find}
-use Rattle.std.specs.Option.{option_map}
-use Rattle.std.specs.Prelude.{codes}
+use Rattle.std.proofs.Common.{[], ◌==◌, ◌∙◌, ◌∷◌, ◌≡◌, ◌≢◌, ap, arith, Bool, codes, cond, false, find, inl, length}
+use Rattle.std.proofs.Common.{List, None, Ok, Option, option_map, refl, Some, sym, true, true≢false, ℕ}
+use Rattle.std.proofs.lemmas.{Bool.Decides.nat_tests, Option.none-some}
 use Rattle.krs_types.specs.Perm.{named_session_mask, session_mask}
-use Rattle.krs_types.specs.Rights.{SEARCH, has_all}
-use Rattle.krs_types.specs.declared.ask.Answer.TheVariants.{Number}
-use Rattle.krs_types.specs.declared.ask.Op.TheVariants.{Join}
-use Rattle.krs_types.specs.declared.caller.Caller.{Caller}
-use Rattle.krs_types.specs.declared.context.Context.{Context}
+use Rattle.krs_types.specs.{Rights.{has_all, SEARCH}, declared.ask.Answer.TheVariants.Number}
+use Rattle.krs_types.specs.declared.{ask.Op.TheVariants.Join, caller.Caller.Caller, context.Context.Context}
 use Rattle.krs_model.specs.Asks.Adding.{made}
 use Rattle.krs_model.specs.Asks.Joining.{is_joinable, join, joinable, joined_to, session_joined, session_named}
-use Rattle.krs_model.specs.Asks.Joining.{session_ring, session_to}
-use Rattle.krs_model.specs.Confidentiality.{AreUnattached, HasToItself}
-use Rattle.krs_model.specs.Hiding.{Hiding, blind, blind_key, blind_keys, over}
-use Rattle.krs_model.specs.Lookup.{context_of}
-use Rattle.krs_model.specs.Making.{own_ring, with_new, within_serials}
-use Rattle.krs_model.specs.Outcome.{Outcome}
-use Rattle.krs_model.specs.Search.{found}
-use Rattle.krs_model.specs.State.{Key, State}
-use Rattle.krs_model.specs.Table.{Rises, Table, at, put}
-use Rattle.krs_model.proofs.Asks.Fares.{Fares, fares_within}
-use Rattle.krs_model.proofs.Asks.NewSerials.{IsWithin}
-use Rattle.krs_model.proofs.Asks.Houses.{Alters}
-use Rattle.krs_model.proofs.Asks.Joins.{found_least, passed_may}
-use Rattle.krs_model.proofs.Asks.Later.{same_comes, with_new_comes}
-use Rattle.krs_model.proofs.Asks.Lawful.{IsLawful}
-use Rattle.krs_model.proofs.Asks.Outcomes.{Meets, meets_after, meets_ok}
+use Rattle.krs_model.specs.{Asks.Joining.{session_ring, session_to}, Confidentiality.{AreUnattached, HasToItself}}
+use Rattle.krs_model.specs.Hiding.{blind, blind_key, blind_keys, Hiding, over}
+use Rattle.krs_model.specs.{Lookup.context_of, Making.{own_ring, with_new, within_serials}, Outcome.Outcome}
+use Rattle.krs_model.specs.{Search.found, State.{Key, State}, Table.{at, put, Rises, Table}}
+use Rattle.krs_model.proofs.Asks.{Fares.{Fares, fares_within}, Houses.Alters, Joins.{found_least, passed_may}}
+use Rattle.krs_model.proofs.Asks.Later.{comes_trans, same_comes, with_new_comes}
+use Rattle.krs_model.proofs.Asks.{Lawful.IsLawful, NewSerials.IsWithin, Outcomes.{Meets, meets_after, meets_ok}}
 use Rattle.krs_model.proofs.Asks.Plain.{IsPlain, plain, plain_context, plain_ok, plain_within}
 use Rattle.krs_model.proofs.Hiding.Accepted.{blind_done}
-use Rattle.krs_model.proofs.Hiding.Keys.{put_blind}
-use Rattle.krs_model.proofs.Hiding.Links.{within_blind}
-use Rattle.krs_model.proofs.Hiding.Lookups.{blind_found}
-use Rattle.krs_model.proofs.Hiding.Over.{after}
+use Rattle.krs_model.proofs.Hiding.{Keys.put_blind, Links.within_blind, Lookups.blind_found, Over.after}
 use Rattle.krs_model.proofs.Isolation.Attachments.{joined_unattached, own_joined_unattached, same_unattached}
-use Rattle.krs_model.proofs.Isolation.Guarded.{next_apart}
-use Rattle.krs_model.proofs.Isolation.Keys.{no_class}
-use Rattle.krs_model.proofs.Isolation.Links.{later_made, new_enclosed}
-use Rattle.krs_model.proofs.Isolation.Untouched.{put_same}
-use Rattle.krs_model.proofs.Lookups.Serials.{own_there}
+use Rattle.krs_model.proofs.Isolation.{Guarded.next_apart, Keys.no_class, Links.{later_made, new_enclosed}}
+use Rattle.krs_model.proofs.{Isolation.Untouched.put_same, Lookups.Serials.own_there}
 use Rattle.krs_model.proofs.Sound.NewContexts.{joinable_there, joined_stands, new_joined_stands, session_ring_empty}
-use Rattle.krs_model.proofs.Asks.Later.{comes_trans}
 
 plain_session_named : (name : List ℕ) → IsPlain (session_named name)
 plain_session_named name = search plain

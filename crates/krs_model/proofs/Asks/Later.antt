@@ -1,27 +1,15 @@
 -- What comes from a state by accepted asks of keys: serials rise, what is gone stays gone, and queues and watches
 -- stay.
-use Rattle.std.proofs.Common.{◌≡◌, ℕ, ◌≤◌, ◌<◌, ◌&&◌, Option, Some, None, Bool, true, false}
-use Rattle.std.proofs.Common.{cond, nat_lt}
-use Rattle.std.proofs.Common.{filter, Result, Ok, Err, refl, ap, ◌∙◌, sym, subst, arith, ⊎_elim}
-use Rattle.std.specs.Option.{option_map, IsSome}
-use Rattle.std.specs.Cmp.{unsigned_tied}
-use Rattle.std.specs.Ordering.{nat_cmp}
-use Rattle.std.specs.BTreeMap.{is_at}
+use Rattle.std.proofs.Common.{⊎_elim, ◌&&◌, ◌<◌, ◌∙◌, ◌≡◌, ◌≤◌, ap, arith, Bool, cond, Err, false, filter, IsSome}
+use Rattle.std.proofs.Common.{nat_cmp, nat_lt, None, Ok, Option, option_map, refl, Result, Some, subst, sym, true, ℕ}
+use Rattle.std.specs.{BTreeMap.is_at, Cmp.unsigned_tied}
 use Rattle.std.proofs.lemmas.Bool.Decides.{nat_tests}
-use Rattle.krs_types.specs.declared.errno.Errno.{Errno}
-use Rattle.krs_types.specs.declared.ask.Answer.{Answer}
-use Rattle.krs_types.specs.declared.errno.Errno.TheVariants.{ENOSPC}
-use Rattle.krs_types.specs.Refusing.{◌>>=◌}
-use Rattle.krs_model.specs.Table.{at, alter, IsBelow}
-use Rattle.krs_model.specs.State.{State, Key}
-use Rattle.krs_model.specs.Queues.{queues_of}
-use Rattle.krs_model.specs.Sweep.{IsSweep}
-use Rattle.krs_model.specs.Outcome.{Outcome}
-use Rattle.krs_model.specs.Making.{with_new, within_serials}
-use Rattle.krs_model.specs.Asks.Changing.{changed}
-use Rattle.krs_model.proofs.Tables.Changes.{at_put_other, below_put, below_filter, at_or_apart, at_alter_other}
-use Rattle.krs_model.proofs.Tables.Changes.{at_alter_same, at_alter_none, at_filter_none, at_kept}
+use Rattle.krs_types.specs.{Refusing.◌>>=◌, declared.{ask.Answer.Answer, errno.Errno.{Errno, TheVariants.ENOSPC}}}
+use Rattle.krs_model.specs.{Asks.Changing.changed, Making.{with_new, within_serials}, Outcome.Outcome, Queues.queues_of}
+use Rattle.krs_model.specs.{State.{Key, State}, Sweep.IsSweep, Table.{alter, at, IsBelow}}
 use Rattle.krs_model.proofs.Sound.Changes.{there_alter, there_put}
+use Rattle.krs_model.proofs.Tables.Changes.{at_alter_none, at_alter_other, at_alter_same, at_filter_none, at_kept}
+use Rattle.krs_model.proofs.Tables.Changes.{at_or_apart, at_put_other, below_filter, below_put}
 
 -- no key is there, or a revoked one
 abbrev pub is_gone : Option Key → Bool

@@ -1,26 +1,15 @@
 -- What comes from a state by what asks share: made keyrings, links, moved links and keys that were found.
-use Rattle.std.proofs.Common.{◌≡◌, ℕ, ℤ, ◌==◌, ◌&&◌, List, Bool, true, false}
-use Rattle.std.proofs.Common.{cond}
-use Rattle.std.proofs.Common.{Result, Ok, refl, subst}
-use Rattle.std.specs.Prelude.{codes, is_some}
-use Rattle.krs_types.specs.declared.errno.Errno.{Errno}
-use Rattle.krs_types.specs.declared.context.Context.{Context}
-use Rattle.krs_types.specs.declared.key_id.KeyId.{KeyId}
-use Rattle.krs_types.specs.declared.errno.Errno.TheVariants.{EPERM, EEXIST}
-use Rattle.krs_types.specs.KeyId.{key_id_of}
-use Rattle.krs_types.specs.Refusing.{◌>>=◌}
-use Rattle.krs_model.specs.State.{State, Key}
-use Rattle.krs_model.specs.Search.{found}
-use Rattle.krs_model.specs.Making.{with_new, special_ring, with_thread, with_process, made_for}
-use Rattle.krs_model.specs.Linking.{linking, link_named, has_room, ring_links}
-use Rattle.krs_model.specs.Asks.Adding.{made}
-use Rattle.krs_model.specs.Asks.Changing.{changed}
-use Rattle.krs_model.specs.Asks.Linked.{linked, linked_into, nestable, link_check, name_of}
-use Rattle.krs_model.specs.Asks.Linked.{unless, if_linked, without_link}
-use Rattle.krs_model.specs.Asks.Moving.{moved, moved_over}
-use Rattle.krs_model.proofs.MadeKeyring.Which.{IsMade, NoneMade, ThreadMade, ProcessMade, made_for_is}
-use Rattle.krs_model.proofs.Asks.Later.{Comes, same_comes, comes_trans, with_new_comes, changed_comes}
-use Rattle.krs_model.proofs.Asks.Later.{same_ok, bind_ok}
+use Rattle.std.proofs.Common.{◌&&◌, ◌==◌, ◌≡◌, Bool, codes, cond, false, is_some, List, Ok, refl, Result, subst, true}
+use Rattle.std.proofs.Common.{ℕ, ℤ}
+use Rattle.krs_types.specs.{KeyId.key_id_of, Refusing.◌>>=◌, declared.context.Context.Context}
+use Rattle.krs_types.specs.declared.{errno.Errno.{Errno, TheVariants.{EEXIST, EPERM}}, key_id.KeyId.KeyId}
+use Rattle.krs_model.specs.Asks.{Adding.made, Changing.changed, Linked.if_linked}
+use Rattle.krs_model.specs.Asks.Linked.{link_check, linked, linked_into, name_of, nestable, unless, without_link}
+use Rattle.krs_model.specs.{Asks.Moving.{moved, moved_over}, Linking.{has_room, link_named, linking, ring_links}}
+use Rattle.krs_model.specs.Making.{made_for, special_ring, with_new, with_process, with_thread}
+use Rattle.krs_model.specs.{Search.found, State.{Key, State}}
+use Rattle.krs_model.proofs.Asks.Later.{bind_ok, changed_comes, Comes, comes_trans, same_comes, same_ok, with_new_comes}
+use Rattle.krs_model.proofs.MadeKeyring.Which.{IsMade, made_for_is, NoneMade, ProcessMade, ThreadMade}
 
 -- a made thread or process keyring
 is_made_comes :

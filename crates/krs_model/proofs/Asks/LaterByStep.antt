@@ -1,17 +1,10 @@
 -- Each step follows: serials rise, and what is gone stays gone.
-use Rattle.std.proofs.Common.{ℕ, List, [], ◌∷◌, Result, Ok, Err, refl, sym, subst}
-use Rattle.krs_types.specs.declared.errno.Errno.{Errno}
-use Rattle.krs_types.specs.declared.ask.Answer.{Answer}
-use Rattle.krs_types.specs.declared.ask.Op.{Op}
-use Rattle.krs_types.specs.declared.event.Event.{Event}
-use Rattle.krs_model.specs.State.{State, raised}
-use Rattle.krs_model.specs.Step.{Step, Serves, Ends, posts_by}
-use Rattle.krs_model.specs.History.{IsLegal}
-use Rattle.krs_model.specs.Notes.Posting.{posted_in}
-use Rattle.krs_model.specs.Asks.Leaving.{left}
-use Rattle.krs_model.proofs.Asks.Later.{Follows, same_follows, follows_trans, sweep_follows}
-use Rattle.krs_model.proofs.Asks.Effects.{Effect, OfKeys, Opens, Filters, Reads, Closes, Watches, Unwatches, Leaves}
-use Rattle.krs_model.proofs.Asks.Effects.{effect_of}
+use Rattle.std.proofs.Common.{[], ◌∷◌, Err, List, Ok, refl, Result, subst, sym, ℕ}
+use Rattle.krs_types.specs.declared.{ask.{Answer.Answer, Op.Op}, errno.Errno.Errno, event.Event.Event}
+use Rattle.krs_model.specs.{Asks.Leaving.left, History.IsLegal, Notes.Posting.posted_in, State.{raised, State}}
+use Rattle.krs_model.specs.Step.{Ends, posts_by, Serves, Step}
+use Rattle.krs_model.proofs.Asks.Effects.{Closes, Effect, effect_of, Filters, Leaves, OfKeys, Opens, Reads, Unwatches}
+use Rattle.krs_model.proofs.Asks.{Effects.Watches, Later.{Follows, follows_trans, same_follows, sweep_follows}}
 
 left_follows : (s : State) (client : ℕ) → Follows s (left s client)
 unfolding left

@@ -1,16 +1,9 @@
 -- What is proved of each ask. A further ask has a record of these facts in a file of its own, and a line in `Laws`.
-use Rattle.std.proofs.Common.{◌≡◌, ℕ, Ok}
-use Rattle.krs_types.specs.declared.ask.Answer.{Answer}
-use Rattle.krs_types.specs.declared.ask.Op.{Op}
-use Rattle.krs_model.specs.Table.{IsBelow}
-use Rattle.krs_model.specs.State.{State}
-use Rattle.krs_model.specs.Step.{outcome_of}
-use Rattle.krs_model.specs.Notes.Telling.{notes_of}
-use Rattle.krs_model.specs.Hiding.{Hiding, Hides, blind, blind_ask, blind_outcome}
-use Rattle.krs_model.proofs.Notes.Fitting.{AllSmall}
-use Rattle.krs_model.proofs.Asks.Plain.{IsPlain}
-use Rattle.krs_model.proofs.Asks.Outcomes.{Meets}
-use Rattle.krs_model.proofs.Asks.Fares.{Fares}
+use Rattle.std.proofs.Common.{◌≡◌, Ok, ℕ}
+use Rattle.krs_types.specs.declared.ask.{Answer.Answer, Op.Op}
+use Rattle.krs_model.specs.Hiding.{blind, blind_ask, blind_outcome, Hides, Hiding}
+use Rattle.krs_model.specs.{Notes.Telling.notes_of, State.State, Step.outcome_of, Table.IsBelow}
+use Rattle.krs_model.proofs.{Asks.{Fares.Fares, Outcomes.Meets, Plain.IsPlain}, Notes.Fitting.AllSmall}
 
 pub record IsLawful (s : State) (client context : ℕ) (op : Op) : Type 0 where
   -- the keys that its notes name have serials that fit a record

@@ -1,28 +1,18 @@
 -- The laws of each ask.
 use Rattle.std.proofs.Common.{ℕ}
-use Rattle.krs_types.specs.declared.ask.Op.{Op}
-use Rattle.krs_types.specs.declared.ask.Op.TheVariants.{Hello, Thread, Fork, Exec, GetId, Join, Search, Request, Add}
-use Rattle.krs_types.specs.declared.ask.Op.TheVariants.{Update, Revoke, Invalidate, Chown, SetPerm, SetTimeout, Link}
-use Rattle.krs_types.specs.declared.ask.Op.TheVariants.{Unlink, Clear, Read, Describe, Watch, OpenQueue, SetFilter}
-use Rattle.krs_types.specs.declared.ask.Op.TheVariants.{ReadQueue, CloseQueue, Exit, Leave}
-use Rattle.krs_types.specs.declared.ask.Op.TheVariants.{Move, RestrictKeyring}
+use Rattle.krs_types.specs.declared.ask.Op.{Op, TheVariants.{Add, Chown, Clear, CloseQueue, Describe, Exec, Exit, Fork}}
+use Rattle.krs_types.specs.declared.ask.Op.TheVariants.{GetId, Hello, Invalidate, Join, Leave, Link, Move, OpenQueue}
+use Rattle.krs_types.specs.declared.ask.Op.TheVariants.{Read, ReadQueue, Request, RestrictKeyring, Revoke, Search}
+use Rattle.krs_types.specs.declared.ask.Op.TheVariants.{SetFilter, SetPerm, SetTimeout, Thread, Unlink, Update, Watch}
 use Rattle.krs_model.specs.State.{State}
-use Rattle.krs_model.proofs.Asks.Lawful.{IsLawful}
-use Rattle.krs_model.proofs.Asks.Hello.{hello_law}
-use Rattle.krs_model.proofs.Asks.Entering.{thread_law, fork_law, exec_law}
-use Rattle.krs_model.proofs.Asks.Finding.{get_id_law}
-use Rattle.krs_model.proofs.Asks.Joining.{join_law}
-use Rattle.krs_model.proofs.Asks.Searching.{search_law}
-use Rattle.krs_model.proofs.Asks.Requesting.{request_law}
 use Rattle.krs_model.proofs.Asks.Adding.{add_law}
-use Rattle.krs_model.proofs.Asks.Changing.{update_law, revoke_law, chown_law, set_perm_law, set_timeout_law}
-use Rattle.krs_model.proofs.Asks.Invalidating.{invalidate_law}
-use Rattle.krs_model.proofs.Asks.Linked.{link_law, unlink_law, clear_law}
-use Rattle.krs_model.proofs.Asks.Moving.{move_law}
-use Rattle.krs_model.proofs.Asks.Restricting.{restrict_keyring_law}
-use Rattle.krs_model.proofs.Asks.Reading.{read_law, describe_law}
-use Rattle.krs_model.proofs.Asks.Watching.{watch_law, open_queue_law, set_filter_law, read_queue_law, close_queue_law}
-use Rattle.krs_model.proofs.Asks.Leaving.{exit_law, leave_law}
+use Rattle.krs_model.proofs.Asks.Changing.{chown_law, revoke_law, set_perm_law, set_timeout_law, update_law}
+use Rattle.krs_model.proofs.Asks.{Entering.{exec_law, fork_law, thread_law}, Finding.get_id_law, Hello.hello_law}
+use Rattle.krs_model.proofs.Asks.{Invalidating.invalidate_law, Joining.join_law, Lawful.IsLawful}
+use Rattle.krs_model.proofs.Asks.{Leaving.{exit_law, leave_law}, Linked.{clear_law, link_law, unlink_law}}
+use Rattle.krs_model.proofs.Asks.{Moving.move_law, Reading.{describe_law, read_law}, Requesting.request_law}
+use Rattle.krs_model.proofs.Asks.{Restricting.restrict_keyring_law, Searching.search_law}
+use Rattle.krs_model.proofs.Asks.Watching.{close_queue_law, open_queue_law, read_queue_law, set_filter_law, watch_law}
 
 -- what is proved of any ask
 pub law_of : (s : State) (client context : ℕ) (op : Op) → IsLawful s client context op

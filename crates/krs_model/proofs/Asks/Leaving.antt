@@ -1,40 +1,23 @@
 -- What is proved of EXIT and LEAVE.
-use Rattle.std.proofs.Common.{ℕ, ◌==◌, ◌||◌, ◌∙◌, ◌∷◌, ◌≡◌, Bool, List, [], ap, cond, false, inl, refl, subst}
-use Rattle.std.proofs.Common.{sym, true}
-use Rattle.std.specs.List.{list_any}
-use Rattle.std.specs.Map.{values_of}
-use Rattle.std.specs.Option.{IsSome, option_to_list}
-use Rattle.std.proofs.lemmas.Bool.{true≢false}
+use Rattle.std.proofs.Common.{[], ◌==◌, ◌||◌, ◌∙◌, ◌∷◌, ◌≡◌, ap, Bool, cond, false, inl, IsSome, List, option_to_list}
+use Rattle.std.proofs.Common.{refl, subst, sym, true, true≢false, ℕ}
+use Rattle.std.specs.{List.list_any, Map.values_of}
 use Rattle.krs_types.specs.declared.ask.Answer.TheVariants.{Nothing}
-use Rattle.krs_types.specs.declared.ask.Op.TheVariants.{Exit, Leave}
-use Rattle.krs_types.specs.declared.context.Context.{Context}
+use Rattle.krs_types.specs.declared.{ask.Op.TheVariants.{Exit, Leave}, context.Context.Context}
 use Rattle.krs_model.specs.Asks.Adding.{made}
-use Rattle.krs_model.specs.Asks.Leaving.{exit, exited, has_process, has_uid, left}
-use Rattle.krs_model.specs.Confidentiality.{HasToItself}
-use Rattle.krs_model.specs.Hiding.{Hiding, blind, over}
-use Rattle.krs_model.specs.Levels.{is_in}
-use Rattle.krs_model.specs.Lookup.{context_of}
-use Rattle.krs_model.specs.Sound.{AllAttached}
-use Rattle.krs_model.specs.State.{State}
-use Rattle.krs_model.specs.Sweep.{context_roots, process_roots, uid_roots}
-use Rattle.krs_model.specs.Table.{Table, at, without}
-use Rattle.krs_model.proofs.Asks.Houses.{Departs, Exits}
-use Rattle.krs_model.proofs.Asks.Later.{same_comes}
-use Rattle.krs_model.proofs.Asks.Lawful.{IsLawful}
-use Rattle.krs_model.proofs.Asks.NewSerials.{IsWithin, same_counts}
-use Rattle.krs_model.proofs.Asks.Outcomes.{meets_after, meets_ok}
-use Rattle.krs_model.proofs.Asks.Plain.{plain, plain_context, plain_ok}
-use Rattle.krs_model.proofs.Hiding.Accepted.{accepted, blind_done}
-use Rattle.krs_model.proofs.Hiding.Over.{after}
-use Rattle.krs_model.proofs.Isolation.Attachments.{exited_unattached, left_unattached}
-use Rattle.krs_model.proofs.Isolation.Guarded.{Guarded}
-use Rattle.krs_model.proofs.Isolation.Untouched.{AreSame}
+use Rattle.krs_model.specs.{Asks.Leaving.{exit, exited, has_process, has_uid, left}, Confidentiality.HasToItself}
+use Rattle.krs_model.specs.{Hiding.{blind, Hiding, over}, Levels.is_in, Lookup.context_of, Sound.AllAttached}
+use Rattle.krs_model.specs.{State.State, Sweep.{context_roots, process_roots, uid_roots}, Table.{at, Table, without}}
+use Rattle.krs_model.proofs.Asks.{Houses.{Departs, Exits}, Later.same_comes, Lawful.IsLawful}
+use Rattle.krs_model.proofs.Asks.{NewSerials.{IsWithin, same_counts}, Outcomes.{meets_after, meets_ok}}
+use Rattle.krs_model.proofs.{Asks.Plain.{plain, plain_context, plain_ok}, Hiding.Accepted.{accepted, blind_done}}
+use Rattle.krs_model.proofs.{Hiding.Over.after, Isolation.Attachments.{exited_unattached, left_unattached}}
+use Rattle.krs_model.proofs.Isolation.{Guarded.Guarded, Untouched.AreSame}
 use Rattle.krs_model.proofs.Sound.Attached.{attached_by, attached_fewer, attached_without, attachments, context_keys}
 use Rattle.krs_model.proofs.Sound.Attached.{in_context, in_process, in_uid, own_process, uid_keys}
-use Rattle.krs_model.proofs.Sound.Changes.{Stands, kept_some, same_stands}
+use Rattle.krs_model.proofs.Sound.Changes.{kept_some, same_stands, Stands}
 use Rattle.krs_model.proofs.Sound.Contexts.{exited_housed, left_housed, there_unless}
-use Rattle.krs_model.proofs.Sound.NewContexts.{ArePlaced, in_placed, placed_in}
-use Rattle.krs_model.proofs.Tables.Changes.{at_kept}
+use Rattle.krs_model.proofs.{Sound.NewContexts.{ArePlaced, in_placed, placed_in}, Tables.Changes.at_kept}
 
 left_within : (s : State) (client : ℕ) → IsWithin s (left s client)
 unfolding left

@@ -1,55 +1,28 @@
 -- What is proved of LINK, UNLINK and CLEAR.
-use Rattle.std.proofs.Common.{ℕ, ℤ, ◌∙◌, ◌≡◌, Bool, List, Ok, Result, [], ap, refl, subst, true}
-use Rattle.std.specs.Option.{IsSome}
+use Rattle.std.proofs.Common.{[], ◌∙◌, ◌≡◌, ap, Bool, IsSome, List, Ok, refl, Result, subst, true, ℕ, ℤ}
 use Rattle.krs_types.specs.Refusing.{◌>>=◌, or_refuse}
-use Rattle.krs_types.specs.Rights.{LINK, WRITE}
-use Rattle.krs_types.specs.declared.ask.Answer.{Answer}
-use Rattle.krs_types.specs.declared.ask.Answer.TheVariants.{Nothing}
-use Rattle.krs_types.specs.declared.ask.Op.TheVariants.{Clear, Link, Unlink}
-use Rattle.krs_types.specs.declared.context.Context.{Context}
-use Rattle.krs_types.specs.declared.errno.Errno.{Errno}
-use Rattle.krs_types.specs.declared.errno.Errno.TheVariants.{ENOKEY}
-use Rattle.krs_types.specs.declared.rights.Want.TheVariants.{Granted}
+use Rattle.krs_types.specs.{Rights.{LINK, WRITE}, declared.ask.Answer.{Answer, TheVariants.Nothing}}
+use Rattle.krs_types.specs.declared.{ask.Op.TheVariants.{Clear, Link, Unlink}, context.Context.Context}
+use Rattle.krs_types.specs.declared.{errno.Errno.{Errno, TheVariants.ENOKEY}, rights.Want.TheVariants.Granted}
 use Rattle.krs_model.specs.Asks.Adding.{made}
-use Rattle.krs_model.specs.Asks.Changing.{changed}
-use Rattle.krs_model.specs.Asks.Linked.{clear, cleared, cleared_content, if_linked, link, linked, linked_into}
-use Rattle.krs_model.specs.Asks.Linked.{name_of, unlink, without_link}
-use Rattle.krs_model.specs.Confidentiality.{HasToItself}
-use Rattle.krs_model.specs.Hiding.{Hiding, blind, blind_content, blind_key, over}
-use Rattle.krs_model.specs.Linking.{linking, ring_links}
-use Rattle.krs_model.specs.Lookup.{context_of, look_up, serial_of}
-use Rattle.krs_model.specs.Making.{made_for, within_serials}
-use Rattle.krs_model.specs.Notes.Telling.{named}
-use Rattle.krs_model.specs.Outcome.{Outcome}
-use Rattle.krs_model.specs.Possession.{links_of_content}
-use Rattle.krs_model.specs.Search.{found}
-use Rattle.krs_model.specs.Sound.{is_links}
-use Rattle.krs_model.specs.State.{Content, Key, Links, Payload, State}
-use Rattle.krs_model.specs.Table.{at}
+use Rattle.krs_model.specs.Asks.{Changing.changed, Linked.{clear, cleared, cleared_content, if_linked, link, linked}}
+use Rattle.krs_model.specs.{Asks.Linked.{linked_into, name_of, unlink, without_link}, Confidentiality.HasToItself}
+use Rattle.krs_model.specs.{Hiding.{blind, blind_content, blind_key, Hiding, over}, Linking.{linking, ring_links}}
+use Rattle.krs_model.specs.{Lookup.{context_of, look_up, serial_of}, Making.{made_for, within_serials}}
+use Rattle.krs_model.specs.{Notes.Telling.named, Outcome.Outcome, Possession.links_of_content, Search.found}
+use Rattle.krs_model.specs.{Sound.is_links, State.{Content, Key, Links, Payload, State}, Table.at}
 use Rattle.krs_model.proofs.Asks.Fares.{changed_fares, fares_within, linked_fares}
-use Rattle.krs_model.proofs.Asks.Later.{bind_ok}
-use Rattle.krs_model.proofs.Asks.Later.{same_ok, same_state, within_ok}
-use Rattle.krs_model.proofs.Asks.LaterByAsk.{linked_into_is}
-use Rattle.krs_model.proofs.Asks.Lawful.{IsLawful}
-use Rattle.krs_model.proofs.Asks.NewSerials.{small_there}
-use Rattle.krs_model.proofs.Asks.NotedKeys.{about_link_small, about_small}
-use Rattle.krs_model.proofs.Asks.Outcomes.{meets_after, meets_ok}
-use Rattle.krs_model.proofs.Asks.Plain.{plain, plain_context, plain_linked_into, plain_links, plain_look_up}
-use Rattle.krs_model.proofs.Asks.Plain.{plain_serial, plain_within}
+use Rattle.krs_model.proofs.Asks.{Later.{bind_ok, same_ok, same_state, within_ok}, LaterByAsk.linked_into_is}
+use Rattle.krs_model.proofs.Asks.{Lawful.IsLawful, NewSerials.small_there, NotedKeys.{about_link_small, about_small}}
+use Rattle.krs_model.proofs.Asks.{Outcomes.{meets_after, meets_ok}, Plain.{plain, plain_context, plain_linked_into}}
+use Rattle.krs_model.proofs.Asks.Plain.{plain_links, plain_look_up, plain_serial, plain_within}
 use Rattle.krs_model.proofs.Hiding.Accepted.{accepted, blind_done, done_changed, found_in}
-use Rattle.krs_model.proofs.Hiding.Links.{linked_into_blind, made_blind, same_ring_links, within_blind}
-use Rattle.krs_model.proofs.Hiding.Links.{without_blind}
-use Rattle.krs_model.proofs.Hiding.Lookups.{blind_found, look_up_blind, there_blind}
-use Rattle.krs_model.proofs.Hiding.Over.{after, bound}
-use Rattle.krs_model.proofs.Isolation.Keys.{not_found}
-use Rattle.krs_model.proofs.Isolation.Links.{IsOther, made_alone, other_made}
-use Rattle.krs_model.proofs.Lookups.Laws.{look_up_usable}
-use Rattle.krs_model.proofs.Lookups.Serials.{found_serial, refused_is}
-use Rattle.krs_model.proofs.MadeKeyring.Which.{made_still}
-use Rattle.krs_model.proofs.Sound.Changes.{Lessens, there_alter}
-use Rattle.krs_model.proofs.Sound.Contents.{form_stays}
-use Rattle.krs_model.proofs.Sound.KeyChanges.{unlinked_lessens}
-use Rattle.krs_model.proofs.Tables.Counts.{IsPart, none_part}
+use Rattle.krs_model.proofs.Hiding.Links.{linked_into_blind, made_blind, same_ring_links, within_blind, without_blind}
+use Rattle.krs_model.proofs.Hiding.{Lookups.{blind_found, look_up_blind, there_blind}, Over.{after, bound}}
+use Rattle.krs_model.proofs.Isolation.{Keys.not_found, Links.{IsOther, made_alone, other_made}}
+use Rattle.krs_model.proofs.Lookups.{Laws.look_up_usable, Serials.{found_serial, refused_is}}
+use Rattle.krs_model.proofs.{MadeKeyring.Which.made_still, Sound.{Changes.{Lessens, there_alter}, Contents.form_stays}}
+use Rattle.krs_model.proofs.{Sound.KeyChanges.unlinked_lessens, Tables.Counts.{IsPart, none_part}}
 use Rattle.krs_types.specs.declared.note.KeyEvent.TheVariants as told_of
 
 -- the key that LINK links, and the one that UNLINK takes out

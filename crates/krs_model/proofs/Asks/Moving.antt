@@ -1,64 +1,32 @@
 -- What is proved of MOVE.
-use Rattle.std.proofs.Common.{ℕ, ℤ, ◌&&◌, ◌++◌, ◌<◌, ◌==◌, ◌^◌, ◌∙◌, ◌∷◌, ◌≡◌, Bool, List, Ok, Option, Result, Some}
-use Rattle.std.proofs.Common.{[], ap, cond, false, inl, nat_lt, refl, subst, true}
-use Rattle.std.specs.Option.{IsSome}
-use Rattle.std.specs.Prelude.{is_some}
-use Rattle.krs_types.specs.Refusing.{◌>>=◌}
-use Rattle.krs_types.specs.Rights.{LINK, WRITE}
-use Rattle.krs_types.specs.declared.ask.Answer.{Answer}
-use Rattle.krs_types.specs.declared.ask.Answer.TheVariants.{Nothing}
-use Rattle.krs_types.specs.declared.ask.Op.{Op}
-use Rattle.krs_types.specs.declared.ask.Op.TheVariants.{Move}
-use Rattle.krs_types.specs.declared.context.Context.{Context}
-use Rattle.krs_types.specs.declared.errno.Errno.{Errno}
-use Rattle.krs_types.specs.declared.errno.Errno.TheVariants.{EEXIST, EINVAL}
-use Rattle.krs_types.specs.declared.rights.Want.TheVariants.{Granted}
-use Rattle.krs_model.specs.Asks.Adding.{made}
-use Rattle.krs_model.specs.Asks.Changing.{changed}
+use Rattle.std.proofs.Common.{[], ◌&&◌, ◌++◌, ◌<◌, ◌==◌, ◌^◌, ◌∙◌, ◌∷◌, ◌≡◌, ap, Bool, cond, false, inl, is_some}
+use Rattle.std.proofs.Common.{IsSome, List, nat_lt, Ok, Option, refl, Result, Some, subst, true, ℕ, ℤ}
+use Rattle.krs_types.specs.{Refusing.◌>>=◌, Rights.{LINK, WRITE}, declared.ask.Answer.{Answer, TheVariants.Nothing}}
+use Rattle.krs_types.specs.declared.{ask.Op.{Op, TheVariants.Move}, context.Context.Context, errno.Errno.Errno}
+use Rattle.krs_types.specs.declared.{errno.Errno.TheVariants.{EEXIST, EINVAL}, rights.Want.TheVariants.Granted}
+use Rattle.krs_model.specs.Asks.{Adding.made, Changing.changed}
 use Rattle.krs_model.specs.Asks.Linked.{if_linked, linked, linked_into, name_of, unless, without_link}
 use Rattle.krs_model.specs.Asks.Moving.{move_link, moved, moved_over, moved_to}
-use Rattle.krs_model.specs.Confidentiality.{HasToItself}
-use Rattle.krs_model.specs.Hiding.{Hiding, blind, over}
-use Rattle.krs_model.specs.Linking.{link_named, ring_links}
-use Rattle.krs_model.specs.Lookup.{context_of, look_up, serial_of}
-use Rattle.krs_model.specs.Making.{made_for, within_serials}
-use Rattle.krs_model.specs.Notes.Posting.{Note}
-use Rattle.krs_model.specs.Notes.Telling.{about_link, about_moved, is_one_ring, named}
-use Rattle.krs_model.specs.Outcome.{Outcome}
-use Rattle.krs_model.specs.Search.{found}
-use Rattle.krs_model.specs.State.{Key, State}
-use Rattle.krs_model.specs.Table.{Table, alter, at}
-use Rattle.krs_model.proofs.Asks.Fares.{fares_within}
-use Rattle.krs_model.proofs.Asks.Houses.{HousesIn, linked_houses, made_houses}
-use Rattle.krs_model.proofs.Asks.Later.{Comes, bind_ok, changed_comes, comes_trans}
-use Rattle.krs_model.proofs.Asks.Later.{same_comes, same_ok}
-use Rattle.krs_model.proofs.Asks.LaterByAsk.{IsMoved, Moves, Stays, linked_into_comes, made_for_comes}
-use Rattle.krs_model.proofs.Asks.LaterByAsk.{moved_is}
-use Rattle.krs_model.proofs.Asks.Lawful.{IsLawful}
-use Rattle.krs_model.proofs.Asks.NewSerials.{small_there}
-use Rattle.krs_model.proofs.Asks.NotedKeys.{about_link_small}
+use Rattle.krs_model.specs.{Confidentiality.HasToItself, Hiding.{blind, Hiding, over}, Linking.{link_named, ring_links}}
+use Rattle.krs_model.specs.{Lookup.{context_of, look_up, serial_of}, Making.{made_for, within_serials}}
+use Rattle.krs_model.specs.Notes.{Posting.Note, Telling.{about_link, about_moved, is_one_ring, named}}
+use Rattle.krs_model.specs.{Outcome.Outcome, Search.found, State.{Key, State}, Table.{alter, at, Table}}
+use Rattle.krs_model.proofs.Asks.{Fares.{Fares, fares_within}, Houses.{HousesIn, linked_houses, made_houses}}
+use Rattle.krs_model.proofs.Asks.Later.{bind_ok, changed_comes, Comes, comes_trans, same_comes, same_ok}
+use Rattle.krs_model.proofs.Asks.LaterByAsk.{IsMoved, linked_into_comes, made_for_comes, moved_is, Moves, Stays}
+use Rattle.krs_model.proofs.Asks.{Lawful.IsLawful, NewSerials.small_there, NotedKeys.about_link_small}
 use Rattle.krs_model.proofs.Asks.Outcomes.{Meets, meets_after, meets_ok}
 use Rattle.krs_model.proofs.Asks.Plain.{IsPlain, plain, plain_context, plain_linked_into, plain_links, plain_look_up}
-use Rattle.krs_model.proofs.Asks.Plain.{plain_within}
-use Rattle.krs_model.proofs.Hiding.Accepted.{accepted, blind_done}
-use Rattle.krs_model.proofs.Hiding.Keys.{alter_blind}
-use Rattle.krs_model.proofs.Hiding.Links.{linked_into_blind, made_blind, same_link_named, same_ring_links}
-use Rattle.krs_model.proofs.Hiding.Links.{within_blind, without_blind}
-use Rattle.krs_model.proofs.Hiding.Lookups.{blind_found, look_up_blind}
-use Rattle.krs_model.proofs.Hiding.Over.{after, bound, either}
-use Rattle.krs_model.proofs.Isolation.Attachments.{same_unattached}
-use Rattle.krs_model.proofs.Isolation.Guarded.{Guarded, alone_guarded, lessens_keeps, none_found}
-use Rattle.krs_model.proofs.Isolation.Keys.{changed_enclosed}
-use Rattle.krs_model.proofs.Isolation.Links.{linked_guarded, made_alone}
+use Rattle.krs_model.proofs.{Asks.Plain.plain_within, Hiding.{Accepted.{accepted, blind_done}, Keys.alter_blind}}
+use Rattle.krs_model.proofs.Hiding.Links.{linked_into_blind, made_blind, same_link_named, same_ring_links, within_blind}
+use Rattle.krs_model.proofs.Hiding.{Links.without_blind, Lookups.{blind_found, look_up_blind}}
+use Rattle.krs_model.proofs.{Hiding.Over.{after, bound, either}, Isolation.Attachments.same_unattached}
+use Rattle.krs_model.proofs.Isolation.Guarded.{alone_guarded, Guarded, lessens_keeps, none_found}
+use Rattle.krs_model.proofs.Isolation.{Keys.changed_enclosed, Links.{linked_guarded, made_alone}}
 use Rattle.krs_model.proofs.Isolation.Untouched.{AreSame, linked_same, made_same, not_into, other_same, same_trans}
-use Rattle.krs_model.proofs.Lookups.Laws.{look_up_usable}
-use Rattle.krs_model.proofs.Lookups.Serials.{found_serial}
-use Rattle.krs_model.proofs.Notes.Fitting.{AllSmall}
-use Rattle.krs_model.proofs.Sound.Changes.{Stands, changed_stands}
-use Rattle.krs_model.proofs.Sound.KeyChanges.{unlinked_lessens}
-use Rattle.krs_model.proofs.Sound.Links.{linked_into_stands}
-use Rattle.krs_model.proofs.Sound.NewContexts.{made_for_stands, made_for_there}
-use Rattle.krs_model.proofs.Asks.Fares.{Fares}
+use Rattle.krs_model.proofs.{Lookups.{Laws.look_up_usable, Serials.found_serial}, Notes.Fitting.AllSmall}
+use Rattle.krs_model.proofs.Sound.{Changes.{changed_stands, Stands}, KeyChanges.unlinked_lessens}
+use Rattle.krs_model.proofs.Sound.{Links.linked_into_stands, NewContexts.{made_for_stands, made_for_there}}
 use Rattle.krs_types.specs.declared.note.KeyEvent.TheVariants as told_of
 
 is_moved_comes :

@@ -1,29 +1,16 @@
 -- No serial above 2147483647 is given.
-use Rattle.std.proofs.Common.{◌≡◌, ℕ, ℤ, ◌≤◌, ◌<◌, ◌^◌, ◌&&◌, List, Option, Some, None, Bool, true, false, cond}
-use Rattle.std.proofs.Common.{nat_lt}
-use Rattle.std.proofs.Common.{Ok, Err, refl, ap, ◌∙◌, sym, subst, arith, ◌⊎◌, inl, inr, ⊎_elim}
-use Rattle.std.specs.Prelude.{is_some}
-use Rattle.std.specs.Option.{IsSome}
-use Rattle.std.proofs.lemmas.Bool.{true≢false, cases_lt, ltb-false}
-use Rattle.krs_types.specs.declared.errno.Errno.TheVariants.{EPERM, EACCES, ENOSPC}
-use Rattle.krs_types.specs.declared.context.Context.{Context}
-use Rattle.krs_types.specs.declared.name.Name.{Name}
-use Rattle.krs_types.specs.declared.rights.Want.TheVariants.{Granted}
-use Rattle.krs_types.specs.declared.ask.Answer.{Answer}
-use Rattle.krs_types.specs.Rights.{has_all, WRITE}
-use Rattle.krs_model.specs.Table.{Table, at, IsBelow}
-use Rattle.krs_model.specs.State.{State, Key}
+use Rattle.std.proofs.Common.{⊎_elim, ◌&&◌, ◌<◌, ◌^◌, ◌∙◌, ◌≡◌, ◌≤◌, ◌⊎◌, ap, arith, Bool, cond, Err, false, inl, inr}
+use Rattle.std.proofs.Common.{is_some, IsSome, List, ltb-false, nat_lt, None, Ok, Option, refl, Some, subst, sym, true}
+use Rattle.std.proofs.{Common.{true≢false, ℕ, ℤ}, lemmas.Bool.cases_lt}
+use Rattle.krs_types.specs.{Rights.{has_all, WRITE}, declared.ask.Answer.Answer}
+use Rattle.krs_types.specs.declared.{context.Context.Context, errno.Errno.TheVariants.{EACCES, ENOSPC, EPERM}}
+use Rattle.krs_types.specs.declared.{name.Name.Name, rights.Want.TheVariants.Granted}
 use Rattle.krs_model.specs.Access.{is_alive, rights_on}
-use Rattle.krs_model.specs.Possession.{possessed}
-use Rattle.krs_model.specs.Lookup.{look_up}
-use Rattle.krs_model.specs.Linking.{ring_links, link_named, has_room}
-use Rattle.krs_model.specs.Outcome.{Outcome}
-use Rattle.krs_model.specs.Making.{within_serials}
-use Rattle.krs_model.specs.Asks.Adding.{Place, Updated, Made}
-use Rattle.krs_model.specs.Asks.Adding.{if_room, over_match, by_match, place_of}
-use Rattle.krs_model.specs.Asks.Changing.{is_updatable}
-use Rattle.krs_model.specs.Asks.Linked.{unless}
-use Rattle.krs_model.proofs.Asks.Later.{Follows, bind_ok, same_ok}
+use Rattle.krs_model.specs.Asks.Adding.{by_match, if_room, Made, over_match, Place, place_of, Updated}
+use Rattle.krs_model.specs.Asks.{Changing.is_updatable, Linked.unless}
+use Rattle.krs_model.specs.{Linking.{has_room, link_named, ring_links}, Lookup.look_up, Making.within_serials}
+use Rattle.krs_model.specs.{Outcome.Outcome, Possession.possessed, State.{Key, State}, Table.{at, IsBelow, Table}}
+use Rattle.krs_model.proofs.Asks.Later.{bind_ok, Follows, same_ok}
 
 -- no serial was given, or none above the last
 abbrev pub IsWithin : State → State → Type 0

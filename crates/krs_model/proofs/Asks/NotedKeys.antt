@@ -1,42 +1,19 @@
 -- The keys that the notes of an accepted ask name are there.
-use Rattle.std.proofs.Common.{◌≡◌, ℕ, ℤ, ◌≤◌, ◌<◌, ◌^◌, List, Bool, true, false, cond}
-use Rattle.std.proofs.Common.{nat_lt}
-use Rattle.std.proofs.Common.{Result, Ok, Err, refl, ap, ◌∙◌, sym, subst, arith, ◌⊎◌, inl, inr, ⊎_elim}
-use Rattle.std.specs.Prelude.{is_some}
-use Rattle.std.specs.Option.{IsSome}
-use Rattle.std.proofs.lemmas.Bool.{cases_lt}
-use Rattle.std.proofs.lemmas.Bool.Decides.{nat_tests}
-use Rattle.krs_types.specs.declared.errno.Errno.{Errno}
-use Rattle.krs_types.specs.declared.errno.Errno.TheVariants.{ENOKEY, ENOSPC}
-use Rattle.krs_types.specs.declared.context.Context.{Context}
-use Rattle.krs_types.specs.declared.name.Name.{Name}
-use Rattle.krs_types.specs.declared.note.KeyEvent.{KeyEvent}
+use Rattle.std.proofs.Common.{⊎_elim, ◌<◌, ◌^◌, ◌∙◌, ◌≡◌, ◌≤◌, ◌⊎◌, ap, arith, Bool, cond, Err, false, inl, inr}
+use Rattle.std.proofs.Common.{is_some, IsSome, List, nat_lt, Ok, refl, Result, subst, sym, true, ℕ, ℤ}
+use Rattle.std.proofs.lemmas.Bool.{cases_lt, Decides.nat_tests}
+use Rattle.krs_types.specs.{Refusing.or_refuse, declared.ask.Answer.{Answer, TheVariants.{Bytes, Nothing, Number}}}
+use Rattle.krs_types.specs.declared.{context.Context.Context, errno.Errno.Errno}
+use Rattle.krs_types.specs.declared.{errno.Errno.TheVariants.{ENOKEY, ENOSPC}, name.Name.Name, note.KeyEvent.KeyEvent}
+use Rattle.krs_model.specs.Asks.Adding.{add, added_serial, admitted, Made, Place, place_of, Updated}
+use Rattle.krs_model.specs.{Asks.{Finding.{found_into, if_linkable}, Linked.{linked_into, name_of}}, Linking.linking}
+use Rattle.krs_model.specs.{Lookup.context_of, Making.made_for, Notes.Telling.{about, about_found, about_link, named}}
+use Rattle.krs_model.specs.{Outcome.Outcome, Search.found, Sound.AllPlaced, State.{Key, State}, Table.{at, IsBelow}}
+use Rattle.krs_model.proofs.Asks.{Later.{bind_ok, same_ok}, LaterByAsk.{linked_into_is, made_for_comes}}
+use Rattle.krs_model.proofs.{Asks.NewSerials.{place_is, small_there}, Lookups.Serials.{own_there, refused_is}}
+use Rattle.krs_model.proofs.MadeKeyring.{Links.place_of_new, State.{HasMadeFor, made_for_has, MadeNone, MadeOne}}
+use Rattle.krs_model.proofs.{Notes.Fitting.AllSmall, Sound.{Changes.there_alter, NewContexts.own_process_there}}
 use Rattle.krs_types.specs.declared.note.KeyEvent.TheVariants as told_of
-use Rattle.krs_types.specs.declared.ask.Answer.{Answer}
-use Rattle.krs_types.specs.declared.ask.Answer.TheVariants.{Nothing, Number, Bytes}
-use Rattle.krs_types.specs.Refusing.{or_refuse}
-use Rattle.krs_model.specs.Table.{at, IsBelow}
-use Rattle.krs_model.specs.State.{State, Key}
-use Rattle.krs_model.specs.Lookup.{context_of}
-use Rattle.krs_model.specs.Linking.{linking}
-use Rattle.krs_model.specs.Search.{found}
-use Rattle.krs_model.specs.Sound.{AllPlaced}
-use Rattle.krs_model.specs.Outcome.{Outcome}
-use Rattle.krs_model.specs.Making.{made_for}
-use Rattle.krs_model.specs.Notes.Telling.{named, about, about_link, about_found}
-use Rattle.krs_model.specs.Asks.Finding.{if_linkable, found_into}
-use Rattle.krs_model.specs.Asks.Adding.{Place, Updated, Made, add, added_serial, admitted}
-use Rattle.krs_model.specs.Asks.Adding.{place_of}
-use Rattle.krs_model.specs.Asks.Linked.{linked_into, name_of}
-use Rattle.krs_model.proofs.Sound.Changes.{there_alter}
-use Rattle.krs_model.proofs.MadeKeyring.State.{HasMadeFor, MadeNone, MadeOne, made_for_has}
-use Rattle.krs_model.proofs.MadeKeyring.Links.{place_of_new}
-use Rattle.krs_model.proofs.Sound.NewContexts.{own_process_there}
-use Rattle.krs_model.proofs.Lookups.Serials.{refused_is, own_there}
-use Rattle.krs_model.proofs.Asks.Later.{bind_ok, same_ok}
-use Rattle.krs_model.proofs.Asks.LaterByAsk.{linked_into_is, made_for_comes}
-use Rattle.krs_model.proofs.Notes.Fitting.{AllSmall}
-use Rattle.krs_model.proofs.Asks.NewSerials.{small_there, place_is}
 
 pub about_small : (event : KeyEvent) (key : Result ℕ Errno) → AllSmall (about event key)
 about_small event (Err e) = tt

@@ -1,12 +1,8 @@
 -- What an ask comes to meets a predicate of states, where it is accepted: test by test.
-use Rattle.std.proofs.Common.{◌≡◌, Result, Ok, Err, refl, subst}
-use Rattle.krs_types.specs.declared.errno.Errno.{Errno}
-use Rattle.krs_types.specs.declared.ask.Answer.{Answer}
-use Rattle.krs_types.specs.Refusing.{◌>>=◌}
-use Rattle.krs_model.specs.State.{State}
-use Rattle.krs_model.specs.Outcome.{Outcome}
-use Rattle.krs_model.specs.Making.{within_serials}
-use Rattle.krs_model.proofs.Asks.Later.{within_ok, same_state}
+use Rattle.std.proofs.Common.{◌≡◌, Err, Ok, refl, Result, subst}
+use Rattle.krs_types.specs.{Refusing.◌>>=◌, declared.{ask.Answer.Answer, errno.Errno.Errno}}
+use Rattle.krs_model.specs.{Making.within_serials, Outcome.Outcome, State.State}
+use Rattle.krs_model.proofs.Asks.Later.{same_state, within_ok}
 
 -- the state that it comes to meets this, where it is accepted
 pub record Meets (P : State → Type 0) (meant : Outcome) : Type 0 where

@@ -1,25 +1,13 @@
 -- No ask is refused with ENOMEM: how much memory there is is no matter of the definitions.
-use Rattle.std.proofs.Common.{◌≡◌, ℕ, ℤ, List, Option, Some, None, Bool, true, false, cond, Result, Ok, Err}
-use Rattle.std.proofs.Common.{refl, ap, ◌∙◌, sym}
-use Rattle.std.specs.Prelude.{pos, negsuc, zero, suc}
-use Rattle.krs_types.specs.declared.errno.Errno.{Errno}
-use Rattle.krs_types.specs.declared.errno.Errno.TheVariants.{ENOMEM}
-use Rattle.krs_types.specs.declared.kind.Kind.{Kind}
-use Rattle.krs_types.specs.declared.kind.Kind.TheVariants.{User, Logon, Keyring}
-use Rattle.krs_types.specs.declared.context.Context.{Context}
-use Rattle.krs_types.specs.declared.rights.Want.{Want}
-use Rattle.krs_types.specs.Kind.{kind_named, paid}
-use Rattle.krs_types.specs.KeyId.{key_id_of}
-use Rattle.krs_types.specs.Refusing.{◌>>=◌, or_refuse}
-use Rattle.krs_model.specs.Table.{Table}
-use Rattle.krs_model.specs.State.{State, Key, Content, Payload, Links}
-use Rattle.krs_model.specs.Lookup.{context_of, serial_of, look_up}
-use Rattle.krs_model.specs.Linking.{ring_links, has_room}
-use Rattle.krs_model.specs.Search.{found, fault}
-use Rattle.krs_model.specs.Making.{within_serials}
-use Rattle.krs_model.specs.Outcome.{Outcome}
-use Rattle.krs_model.specs.Asks.Finding.{sought_name, found_into}
-use Rattle.krs_model.specs.Asks.Linked.{nestable, linked_into}
+use Rattle.std.proofs.Common.{◌∙◌, ◌≡◌, ap, Bool, cond, Err, false, List, negsuc, None, Ok, Option, pos, refl, Result}
+use Rattle.std.proofs.Common.{Some, suc, sym, true, zero, ℕ, ℤ}
+use Rattle.krs_types.specs.{KeyId.key_id_of, Kind.{kind_named, paid}, Refusing.{◌>>=◌, or_refuse}}
+use Rattle.krs_types.specs.declared.{context.Context.Context, errno.Errno.{Errno, TheVariants.ENOMEM}, kind.Kind.Kind}
+use Rattle.krs_types.specs.declared.{kind.Kind.TheVariants.{Keyring, Logon, User}, rights.Want.Want}
+use Rattle.krs_model.specs.Asks.Finding.{found_into, sought_name}
+use Rattle.krs_model.specs.{Asks.Linked.{linked_into, nestable}, Linking.{has_room, ring_links}}
+use Rattle.krs_model.specs.{Lookup.{context_of, look_up, serial_of}, Making.within_serials, Outcome.Outcome}
+use Rattle.krs_model.specs.{Search.{fault, found}, State.{Content, Key, Links, Payload, State}, Table.Table}
 
 -- the error is ENOMEM
 abbrev pub is_memory : Errno → Bool

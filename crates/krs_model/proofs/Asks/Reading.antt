@@ -1,28 +1,17 @@
 -- What is proved of READ and DESCRIBE.
-use Rattle.std.proofs.Common.{ℕ, ℤ, ◌∙◌, ◌≡◌, List, Ok, Option, Result, ap, refl, sym}
-use Rattle.krs_types.specs.Refusing.{◌>>=◌}
-use Rattle.krs_types.specs.Rights.{VIEW}
-use Rattle.krs_types.specs.declared.ask.Answer.{Answer}
-use Rattle.krs_types.specs.declared.ask.Answer.TheVariants.{Bytes}
-use Rattle.krs_types.specs.declared.ask.Op.TheVariants.{Describe, Read}
-use Rattle.krs_types.specs.declared.context.Context.{Context}
-use Rattle.krs_types.specs.declared.errno.Errno.{Errno}
-use Rattle.krs_types.specs.declared.kind.Kind.{Kind}
-use Rattle.krs_types.specs.declared.kind.Kind.TheVariants.{Keyring, Logon, User}
+use Rattle.std.proofs.Common.{◌∙◌, ◌≡◌, ap, List, Ok, Option, refl, Result, sym, ℕ, ℤ}
+use Rattle.krs_types.specs.{Refusing.◌>>=◌, Rights.VIEW, declared.ask.Answer.{Answer, TheVariants.Bytes}}
+use Rattle.krs_types.specs.declared.{ask.Op.TheVariants.{Describe, Read}, context.Context.Context, errno.Errno.Errno}
+use Rattle.krs_types.specs.declared.kind.Kind.{Kind, TheVariants.{Keyring, Logon, User}}
 use Rattle.krs_types.specs.declared.rights.Want.TheVariants.{Granted, ToRead}
 use Rattle.krs_model.specs.Asks.Reading.{describe, read, readable}
-use Rattle.krs_model.specs.Hiding.{Hiding, blind, blind_answer, blind_content, over, told, told_at, told_of}
+use Rattle.krs_model.specs.Hiding.{blind, blind_answer, blind_content, Hiding, over, told, told_at, told_of}
 use Rattle.krs_model.specs.Lookup.{context_of, look_up}
-use Rattle.krs_model.specs.Notes.Telling.{named}
-use Rattle.krs_model.specs.Search.{found}
-use Rattle.krs_model.specs.State.{Content, Key, Links, Payload, State}
-use Rattle.krs_model.proofs.Asks.Fares.{same_fares}
-use Rattle.krs_model.proofs.Asks.Lawful.{IsLawful}
-use Rattle.krs_model.proofs.Asks.Outcomes.{meets_after, meets_ok}
+use Rattle.krs_model.specs.{Notes.Telling.named, Search.found, State.{Content, Key, Links, Payload, State}}
+use Rattle.krs_model.proofs.Asks.{Fares.same_fares, Lawful.IsLawful, Outcomes.{meets_after, meets_ok}}
 use Rattle.krs_model.proofs.Asks.Plain.{IsPlain, plain, plain_context, plain_err, plain_look_up, plain_ok}
 use Rattle.krs_model.proofs.Hiding.Accepted.{accepted, blind_done, found_in, named_is}
-use Rattle.krs_model.proofs.Hiding.Over.{bound}
-use Rattle.krs_model.proofs.Lookups.Laws.{look_up_usable}
+use Rattle.krs_model.proofs.{Hiding.Over.bound, Lookups.Laws.look_up_usable}
 use Rattle.krs_model.specs.Asks.Reading as reading
 
 plain_readable : (kind : Kind) (content : Content) → IsPlain (reading.readable kind content)

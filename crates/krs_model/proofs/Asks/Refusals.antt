@@ -1,14 +1,8 @@
 -- A refusal of an ask is no ENOMEM.
-use Rattle.std.proofs.Common.{ℕ, ◌∙◌, ◌≡◌, Err, Result, ap, sym}
-use Rattle.std.proofs.lemmas.Bool.{true≢false}
-use Rattle.krs_types.specs.declared.ask.Answer.{Answer}
-use Rattle.krs_types.specs.declared.ask.Op.{Op}
-use Rattle.krs_types.specs.declared.errno.Errno.{Errno}
-use Rattle.krs_types.specs.declared.errno.Errno.TheVariants.{ENOMEM}
-use Rattle.krs_model.specs.State.{State}
-use Rattle.krs_model.specs.Step.{outcome_of}
-use Rattle.krs_model.proofs.Asks.Laws.{law_of}
-use Rattle.krs_model.proofs.Asks.Plain.{is_memory}
+use Rattle.std.proofs.Common.{◌∙◌, ◌≡◌, ap, Err, Result, sym, true≢false, ℕ}
+use Rattle.krs_types.specs.declared.{ask.{Answer.Answer, Op.Op}, errno.Errno.{Errno, TheVariants.ENOMEM}}
+use Rattle.krs_model.specs.{State.State, Step.outcome_of}
+use Rattle.krs_model.proofs.Asks.{Laws.law_of, Plain.is_memory}
 
 memory_is : (e : Errno) → ◌≡◌ {A = Result Answer Errno} (Err e) (Err ENOMEM) → e ≡ ENOMEM
 memory_is e h = cc

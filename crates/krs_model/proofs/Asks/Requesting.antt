@@ -1,37 +1,21 @@
 -- What is proved of REQUEST.
-use Rattle.std.proofs.Common.{ℕ, ℤ, ◌∙◌, ◌≡◌, List, Ok, Result, ap, cond, sym, true}
-use Rattle.krs_types.specs.Growth.{has_destination}
-use Rattle.krs_types.specs.Refusing.{◌>>=◌}
-use Rattle.krs_types.specs.Rights.{WRITE}
-use Rattle.krs_types.specs.declared.ask.Answer.{Answer}
-use Rattle.krs_types.specs.declared.ask.Op.TheVariants.{Request}
-use Rattle.krs_types.specs.declared.context.Context.{Context}
-use Rattle.krs_types.specs.declared.errno.Errno.{Errno}
-use Rattle.krs_types.specs.declared.name.Name.{Name}
-use Rattle.krs_types.specs.declared.rights.Want.TheVariants.{Granted}
+use Rattle.std.proofs.Common.{◌∙◌, ◌≡◌, ap, cond, List, Ok, Result, sym, true, ℕ, ℤ}
+use Rattle.krs_types.specs.{Growth.has_destination, Refusing.◌>>=◌, Rights.WRITE, declared.ask.Answer.Answer}
+use Rattle.krs_types.specs.declared.{ask.Op.TheVariants.Request, context.Context.Context, errno.Errno.Errno}
+use Rattle.krs_types.specs.declared.{name.Name.Name, rights.Want.TheVariants.Granted}
 use Rattle.krs_model.specs.Asks.Adding.{made}
 use Rattle.krs_model.specs.Asks.Finding.{found_alone, found_into, request, requested_for, requested_into, sought_name}
-use Rattle.krs_model.specs.Hiding.{Hiding, blind, over}
-use Rattle.krs_model.specs.Linking.{ring_links}
-use Rattle.krs_model.specs.Lookup.{context_of, look_up}
-use Rattle.krs_model.specs.Making.{made_for, within_serials}
-use Rattle.krs_model.specs.Notes.Telling.{named}
-use Rattle.krs_model.specs.Outcome.{Outcome}
-use Rattle.krs_model.specs.Search.{requested}
-use Rattle.krs_model.specs.State.{Key, State}
-use Rattle.krs_model.proofs.Asks.Fares.{fares_within, found_fares, meets_by, same_fares}
-use Rattle.krs_model.proofs.Asks.Later.{bind_ok, within_ok}
-use Rattle.krs_model.proofs.Asks.Lawful.{IsLawful}
-use Rattle.krs_model.proofs.Asks.NotedKeys.{IsThere, found_into_there, wanted_small}
-use Rattle.krs_model.proofs.Asks.Outcomes.{meets_after, meets_ok}
-use Rattle.krs_model.proofs.Asks.Plain.{IsPlain, plain, plain_context, plain_fault, plain_into, plain_links}
-use Rattle.krs_model.proofs.Asks.Plain.{plain_look_up, plain_sought, plain_there, plain_within}
-use Rattle.krs_model.proofs.Hiding.Accepted.{blind_done}
+use Rattle.krs_model.specs.Hiding.{blind, Hiding, over}
+use Rattle.krs_model.specs.{Linking.ring_links, Lookup.{context_of, look_up}, Making.{made_for, within_serials}}
+use Rattle.krs_model.specs.{Notes.Telling.named, Outcome.Outcome, Search.requested, State.{Key, State}}
+use Rattle.krs_model.proofs.Asks.{Fares.{fares_within, found_fares, meets_by, same_fares}, Later.{bind_ok, within_ok}}
+use Rattle.krs_model.proofs.Asks.{Lawful.IsLawful, NotedKeys.{found_into_there, IsThere, wanted_small}}
+use Rattle.krs_model.proofs.Asks.{Outcomes.{meets_after, meets_ok}, Plain.{IsPlain, plain, plain_context, plain_fault}}
+use Rattle.krs_model.proofs.Asks.Plain.{plain_into, plain_links, plain_look_up, plain_sought, plain_there, plain_within}
+use Rattle.krs_model.proofs.Hiding.{Accepted.blind_done, Found.{alone_blind, found_into_blind}}
 use Rattle.krs_model.proofs.Hiding.Links.{made_blind, same_ring_links, within_blind}
 use Rattle.krs_model.proofs.Hiding.Lookups.{blind_found, look_up_blind}
-use Rattle.krs_model.proofs.Hiding.Found.{alone_blind, found_into_blind}
-use Rattle.krs_model.proofs.Hiding.Over.{after, bound, either}
-use Rattle.krs_model.proofs.Hiding.Searches.{same_requested}
+use Rattle.krs_model.proofs.Hiding.{Over.{after, bound, either}, Searches.same_requested}
 
 requested_into_there :
     (s new : State) (c : Context) (name : Name) (dest : ℤ) (answer : Answer)

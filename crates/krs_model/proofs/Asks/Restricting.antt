@@ -1,30 +1,15 @@
 -- What is proved of RESTRICT_KEYRING.
-use Rattle.std.proofs.Common.{ℕ, ℤ, ◌∙◌, ◌∷◌, ◌≡◌, List, Result, [], ap, refl}
+use Rattle.std.proofs.Common.{[], ◌∙◌, ◌∷◌, ◌≡◌, ap, List, refl, Result, ℕ, ℤ}
 use Rattle.krs_types.specs.Refusing.{◌>>=◌}
-use Rattle.krs_types.specs.Rights.{SETATTR}
-use Rattle.krs_types.specs.declared.ask.Answer.TheVariants.{Nothing}
-use Rattle.krs_types.specs.declared.ask.Op.TheVariants.{RestrictKeyring}
-use Rattle.krs_types.specs.declared.errno.Errno.{Errno}
-use Rattle.krs_types.specs.declared.errno.Errno.TheVariants.{EEXIST}
-use Rattle.krs_types.specs.declared.rights.Want.TheVariants.{Granted}
-use Rattle.krs_model.specs.Asks.Changing.{changed}
-use Rattle.krs_model.specs.Asks.Linked.{unless}
-use Rattle.krs_model.specs.Asks.Restricting.{no_type, restrict_keyring, restricted}
-use Rattle.krs_model.specs.Hiding.{Hiding, blind, over}
-use Rattle.krs_model.specs.Linking.{ring_links}
-use Rattle.krs_model.specs.Lookup.{context_of, look_up}
-use Rattle.krs_model.specs.Outcome.{Outcome}
-use Rattle.krs_model.specs.Search.{found}
-use Rattle.krs_model.specs.State.{Key, State}
-use Rattle.krs_model.proofs.Asks.Fares.{changed_fares}
-use Rattle.krs_model.proofs.Asks.Lawful.{IsLawful}
-use Rattle.krs_model.proofs.Asks.Outcomes.{meets_after, meets_ok}
-use Rattle.krs_model.proofs.Asks.Plain.{IsPlain, plain, plain_context, plain_err, plain_links, plain_look_up}
-use Rattle.krs_model.proofs.Asks.Plain.{plain_ok}
+use Rattle.krs_types.specs.{Rights.SETATTR, declared.ask.{Answer.TheVariants.Nothing, Op.TheVariants.RestrictKeyring}}
+use Rattle.krs_types.specs.declared.{errno.Errno.{Errno, TheVariants.EEXIST}, rights.Want.TheVariants.Granted}
+use Rattle.krs_model.specs.Asks.{Changing.changed, Linked.unless, Restricting.{no_type, restrict_keyring, restricted}}
+use Rattle.krs_model.specs.{Hiding.{blind, Hiding, over}, Linking.ring_links, Lookup.{context_of, look_up}}
+use Rattle.krs_model.specs.{Outcome.Outcome, Search.found, State.{Key, State}}
+use Rattle.krs_model.proofs.Asks.{Fares.changed_fares, Lawful.IsLawful, Outcomes.{meets_after, meets_ok}}
+use Rattle.krs_model.proofs.Asks.Plain.{IsPlain, plain, plain_context, plain_err, plain_links, plain_look_up, plain_ok}
 use Rattle.krs_model.proofs.Hiding.Accepted.{accepted, blind_done, done_changed}
-use Rattle.krs_model.proofs.Hiding.Links.{same_ring_links}
-use Rattle.krs_model.proofs.Hiding.Lookups.{blind_found, look_up_blind}
-use Rattle.krs_model.proofs.Hiding.Over.{after, bound}
+use Rattle.krs_model.proofs.Hiding.{Links.same_ring_links, Lookups.{blind_found, look_up_blind}, Over.{after, bound}}
 use Rattle.krs_model.proofs.Sound.KeyChanges.{leaves}
 
 plain_no_type : (type_name : List ℕ) → IsPlain (no_type type_name)

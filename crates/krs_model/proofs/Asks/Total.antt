@@ -1,30 +1,15 @@
 -- Each ask has a step from a sound store: what it comes to has a sweep, and is not ENOMEM.
-use Rattle.std.proofs.Common.{◌≡◌, ◌≢◌, ℕ, zero, suc, List, Bool, true, Result, Ok, Err, length, filter}
-use Rattle.std.proofs.Common.{refl, sym, arith, inl, inr, ⊎_elim}
+use Rattle.std.proofs.Common.{⊎_elim, ◌≡◌, ◌≢◌, arith, Bool, Err, filter, inl, inr, length, List, Ok, refl, Result, suc}
+use Rattle.std.proofs.Common.{sym, true, true≢false, zero, ℕ}
 use Rattle.std.specs.Map.{keys_of}
-use Rattle.std.proofs.lemmas.Bool.{true≢false}
-use Rattle.krs_types.specs.declared.errno.Errno.{Errno}
-use Rattle.krs_types.specs.declared.errno.Errno.TheVariants.{ENOMEM}
-use Rattle.krs_types.specs.declared.ask.Ask.{Ask}
-use Rattle.krs_types.specs.declared.ask.Answer.{Answer}
-use Rattle.krs_types.specs.declared.ask.Op.{Op}
-use Rattle.krs_model.specs.Table.{Table}
-use Rattle.krs_model.specs.State.{State, Key, raised}
-use Rattle.krs_model.specs.Levels.{level, levels, is_in}
+use Rattle.krs_types.specs.declared.{ask.{Answer.Answer, Ask.Ask, Op.Op}, errno.Errno.{Errno, TheVariants.ENOMEM}}
+use Rattle.krs_model.specs.{History.event_of, Levels.{is_in, level, levels}, Notes.Posting.posted_in, Outcome.Outcome}
 use Rattle.krs_model.specs.Reach.{links_of_key_at}
-use Rattle.krs_model.specs.Sweep.{IsHeld, Attached, Linked, PicksHeld, IsSweep, live_watches, roots}
-use Rattle.krs_model.specs.Sound.{IsSound}
-use Rattle.krs_model.specs.History.{event_of}
-use Rattle.krs_model.specs.Outcome.{Outcome}
-use Rattle.krs_model.specs.Step.{Step, Ends, outcome_of, posts_by}
-use Rattle.krs_model.specs.Notes.Posting.{posted_in}
-use Rattle.krs_model.proofs.Reach.Levels.{in_flat, in_one}
-use Rattle.krs_model.proofs.Reach.Acyclic.{From, one_more, reached_in_levels, IsClosed}
-use Rattle.krs_model.proofs.Reach.Cycles.{there_in}
-use Rattle.krs_model.proofs.Sound.Changes.{Stands}
-use Rattle.krs_model.proofs.Sound.Steps.{sound_stands, raised_sound}
-use Rattle.krs_model.proofs.Asks.Refusals.{refusal_is_no_memory}
-use Rattle.krs_model.proofs.Asks.Laws.{law_of}
+use Rattle.krs_model.specs.{Sound.IsSound, State.{Key, raised, State}, Step.{Ends, outcome_of, posts_by, Step}}
+use Rattle.krs_model.specs.{Sweep.{Attached, IsHeld, IsSweep, Linked, live_watches, PicksHeld, roots}, Table.Table}
+use Rattle.krs_model.proofs.Asks.{Laws.law_of, Refusals.refusal_is_no_memory}
+use Rattle.krs_model.proofs.Reach.{Acyclic.{From, IsClosed, one_more, reached_in_levels}, Cycles.there_in}
+use Rattle.krs_model.proofs.{Reach.Levels.{in_flat, in_one}, Sound.{Changes.Stands, Steps.{raised_sound, sound_stands}}}
 
 -- what is in a level from the attachments is held
 level_held :

@@ -1,50 +1,28 @@
 -- What is proved of WATCH and the asks of queues.
-use Rattle.std.proofs.Common.{ℕ, ℤ, ◌∙◌, ◌∷◌, ◌≡◌, ◌≤◌, Bool, Err, List, None, Ok, Option, Result, Some, [], ap, cond}
-use Rattle.std.proofs.Common.{false, length, nat_le, nat_lt, not, refl, subst, true}
-use Rattle.std.proofs.lemmas.Bool.{leb-true}
-use Rattle.std.specs.Option.{IsSome, is_some}
-use Rattle.std.specs.Prelude.{negsuc, pos, suc, zero}
+use Rattle.std.proofs.Common.{[], ◌∙◌, ◌∷◌, ◌≡◌, ◌≤◌, ap, Bool, cond, Err, false, is_some, IsSome, leb-true, length}
+use Rattle.std.proofs.Common.{List, nat_le, nat_lt, negsuc, None, not, Ok, Option, pos, refl, Result, Some, subst, suc}
+use Rattle.std.proofs.Common.{true, zero, ℕ, ℤ}
 use Rattle.krs_types.specs.Refusing.{◌>>=◌}
-use Rattle.krs_types.specs.Rights.{VIEW}
-use Rattle.krs_types.specs.declared.ask.Answer.{Answer}
-use Rattle.krs_types.specs.declared.ask.Answer.TheVariants.{Bytes, Nothing, Number}
+use Rattle.krs_types.specs.{Rights.VIEW, declared.ask.Answer.{Answer, TheVariants.{Bytes, Nothing, Number}}}
 use Rattle.krs_types.specs.declared.ask.Op.TheVariants.{CloseQueue, OpenQueue, ReadQueue, SetFilter, Watch}
 use Rattle.krs_types.specs.declared.context.Context.{Context}
-use Rattle.krs_types.specs.declared.errno.Errno.{Errno}
-use Rattle.krs_types.specs.declared.errno.Errno.TheVariants.{EBUSY, EINVAL, ENFILE, ENOSPC}
-use Rattle.krs_types.specs.declared.note.FilterEntry.{FilterEntry}
-use Rattle.krs_types.specs.declared.note.Record.{Record}
-use Rattle.krs_types.specs.declared.rights.Want.TheVariants.{Granted}
+use Rattle.krs_types.specs.declared.errno.Errno.{Errno, TheVariants.{EBUSY, EINVAL, ENFILE, ENOSPC}}
+use Rattle.krs_types.specs.declared.{note.{FilterEntry.FilterEntry, Record.Record}, rights.Want.TheVariants.Granted}
 use Rattle.krs_model.specs.Asks.Adding.{made}
-use Rattle.krs_model.specs.Asks.Leaving.{left}
-use Rattle.krs_model.specs.Asks.Linked.{unless}
-use Rattle.krs_model.specs.Asks.Watching.{after_read, close_queue, closed, filtered, open_queue, opened, read_out}
-use Rattle.krs_model.specs.Asks.Watching.{read_queue, set_filter, unwatched, watch, watch_id_of, watched, with_filter}
-use Rattle.krs_model.specs.Asks.Watching.{with_queue, with_watching, without_queue}
-use Rattle.krs_model.specs.Hiding.{Hiding, blind, over}
-use Rattle.krs_model.specs.Lookup.{context_of, look_up, serial_of}
-use Rattle.krs_model.specs.Notes.Bytes.{bytes_of_all}
-use Rattle.krs_model.specs.Notes.Filter.{filter_of, is_good_filter}
-use Rattle.krs_model.specs.Notes.Front.{front, readable}
-use Rattle.krs_model.specs.Notes.Telling.{named}
-use Rattle.krs_model.specs.Notes.Waiting.{is_capacity}
-use Rattle.krs_model.specs.Outcome.{Outcome}
-use Rattle.krs_model.specs.Queues.{Queues, queue_of, queues_of, watch_at, with_queues, with_watch}
-use Rattle.krs_model.specs.Search.{found}
-use Rattle.krs_model.specs.State.{Key, Queue, State}
-use Rattle.krs_model.specs.Table.{Table, alter, at}
-use Rattle.krs_model.proofs.Asks.Done.{Closes, Effect, Filters, Opens, Reads, Unwatches, Watches, end_of, ends_as}
-use Rattle.krs_model.proofs.Asks.Done.{queue_there, readable_is, unwatched_is}
-use Rattle.krs_model.proofs.Asks.Fares.{queues_fares}
-use Rattle.krs_model.proofs.Asks.Later.{bind_ok, same_ok}
-use Rattle.krs_model.proofs.Asks.Lawful.{IsLawful}
-use Rattle.krs_model.proofs.Asks.Outcomes.{meets_after, meets_ok}
+use Rattle.krs_model.specs.Asks.{Leaving.left, Linked.unless, Watching.{after_read, close_queue, closed, filtered}}
+use Rattle.krs_model.specs.Asks.Watching.{open_queue, opened, read_out, read_queue, set_filter, unwatched, watch}
+use Rattle.krs_model.specs.Asks.Watching.{watch_id_of, watched, with_filter, with_queue, with_watching, without_queue}
+use Rattle.krs_model.specs.{Hiding.{blind, Hiding, over}, Lookup.{context_of, look_up, serial_of}}
+use Rattle.krs_model.specs.Notes.{Bytes.bytes_of_all, Filter.{filter_of, is_good_filter}, Front.{front, readable}}
+use Rattle.krs_model.specs.Notes.{Telling.named, Waiting.is_capacity}
+use Rattle.krs_model.specs.{Outcome.Outcome, Queues.{queue_of, Queues, queues_of, watch_at, with_queues, with_watch}}
+use Rattle.krs_model.specs.{Search.found, State.{Key, Queue, State}, Table.{alter, at, Table}}
+use Rattle.krs_model.proofs.Asks.Done.{Closes, Effect, end_of, ends_as, Filters, Opens, queue_there, readable_is, Reads}
+use Rattle.krs_model.proofs.Asks.{Done.{unwatched_is, Unwatches, Watches}, Fares.queues_fares, Later.{bind_ok, same_ok}}
+use Rattle.krs_model.proofs.Asks.{Lawful.IsLawful, Outcomes.{meets_after, meets_ok}}
 use Rattle.krs_model.proofs.Asks.Plain.{IsPlain, plain, plain_context, plain_err, plain_look_up, plain_ok}
-use Rattle.krs_model.proofs.Hiding.Accepted.{accepted, blind_done}
-use Rattle.krs_model.proofs.Hiding.Lookups.{blind_found, look_up_blind}
-use Rattle.krs_model.proofs.Hiding.Over.{after, bound}
-use Rattle.krs_model.proofs.Lookups.Laws.{look_up_usable}
-use Rattle.krs_model.proofs.Lookups.Serials.{found_serial}
+use Rattle.krs_model.proofs.Hiding.{Accepted.{accepted, blind_done}, Lookups.{blind_found, look_up_blind}}
+use Rattle.krs_model.proofs.{Hiding.Over.{after, bound}, Lookups.{Laws.look_up_usable, Serials.found_serial}}
 
 unless_ok : (bad : Bool) (error : Errno) (x : Unit {0}) → unless bad error ≡ Ok x → bad ≡ false
 unless_ok true error x h = cc

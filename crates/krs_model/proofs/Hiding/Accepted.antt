@@ -1,22 +1,12 @@
 -- What an accepted ask comes to, and a change of one key, with the payloads hidden.
-use Rattle.std.proofs.Common.{◌≡◌, ℕ, ℤ, List}
-use Rattle.std.proofs.Common.{Result, Ok, refl, ap, ◌∙◌}
-use Rattle.krs_types.specs.declared.errno.Errno.{Errno}
-use Rattle.krs_types.specs.declared.context.Context.{Context}
-use Rattle.krs_types.specs.declared.rights.Want.{Want}
-use Rattle.krs_types.specs.declared.ask.Answer.{Answer}
+use Rattle.std.proofs.Common.{◌∙◌, ◌≡◌, ap, List, Ok, refl, Result, ℕ, ℤ}
 use Rattle.krs_types.specs.Refusing.{◌>>=◌}
-use Rattle.krs_model.specs.Table.{Table}
-use Rattle.krs_model.specs.State.{State, Key, Content, Payload, Links}
-use Rattle.krs_model.specs.Lookup.{context_of, serial_of, look_up}
+use Rattle.krs_types.specs.declared.{ask.Answer.Answer, context.Context.Context, errno.Errno.Errno, rights.Want.Want}
+use Rattle.krs_model.specs.{Asks.Changing.{changed, paid_with}, Hiding.{blind, blind_content, blind_key, Hiding, over}}
+use Rattle.krs_model.specs.{Lookup.{context_of, look_up, serial_of}, Notes.Telling.named, Outcome.Outcome}
+use Rattle.krs_model.specs.{State.{Content, Key, Links, Payload, State}, Table.Table}
+use Rattle.krs_model.proofs.Hiding.{Keys.alter_blind, Lookups.{blind_found, look_up_blind}, Over.{after, bound}}
 use Rattle.krs_model.proofs.Lookups.Serials.{found_serial}
-use Rattle.krs_model.specs.Outcome.{Outcome}
-use Rattle.krs_model.specs.Asks.Changing.{changed, paid_with}
-use Rattle.krs_model.specs.Notes.Telling.{named}
-use Rattle.krs_model.specs.Hiding.{Hiding, blind_content, blind_key, blind, over}
-use Rattle.krs_model.proofs.Hiding.Over.{bound, after}
-use Rattle.krs_model.proofs.Hiding.Keys.{alter_blind}
-use Rattle.krs_model.proofs.Hiding.Lookups.{blind_found, look_up_blind}
 
 -- what an accepted ask comes to with the payloads of the store hidden
 abbrev pub blind_done : Hiding → State × Answer → State × Answer

@@ -1,34 +1,21 @@
 -- ADD with the payloads hidden.
-use Rattle.std.proofs.Common.{◌≡◌, ℕ, ℤ, ◌&&◌, List, Option, Some, None, Bool, cond}
-use Rattle.std.proofs.Common.{Result, Ok, Err, refl, ap, ◌∙◌, sym}
-use Rattle.krs_types.specs.declared.errno.Errno.{Errno}
-use Rattle.krs_types.specs.declared.errno.Errno.TheVariants.{EACCES}
-use Rattle.krs_types.specs.declared.context.Context.{Context}
-use Rattle.krs_types.specs.declared.kind.Kind.{Kind}
-use Rattle.krs_types.specs.declared.kind.Kind.TheVariants.{User, Logon, Keyring}
-use Rattle.krs_types.specs.declared.name.Name.{Name}
-use Rattle.krs_types.specs.declared.rights.Want.TheVariants.{Granted}
-use Rattle.krs_types.specs.declared.ask.Answer.{Answer}
-use Rattle.krs_types.specs.declared.ask.Answer.TheVariants.{Number}
-use Rattle.krs_types.specs.Kind.{kind_named, described, described_as, paid}
-use Rattle.krs_types.specs.Rights.{has_all, WRITE}
-use Rattle.krs_types.specs.Refusing.{◌>>=◌}
-use Rattle.krs_model.specs.Table.{Table, at, put, alter}
-use Rattle.krs_model.specs.State.{State, Key, Content, Payload}
+use Rattle.std.proofs.Common.{◌&&◌, ◌∙◌, ◌≡◌, ap, Bool, cond, Err, List, None, Ok, Option, refl, Result, Some, sym, ℕ}
+use Rattle.std.proofs.Common.{ℤ}
+use Rattle.krs_types.specs.Kind.{described, described_as, kind_named, paid}
+use Rattle.krs_types.specs.{Refusing.◌>>=◌, Rights.{has_all, WRITE}, declared.ask.Answer.{Answer, TheVariants.Number}}
+use Rattle.krs_types.specs.declared.{context.Context.Context, errno.Errno.{Errno, TheVariants.EACCES}, kind.Kind.Kind}
+use Rattle.krs_types.specs.declared.kind.Kind.TheVariants.{Keyring, Logon, User}
+use Rattle.krs_types.specs.declared.{name.Name.Name, rights.Want.TheVariants.Granted}
 use Rattle.krs_model.specs.Access.{is_alive, rights_on}
-use Rattle.krs_model.specs.Lookup.{context_of, look_up}
-use Rattle.krs_model.specs.Linking.{ring_links, link_named, linking}
-use Rattle.krs_model.specs.Making.{made_for}
-use Rattle.krs_model.specs.Outcome.{Outcome}
+use Rattle.krs_model.specs.Asks.Adding.{add, added, added_in, added_serial, admitted, by_match, first_content, if_room}
+use Rattle.krs_model.specs.Asks.Adding.{Made, made, new_key, over_match, Place, place_of, Updated}
 use Rattle.krs_model.specs.Asks.Changing.{is_updatable, updated}
-use Rattle.krs_model.specs.Asks.Adding.{admitted, Place, Updated, Made, if_room, over_match, by_match, place_of}
-use Rattle.krs_model.specs.Asks.Adding.{first_content, new_key, made, added, added_serial, added_in, add}
-use Rattle.krs_model.specs.Hiding.{Hiding, blind_content, blind_keys, blind, over}
-use Rattle.krs_model.proofs.Hiding.Over.{bound, after, given}
-use Rattle.krs_model.proofs.Hiding.Keys.{alter_blind, put_blind, seen}
-use Rattle.krs_model.proofs.Hiding.Lookups.{blind_found, look_up_blind, same_possessed}
-use Rattle.krs_model.proofs.Hiding.Accepted.{blind_done, accepted, paid_blind}
-use Rattle.krs_model.proofs.Hiding.Links.{same_ring_links, same_link_named, linking_blind, made_blind}
+use Rattle.krs_model.specs.Hiding.{blind, blind_content, blind_keys, Hiding, over}
+use Rattle.krs_model.specs.{Linking.{link_named, linking, ring_links}, Lookup.{context_of, look_up}, Making.made_for}
+use Rattle.krs_model.specs.{Outcome.Outcome, State.{Content, Key, Payload, State}, Table.{alter, at, put, Table}}
+use Rattle.krs_model.proofs.Hiding.{Accepted.{accepted, blind_done, paid_blind}, Keys.{alter_blind, put_blind, seen}}
+use Rattle.krs_model.proofs.Hiding.Links.{linking_blind, made_blind, same_link_named, same_ring_links}
+use Rattle.krs_model.proofs.Hiding.{Lookups.{blind_found, look_up_blind, same_possessed}, Over.{after, bound, given}}
 
 same_admitted :
     (type_name desc payload other : List ℕ) → ((kind : Kind) → paid kind other ≡ paid kind payload)

@@ -1,35 +1,19 @@
 -- What a client is told hangs on no payload that is hidden, but those that it reads.
-use Rattle.std.proofs.Common.{◌≡◌, ◌≢◌, ℕ, ◌==◌, List, [], ◌∷◌, map, Option, None, Some, Bool, true, false, cond}
-use Rattle.std.proofs.Common.{inl, inr, ⊎_elim, ◌⊎◌, Result, Ok, Err, filter, refl, ap, ◌∙◌, sym, subst, arith}
-use Rattle.std.specs.Prelude.{IsOk}
-use Rattle.std.proofs.lemmas.Bool.{true≢false}
-use Rattle.std.proofs.lemmas.Bool.Decides.{nat_tests}
-use Rattle.krs_types.specs.declared.errno.Errno.{Errno}
-use Rattle.krs_types.specs.declared.errno.Errno.TheVariants.{ENOMEM}
-use Rattle.krs_types.specs.declared.kind.Kind.{Kind}
-use Rattle.krs_types.specs.declared.kind.Kind.TheVariants.{User, Logon, Keyring}
-use Rattle.krs_types.specs.declared.context.Context.{Context}
-use Rattle.krs_types.specs.declared.ask.Ask.{Ask}
-use Rattle.krs_types.specs.declared.ask.Answer.{Answer}
-use Rattle.krs_types.specs.declared.ask.Answer.TheVariants.{Bytes}
-use Rattle.krs_types.specs.declared.ask.Op.{Op}
-use Rattle.krs_types.specs.declared.ask.Op.TheVariants.{Read}
-use Rattle.krs_types.specs.declared.event.Event.{Event}
+use Rattle.std.proofs.Common.{[], ⊎_elim, ◌==◌, ◌∙◌, ◌∷◌, ◌≡◌, ◌≢◌, ◌⊎◌, ap, arith, Bool, cond, Err, false, filter, inl}
+use Rattle.std.proofs.Common.{inr, IsOk, List, map, None, Ok, Option, refl, Result, Some, subst, sym, true, true≢false}
+use Rattle.std.proofs.{Common.ℕ, lemmas.Bool.Decides.nat_tests}
 use Rattle.krs_types.specs.Refusing.{◌>>=◌}
-use Rattle.krs_model.specs.Table.{Table, at}
-use Rattle.krs_model.specs.State.{State, Key, raised}
-use Rattle.krs_model.specs.Lookup.{context_of, serial_of}
-use Rattle.krs_model.specs.Notes.Telling.{named}
-use Rattle.krs_model.specs.Step.{Step}
-use Rattle.krs_model.specs.History.{IsLegal}
-use Rattle.krs_model.specs.Hiding.{Hiding, Hides, blind_keys, blind, blind_ask, told_of, told, told_at, blind_answer}
-use Rattle.krs_model.specs.Hiding.{over, blind_event, IsBlinded, NoEvents, FurtherEvents}
-use Rattle.krs_model.specs.Secrecy.{is_read, IsRead, DifferInReads, is_wanting, asked, AreAskedAlike, ReadsShown}
-use Rattle.krs_model.specs.Secrecy.{replies_to, TellsNoUnread, KeepsSecrets}
-use Rattle.krs_model.proofs.History.Determined.{one_history, one_reply, one_step}
-use Rattle.krs_model.proofs.History.Revocations.{read_of_key}
-use Rattle.krs_model.proofs.Hiding.Keys.{seen}
-use Rattle.krs_model.proofs.Hiding.Steps.{step_blind, blinded_legal}
+use Rattle.krs_types.specs.declared.ask.{Answer.{Answer, TheVariants.Bytes}, Ask.Ask, Op.{Op, TheVariants.Read}}
+use Rattle.krs_types.specs.declared.{context.Context.Context, errno.Errno.{Errno, TheVariants.ENOMEM}}
+use Rattle.krs_types.specs.declared.{event.Event.Event, kind.Kind.{Kind, TheVariants.{Keyring, Logon, User}}}
+use Rattle.krs_model.specs.Hiding.{blind, blind_answer, blind_ask, blind_event, blind_keys, FurtherEvents, Hides}
+use Rattle.krs_model.specs.Hiding.{Hiding, IsBlinded, NoEvents, over, told, told_at, told_of}
+use Rattle.krs_model.specs.{History.IsLegal, Lookup.{context_of, serial_of}, Notes.Telling.named}
+use Rattle.krs_model.specs.Secrecy.{AreAskedAlike, asked, DifferInReads, is_read, is_wanting, IsRead, KeepsSecrets}
+use Rattle.krs_model.specs.Secrecy.{ReadsShown, replies_to, TellsNoUnread}
+use Rattle.krs_model.specs.{State.{Key, raised, State}, Step.Step, Table.{at, Table}}
+use Rattle.krs_model.proofs.Hiding.{Keys.seen, Steps.{blinded_legal, step_blind}}
+use Rattle.krs_model.proofs.History.{Determined.{one_history, one_reply, one_step}, Revocations.read_of_key}
 
 wanting_is : (reply : Result Answer Errno) → is_wanting reply ≡ true → reply ≡ Err ENOMEM
 wanting_is (Ok answer) h = absurd (true≢false (sym h))

@@ -1,24 +1,12 @@
 -- A key that was found, with the payloads hidden.
-use Rattle.std.proofs.Common.{◌≡◌, ℕ, Bool, cond}
-use Rattle.std.proofs.Common.{Result, Ok, Err, refl, ap, ◌∙◌}
-use Rattle.krs_types.specs.declared.errno.Errno.{Errno}
-use Rattle.krs_types.specs.declared.errno.Errno.TheVariants.{ENOKEY, EACCES}
-use Rattle.krs_types.specs.declared.context.Context.{Context}
-use Rattle.krs_types.specs.declared.ask.Answer.TheVariants.{Number}
-use Rattle.krs_types.specs.Rights.{has_all, LINK}
-use Rattle.krs_types.specs.Refusing.{◌>>=◌, or_refuse}
-use Rattle.krs_model.specs.Table.{at}
-use Rattle.krs_model.specs.State.{State, Key}
-use Rattle.krs_model.specs.Access.{rights_on}
-use Rattle.krs_model.specs.Possession.{possessed}
-use Rattle.krs_model.specs.Outcome.{Outcome}
-use Rattle.krs_model.specs.Asks.Finding.{if_linkable, found_into, found_alone}
-use Rattle.krs_model.specs.Asks.Linked.{linked_into}
-use Rattle.krs_model.specs.Hiding.{Hiding, blind_key, blind, over}
-use Rattle.krs_model.proofs.Hiding.Over.{bound, after, either}
-use Rattle.krs_model.proofs.Hiding.Lookups.{blind_found, there_blind, same_possessed}
-use Rattle.krs_model.proofs.Hiding.Accepted.{blind_done, accepted}
-use Rattle.krs_model.proofs.Hiding.Links.{linked_into_blind}
+use Rattle.std.proofs.Common.{◌∙◌, ◌≡◌, ap, Bool, cond, Err, Ok, refl, Result, ℕ}
+use Rattle.krs_types.specs.{Refusing.{◌>>=◌, or_refuse}, Rights.{has_all, LINK}, declared.ask.Answer.TheVariants.Number}
+use Rattle.krs_types.specs.declared.{context.Context.Context, errno.Errno.{Errno, TheVariants.{EACCES, ENOKEY}}}
+use Rattle.krs_model.specs.{Access.rights_on, Asks.Finding.{found_alone, found_into, if_linkable}}
+use Rattle.krs_model.specs.{Asks.Linked.linked_into, Hiding.{blind, blind_key, Hiding, over}, Outcome.Outcome}
+use Rattle.krs_model.specs.{Possession.possessed, State.{Key, State}, Table.at}
+use Rattle.krs_model.proofs.Hiding.{Accepted.{accepted, blind_done}, Links.linked_into_blind}
+use Rattle.krs_model.proofs.Hiding.{Lookups.{blind_found, same_possessed, there_blind}, Over.{after, bound, either}}
 
 -- SEARCH and REQUEST
 linkable_blind : (hide : Hiding) (s : State) (c : Context) (serial : ℕ) (key : Key)

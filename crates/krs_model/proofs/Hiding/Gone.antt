@@ -1,22 +1,14 @@
 -- The payload of a key that is gone is told to nobody.
-use Rattle.std.proofs.Common.{◌≡◌, ℕ, List, [], ◌∷◌, ◌++◌, Option, Some, None, true}
-use Rattle.std.proofs.Common.{refl, ap, ◌∙◌, sym, subst}
+use Rattle.std.proofs.Common.{[], ◌++◌, ◌∙◌, ◌∷◌, ◌≡◌, ap, List, None, Option, refl, Some, subst, sym, true, ℕ}
 use mathlib.Core.Logic.{dite}
 use native.Mathlib.Decide.{ℕ_discrete}
-use Rattle.krs_types.specs.declared.ask.Op.TheVariants.{Revoke, Read}
-use Rattle.krs_types.specs.declared.event.Event.{Event}
-use Rattle.krs_model.specs.Table.{at, IsBelow}
-use Rattle.krs_model.specs.State.{State, Key, raised}
-use Rattle.krs_model.specs.Step.{Step}
-use Rattle.krs_model.specs.History.{IsLegal}
-use Rattle.krs_model.specs.Revocation.{Revokes}
-use Rattle.krs_model.specs.Hiding.{Hiding, IsBlinded, NoEvents, FurtherEvents}
-use Rattle.krs_model.specs.Secrecy.{IsGone, TellsNobody}
-use Rattle.krs_model.proofs.History.Determined.{one_history}
-use Rattle.krs_model.proofs.History.Revocations.{IsSpent, spent_follows, revoke_spends, read_is_not_spent, accepted_came}
-use Rattle.krs_model.proofs.Asks.Later.{is_gone}
-use Rattle.krs_model.proofs.Asks.LaterByStep.{raised_follows, swept_follows, legal_follows}
+use Rattle.krs_types.specs.declared.{ask.Op.TheVariants.{Read, Revoke}, event.Event.Event}
+use Rattle.krs_model.specs.{Hiding.{FurtherEvents, Hiding, IsBlinded, NoEvents}, History.IsLegal, Revocation.Revokes}
+use Rattle.krs_model.specs.{Secrecy.{IsGone, TellsNobody}, State.{Key, raised, State}, Step.Step, Table.{at, IsBelow}}
+use Rattle.krs_model.proofs.Asks.{Later.is_gone, LaterByStep.{legal_follows, raised_follows, swept_follows}}
 use Rattle.krs_model.proofs.Hiding.Clients.{tells_no_unread}
+use Rattle.krs_model.proofs.History.{Determined.one_history, Revocations.accepted_came}
+use Rattle.krs_model.proofs.History.Revocations.{IsSpent, read_is_not_spent, revoke_spends, spent_follows}
 
 gone_if : (o : Option Key) → ((key : Key) → o ≡ Some key → key.revoked ≡ true) → is_gone o ≡ true
 gone_if None gone = refl

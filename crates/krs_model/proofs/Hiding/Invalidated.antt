@@ -1,34 +1,19 @@
 -- The key of an accepted INVALIDATE is gone: nothing holds it, and the sweep takes it.
-use Rattle.std.proofs.Common.{◌≡◌, ℕ, ℤ, ◌<◌, ◌≤◌, ◌==◌, List, [], ◌∷◌, ◌++◌, Option, Some, None, Bool, true, false, not, ◌||◌}
-use Rattle.std.proofs.Common.{cond, filter, Ok, refl, ap, ◌∙◌, sym, subst, ⊎_elim, arith}
-use Rattle.std.specs.Prelude.{IsSome}
-use Rattle.std.specs.Option.{option_map, option_to_list}
-use Rattle.std.proofs.lemmas.Bool.{true≢false}
-use Rattle.krs_types.specs.declared.ask.Answer.{Answer}
-use Rattle.krs_types.specs.declared.ask.Answer.TheVariants.{Nothing}
-use Rattle.krs_types.specs.declared.ask.Op.TheVariants.{Invalidate}
-use Rattle.krs_types.specs.declared.event.Event.{Event}
-use Rattle.krs_types.specs.declared.rights.Want.TheVariants.{Granted}
-use Rattle.krs_types.specs.Rights.{SEARCH}
-use Rattle.krs_model.specs.Table.{Table, at, IsBelow, map_values}
-use Rattle.krs_model.specs.State.{State, Key, Content, Payload, Links, raised}
-use Rattle.krs_model.specs.Levels.{is_in}
-use Rattle.krs_model.specs.Possession.{links_of_content}
-use Rattle.krs_model.specs.Outcome.{Outcome}
-use Rattle.krs_model.specs.Step.{Step}
-use Rattle.krs_model.specs.Sweep.{roots, links_of_key, context_roots, process_roots, uid_roots, IsHeld, Attached, Linked}
-use Rattle.krs_model.specs.Sweep.{IsSweep}
+use Rattle.std.proofs.Common.{[], ⊎_elim, ◌++◌, ◌<◌, ◌==◌, ◌||◌, ◌∙◌, ◌∷◌, ◌≡◌, ◌≤◌, ap, arith, Bool, cond, false}
+use Rattle.std.proofs.Common.{filter, IsSome, List, None, not, Ok, Option, option_map, option_to_list, refl, Some}
+use Rattle.std.proofs.Common.{subst, sym, true, true≢false, ℕ, ℤ}
+use Rattle.krs_types.specs.{Rights.SEARCH, declared.ask.Answer.{Answer, TheVariants.Nothing}}
+use Rattle.krs_types.specs.declared.{ask.Op.TheVariants.Invalidate, event.Event.Event, rights.Want.TheVariants.Granted}
+use Rattle.krs_model.specs.Asks.Invalidating.{context_without, detached, invalidate, invalidated, rings_without}
 use Rattle.krs_model.specs.Asks.Linked.{unlinked_content, without_link}
-use Rattle.krs_model.specs.Asks.Invalidating.{detached, context_without, rings_without, invalidated, invalidate}
-use Rattle.krs_model.specs.Revocation.{IsServed}
-use Rattle.krs_model.specs.Secrecy.{IsGone}
-use Rattle.krs_model.proofs.Tables.Changes.{at_map, at_kept}
-use Rattle.krs_model.proofs.Reach.Levels.{in_one}
-use Rattle.krs_model.proofs.Sound.Attached.{attachments, context_keys, uid_keys, attached_by}
-use Rattle.krs_model.proofs.History.Revocations.{Finds, accepted_finds, accepted_came, one_named, given_serial}
-use Rattle.krs_model.proofs.Asks.Later.{is_gone, same_state}
-use Rattle.krs_model.proofs.Asks.LaterByStep.{swept_follows}
-use Rattle.krs_model.proofs.Hiding.Gone.{gone_of}
+use Rattle.krs_model.specs.{Levels.is_in, Outcome.Outcome, Possession.links_of_content, Revocation.IsServed}
+use Rattle.krs_model.specs.{Secrecy.IsGone, State.{Content, Key, Links, Payload, raised, State}, Step.Step}
+use Rattle.krs_model.specs.Sweep.{Attached, context_roots, IsHeld, IsSweep, Linked, links_of_key, process_roots, roots}
+use Rattle.krs_model.specs.{Sweep.uid_roots, Table.{at, IsBelow, map_values, Table}}
+use Rattle.krs_model.proofs.{Asks.{Later.{is_gone, same_state}, LaterByStep.swept_follows}, Hiding.Gone.gone_of}
+use Rattle.krs_model.proofs.History.Revocations.{accepted_came, accepted_finds, Finds, given_serial, one_named}
+use Rattle.krs_model.proofs.{Reach.Levels.in_one, Sound.Attached.{attached_by, attachments, context_keys, uid_keys}}
+use Rattle.krs_model.proofs.Tables.Changes.{at_kept, at_map}
 
 detached_out : (serial : ℕ) (o : Option ℕ) → is_in serial (option_to_list (detached serial o)) ≡ true → ⊥
 detached_out serial None h = true≢false (sym h)

@@ -1,15 +1,11 @@
 -- The keys with their payloads hidden: what is at a serial, and what a change of them is.
-use Rattle.std.proofs.Common.{◌≡◌, ℕ, [], ◌∷◌, Option, Some, None, Bool, true, false, cond, filter, refl, ap, ◌∙◌}
-use Rattle.std.proofs.Common.{sym, subst}
-use Rattle.std.specs.Option.{option_map}
-use Rattle.std.specs.Ordering.{nat_cmp, match_ordering}
-use Rattle.std.specs.declared.cmp.Ordering.TheVariants.{Less, Equal, Greater}
-use Rattle.std.specs.Cmp.{ranked}
+use Rattle.std.proofs.Common.{[], ◌∙◌, ◌∷◌, ◌≡◌, ap, Bool, cond, false, filter, nat_cmp, None, Option, option_map, refl}
+use Rattle.std.proofs.Common.{Some, subst, sym, true, ℕ}
 use Rattle.std.specs.BTreeMap.{is_at}
-use Rattle.krs_model.specs.Table.{Table, at, alter, put, map_values}
-use Rattle.krs_model.specs.State.{Key}
+use Rattle.std.specs.{Cmp.ranked, Ordering.match_ordering, declared.cmp.Ordering.TheVariants.{Equal, Greater, Less}}
+use Rattle.krs_model.specs.Hiding.{blind_key, blind_keys, Hiding}
+use Rattle.krs_model.specs.{State.Key, Table.{alter, at, map_values, put, Table}}
 use Rattle.krs_model.proofs.Tables.Changes.{same_at}
-use Rattle.krs_model.specs.Hiding.{Hiding, blind_key, blind_keys}
 
 pub at_blind : (hide : Hiding) (es : Table Key) (k : ℕ)
     → at (blind_keys hide es) k ≡ option_map (blind_key (hide k)) (at es k)

@@ -1,35 +1,21 @@
 -- Links, and keyrings that asks make, with the payloads hidden.
-use Rattle.std.proofs.Common.{◌≡◌, ℕ, suc, ℤ, ◌&&◌, List, [], ◌∷◌, Option, Some, None, Bool}
-use Rattle.std.proofs.Common.{Result, Ok, Err, refl, ap, ◌∙◌, length, filter}
-use Rattle.std.specs.List.{find}
-use Rattle.std.specs.Prelude.{codes}
-use Rattle.krs_types.specs.declared.errno.Errno.{Errno}
-use Rattle.krs_types.specs.declared.errno.Errno.TheVariants.{EPERM, ENOSPC, EDEADLK, ELOOP}
-use Rattle.krs_types.specs.declared.context.Context.{Context}
+use Rattle.std.proofs.Common.{[], ◌&&◌, ◌∙◌, ◌∷◌, ◌≡◌, ap, Bool, codes, Err, filter, find, length, List, nat_lt, None}
+use Rattle.std.proofs.Common.{Ok, Option, refl, Result, Some, suc, ℕ, ℤ}
+use Rattle.krs_types.specs.{KeyId.key_id_of, Refusing.◌>>=◌, declared.{context.Context.Context, errno.Errno.Errno}}
+use Rattle.krs_types.specs.declared.{errno.Errno.TheVariants.{EDEADLK, ELOOP, ENOSPC, EPERM}, key_id.KeyId.KeyId}
+use Rattle.krs_types.specs.declared.key_id.KeyId.TheVariants.{Process, Serial, Session, Thread, User, UserSession}
 use Rattle.krs_types.specs.declared.name.Name.{Name}
-use Rattle.krs_types.specs.declared.key_id.KeyId.{KeyId}
-use Rattle.krs_types.specs.declared.key_id.KeyId.TheVariants.{Serial, Thread, Process, Session, User, UserSession}
-use Rattle.krs_types.specs.KeyId.{key_id_of}
-use Rattle.krs_types.specs.Refusing.{◌>>=◌}
-use Rattle.krs_model.specs.Table.{Table, at}
-use Rattle.krs_model.specs.State.{State, Key, Content, Payload, Links}
-use Rattle.krs_model.specs.Levels.{level, levels, is_in}
-use Rattle.krs_model.specs.Possession.{process_ring}
-use Rattle.krs_model.specs.Sweep.{links_of_key}
-use Rattle.krs_model.specs.Reach.{links_of_key_at, closes, is_ring, is_some_in, has_chain, nesting_depth}
-use Rattle.krs_model.specs.Linking.{is_named, ring_links, link_named, linked_content, linking, has_room}
-use Rattle.krs_model.specs.Making.{with_thread, with_process, thread_to, thread_made, process_made, made_at, made_for}
-use Rattle.krs_model.specs.Making.{within_serials, special_ring}
-use Rattle.krs_model.specs.Outcome.{Outcome}
-use Rattle.krs_model.specs.Asks.Changing.{changed}
-use Rattle.krs_model.specs.Asks.Linked.{name_of, unless, nestable, link_check, linked_into}
-use Rattle.krs_model.specs.Asks.Linked.{without_link, unlinked_content}
-use Rattle.krs_model.specs.Hiding.{Hiding, blind_content, blind_key, blind_keys, blind, over}
-use Rattle.krs_model.proofs.Hiding.Over.{after, either}
-use Rattle.krs_model.proofs.Hiding.Keys.{alter_blind, put_blind, seen}
-use Rattle.krs_model.proofs.Hiding.Lookups.{same_links, blind_found}
-use Rattle.krs_model.proofs.Hiding.Accepted.{blind_done}
-use Rattle.std.proofs.Common.{nat_lt}
+use Rattle.krs_model.specs.Asks.{Changing.changed, Linked.link_check}
+use Rattle.krs_model.specs.Asks.Linked.{linked_into, name_of, nestable, unless, unlinked_content, without_link}
+use Rattle.krs_model.specs.Hiding.{blind, blind_content, blind_key, blind_keys, Hiding, over}
+use Rattle.krs_model.specs.Levels.{is_in, level, levels}
+use Rattle.krs_model.specs.Linking.{has_room, is_named, link_named, linked_content, linking, ring_links}
+use Rattle.krs_model.specs.Making.{made_at, made_for, process_made, special_ring, thread_made, thread_to, with_process}
+use Rattle.krs_model.specs.{Making.{with_thread, within_serials}, Outcome.Outcome, Possession.process_ring}
+use Rattle.krs_model.specs.Reach.{closes, has_chain, is_ring, is_some_in, links_of_key_at, nesting_depth}
+use Rattle.krs_model.specs.{State.{Content, Key, Links, Payload, State}, Sweep.links_of_key, Table.{at, Table}}
+use Rattle.krs_model.proofs.Hiding.{Accepted.blind_done, Keys.{alter_blind, put_blind, seen}}
+use Rattle.krs_model.proofs.Hiding.{Lookups.{blind_found, same_links}, Over.{after, either}}
 
 -- a keyring links what it did
 pub same_ring_links : (h : List ℕ → List ℕ) (content : Content)

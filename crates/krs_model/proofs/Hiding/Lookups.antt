@@ -1,22 +1,14 @@
 -- What is possessed, and what an id names, with the payloads hidden.
-use Rattle.std.proofs.Common.{◌≡◌, ℕ, ℤ, List, [], Option, Some, None, Bool, cond, Result, Ok}
-use Rattle.std.proofs.Common.{Err, refl, ap, ◌∙◌}
-use Rattle.std.specs.Option.{option_map}
-use Rattle.krs_types.specs.declared.errno.Errno.{Errno}
-use Rattle.krs_types.specs.declared.errno.Errno.TheVariants.{ENOKEY, EKEYREVOKED, EKEYEXPIRED, EACCES}
-use Rattle.krs_types.specs.declared.context.Context.{Context}
+use Rattle.std.proofs.Common.{[], ◌∙◌, ◌≡◌, ap, Bool, cond, Err, List, None, Ok, Option, option_map, refl, Result, Some}
+use Rattle.std.proofs.Common.{ℕ, ℤ}
+use Rattle.krs_types.specs.{Refusing.{◌>>=◌, or_refuse}, Rights.allows, declared.context.Context.Context}
+use Rattle.krs_types.specs.declared.errno.Errno.{Errno, TheVariants.{EACCES, EKEYEXPIRED, EKEYREVOKED, ENOKEY}}
 use Rattle.krs_types.specs.declared.rights.Want.{Want}
-use Rattle.krs_types.specs.Rights.{allows}
-use Rattle.krs_types.specs.Refusing.{◌>>=◌, or_refuse}
-use Rattle.krs_model.specs.Table.{at}
-use Rattle.krs_model.specs.State.{State, Key, Content, Payload, Links}
-use Rattle.krs_model.specs.Access.{is_over, rights_on}
-use Rattle.krs_model.specs.Levels.{levels, is_in}
-use Rattle.krs_model.specs.Possession.{attached, links_of_content, is_followed, followed, followed_in, possessed}
-use Rattle.krs_model.specs.Lookup.{serial_of, if_usable, look_up}
-use Rattle.krs_model.specs.Hiding.{Hiding, blind_content, blind_key, blind, over}
-use Rattle.krs_model.proofs.Hiding.Over.{bound, after, either}
-use Rattle.krs_model.proofs.Hiding.Keys.{at_blind, seen}
+use Rattle.krs_model.specs.{Access.{is_over, rights_on}, Hiding.{blind, blind_content, blind_key, Hiding, over}}
+use Rattle.krs_model.specs.{Levels.{is_in, levels}, Lookup.{if_usable, look_up, serial_of}}
+use Rattle.krs_model.specs.Possession.{attached, followed, followed_in, is_followed, links_of_content, possessed}
+use Rattle.krs_model.specs.{State.{Content, Key, Links, Payload, State}, Table.at}
+use Rattle.krs_model.proofs.Hiding.{Keys.{at_blind, seen}, Over.{after, bound, either}}
 
 -- a content links what it did
 pub same_links : (h : List ℕ → List ℕ) (content : Content)

@@ -1,32 +1,17 @@
 -- Each legal history has others that are asked alike.
-use Rattle.std.proofs.Common.{◌≡◌, ℕ, ℤ, List, [], ◌∷◌, Option, Some, None, Bool, true, false, cond, Result, Ok, Err}
-use Rattle.std.proofs.Common.{refl, ap, ◌∙◌, sym, subst, ◌&&◌, length}
-use Rattle.std.specs.Prelude.{nat_le}
-use Rattle.std.specs.Option.{option_map}
-use Rattle.krs_types.specs.declared.errno.Errno.{Errno}
-use Rattle.krs_types.specs.declared.errno.Errno.TheVariants.{EINVAL}
-use Rattle.krs_types.specs.declared.kind.Kind.{Kind}
-use Rattle.krs_types.specs.declared.kind.Kind.TheVariants.{User, Logon, Keyring}
-use Rattle.krs_types.specs.declared.ask.Answer.{Answer}
-use Rattle.krs_types.specs.declared.ask.Answer.TheVariants.{Bytes}
-use Rattle.krs_types.specs.declared.ask.Op.{Op}
-use Rattle.krs_types.specs.declared.ask.Op.TheVariants.{Add, Update, Read}
-use Rattle.krs_types.specs.declared.event.Event.{Event}
-use Rattle.krs_types.specs.Kind.{paid}
-use Rattle.krs_model.specs.Table.{Table, at}
-use Rattle.krs_model.specs.State.{State, Key, Content, Payload, Links, raised}
+use Rattle.std.proofs.Common.{[], ◌&&◌, ◌∙◌, ◌∷◌, ◌≡◌, ap, Bool, cond, Err, false, length, List, nat_le, None, Ok}
+use Rattle.std.proofs.Common.{Option, option_map, refl, Result, Some, subst, sym, true, ℕ, ℤ}
+use Rattle.krs_types.specs.{Kind.paid, declared.ask.{Answer.{Answer, TheVariants.Bytes}, Op.Op}}
+use Rattle.krs_types.specs.declared.{ask.Op.TheVariants.{Add, Read, Update}, errno.Errno.{Errno, TheVariants.EINVAL}}
+use Rattle.krs_types.specs.declared.{event.Event.Event, kind.Kind.{Kind, TheVariants.{Keyring, Logon, User}}}
+use Rattle.krs_model.specs.{Asks.Adding.add, Hiding.{blind, blind_answer, blind_ask, blind_content, blind_event}}
+use Rattle.krs_model.specs.Hiding.{blind_key, blind_keys, blind_outcome, blind_reply, FurtherEvents, hidden_added}
+use Rattle.krs_model.specs.Hiding.{hidden_at, Hiding, hiding, IsBlinded, NoEvents, serial_in, told, told_at, told_of}
 use Rattle.krs_model.specs.Lookup.{context_of, serial_of}
-use Rattle.krs_model.specs.Outcome.{Outcome}
-use Rattle.krs_model.specs.Asks.Adding.{add}
-use Rattle.krs_model.specs.Notes.Telling.{named}
-use Rattle.krs_model.specs.Hiding.{Hiding, hiding, blind_content, blind_key, blind_keys, blind, hidden_at}
-use Rattle.krs_model.specs.Hiding.{hidden_added, serial_in, blind_ask, told_of, told, told_at, blind_answer}
-use Rattle.krs_model.specs.Hiding.{blind_reply, blind_outcome, blind_event, IsBlinded, NoEvents, FurtherEvents}
-use Rattle.krs_model.specs.Secrecy.{Changes, putting, HasOthers}
+use Rattle.krs_model.specs.{Notes.Telling.named, Outcome.Outcome, Secrecy.{Changes, HasOthers, putting}}
+use Rattle.krs_model.specs.{State.{Content, Key, Links, Payload, raised, State}, Table.{at, Table}}
 use Rattle.krs_model.proofs.Hiding.Keys.{at_blind}
-use Rattle.krs_model.proofs.Hiding.Outcomes.{outcome_blind}
-use Rattle.krs_model.proofs.Hiding.Steps.{step_blind, history_blinded}
-use Rattle.krs_model.proofs.Hiding.Sets.{not_empty}
+use Rattle.krs_model.proofs.Hiding.{Outcomes.outcome_blind, Sets.not_empty, Steps.{history_blinded, step_blind}}
 
 -- What is changed and then hidden is hidden as if it weren't changed.
 

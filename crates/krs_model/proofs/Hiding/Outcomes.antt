@@ -1,10 +1,7 @@
 -- What each ask comes to with the payloads hidden.
 use Rattle.std.proofs.Common.{◌≡◌, ℕ}
 use Rattle.krs_types.specs.declared.ask.Op.{Op}
-use Rattle.krs_model.specs.State.{State}
-use Rattle.krs_model.specs.Step.{outcome_of}
-use Rattle.krs_model.specs.Hiding.{Hiding, Hides, blind, blind_ask}
-use Rattle.krs_model.specs.Hiding.{blind_outcome}
+use Rattle.krs_model.specs.{Hiding.{blind, blind_ask, blind_outcome, Hides, Hiding}, State.State, Step.outcome_of}
 use Rattle.krs_model.proofs.Asks.Laws.{law_of}
 
 -- what an ask comes to with the payloads hidden is what it comes to, with the payloads hidden

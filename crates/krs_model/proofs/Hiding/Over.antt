@@ -1,7 +1,6 @@
 -- Results seen through a function, step by step.
-use Rattle.std.proofs.Common.{◌≡◌, Bool, true, false, cond, Result, Ok, Err, refl}
-use Rattle.krs_types.specs.declared.errno.Errno.{Errno}
-use Rattle.krs_types.specs.Refusing.{◌>>=◌}
+use Rattle.std.proofs.Common.{◌≡◌, Bool, cond, Err, false, Ok, refl, Result, true}
+use Rattle.krs_types.specs.{Refusing.◌>>=◌, declared.errno.Errno.Errno}
 use Rattle.krs_model.specs.Hiding.{over}
 
 -- a step after a result that is seen through g

@@ -1,27 +1,14 @@
 -- Who may read a key: what an accepted READ has found.
-use Rattle.std.proofs.Common.{◌≡◌, ◌≢◌, ◌⊎◌, inl, inr, ℕ, ℤ, ◌&&◌, ◌||◌, List, Bool, true, false, Ok, refl}
-use Rattle.std.proofs.Common.{subst}
-use Rattle.krs_types.specs.declared.kind.Kind.{Kind}
-use Rattle.krs_types.specs.declared.kind.Kind.TheVariants.{User, Logon, Keyring}
-use Rattle.krs_types.specs.declared.context.Context.{Context}
-use Rattle.krs_types.specs.declared.rights.Want.TheVariants.{ToRead}
-use Rattle.krs_types.specs.declared.ask.Answer.{Answer}
-use Rattle.krs_types.specs.declared.ask.Answer.TheVariants.{Bytes}
-use Rattle.krs_types.specs.declared.ask.Op.TheVariants.{Read}
-use Rattle.krs_types.specs.Rights.{has_all, READ, SEARCH}
+use Rattle.std.proofs.Common.{◌&&◌, ◌||◌, ◌≡◌, ◌≢◌, ◌⊎◌, Bool, false, inl, inr, List, Ok, refl, subst, true, ℕ, ℤ}
 use Rattle.krs_types.specs.Refusing.{◌>>=◌}
-use Rattle.krs_model.specs.State.{State, Key, Content, raised}
-use Rattle.krs_model.specs.Access.{rights_on}
-use Rattle.krs_model.specs.Possession.{possessed}
-use Rattle.krs_model.specs.Lookup.{context_of, serial_of, look_up}
-use Rattle.krs_model.specs.Outcome.{Outcome}
-use Rattle.krs_model.specs.Revocation.{Names}
-use Rattle.krs_model.specs.Secrecy.{MayBeRead, ReadsByRight}
-use Rattle.krs_model.specs.Asks.Reading.{read, readable}
-use Rattle.krs_model.proofs.Asks.Later.{same_ok, bind_ok}
-use Rattle.krs_model.proofs.Lookups.Laws.{look_up_usable}
-use Rattle.krs_model.proofs.Lookups.Serials.{found_serial}
-use Rattle.krs_model.proofs.History.Revocations.{accepted_came}
+use Rattle.krs_types.specs.{Rights.{has_all, READ, SEARCH}, declared.ask.Answer.{Answer, TheVariants.Bytes}}
+use Rattle.krs_types.specs.declared.{ask.Op.TheVariants.Read, context.Context.Context, kind.Kind.Kind}
+use Rattle.krs_types.specs.declared.{kind.Kind.TheVariants.{Keyring, Logon, User}, rights.Want.TheVariants.ToRead}
+use Rattle.krs_model.specs.{Access.rights_on, Asks.Reading.{read, readable}, Lookup.{context_of, look_up, serial_of}}
+use Rattle.krs_model.specs.{Outcome.Outcome, Possession.possessed, Revocation.Names, Secrecy.{MayBeRead, ReadsByRight}}
+use Rattle.krs_model.specs.State.{Content, Key, raised, State}
+use Rattle.krs_model.proofs.Asks.Later.{bind_ok, same_ok}
+use Rattle.krs_model.proofs.{History.Revocations.accepted_came, Lookups.{Laws.look_up_usable, Serials.found_serial}}
 
 not_logon : (kind : Kind) (content : Content) (bytes : List ℕ) → readable kind content ≡ Ok bytes → kind ≢ Logon
 not_logon User content bytes h = λ is. absurd (cc)

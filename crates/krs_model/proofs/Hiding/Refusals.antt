@@ -1,22 +1,11 @@
 -- A refusal does not hang on a payload.
-use Rattle.std.proofs.Common.{◌≡◌, ℕ, ℤ, List, [], ◌∷◌, Result, Ok, Err, refl, ap, ◌∙◌, sym}
-use Rattle.krs_types.specs.declared.errno.Errno.{Errno}
-use Rattle.krs_types.specs.declared.kind.Kind.{Kind}
-use Rattle.krs_types.specs.Kind.{paid}
-use Rattle.krs_types.specs.declared.rights.Want.TheVariants.{Granted}
-use Rattle.krs_types.specs.Rights.{WRITE}
-use Rattle.krs_types.specs.Refusing.{◌>>=◌}
-use Rattle.krs_types.specs.declared.ask.Answer.{Answer}
-use Rattle.krs_types.specs.declared.ask.Answer.TheVariants.{Nothing}
-use Rattle.krs_model.specs.Table.{Table}
-use Rattle.krs_model.specs.State.{State, Key, Content, Payload, Links}
-use Rattle.krs_model.specs.Lookup.{context_of, look_up}
-use Rattle.krs_model.specs.Outcome.{Outcome}
-use Rattle.krs_model.specs.Asks.Adding.{add}
-use Rattle.krs_model.specs.Asks.Changing.{changed, update, updated, updatable}
-use Rattle.krs_model.specs.Hiding.{Hiding, blind_content, blind_keys, blind, over}
-use Rattle.krs_model.proofs.Hiding.Accepted.{blind_done, accepted}
-use Rattle.krs_model.proofs.Hiding.Adding.{IsHidden, add_blind}
+use Rattle.std.proofs.Common.{[], ◌∙◌, ◌∷◌, ◌≡◌, ap, Err, List, Ok, refl, Result, sym, ℕ, ℤ}
+use Rattle.krs_types.specs.{Kind.paid, Refusing.◌>>=◌, Rights.WRITE, declared.ask.Answer.{Answer, TheVariants.Nothing}}
+use Rattle.krs_types.specs.declared.{errno.Errno.Errno, kind.Kind.Kind, rights.Want.TheVariants.Granted}
+use Rattle.krs_model.specs.Asks.{Adding.add, Changing.{changed, updatable, update, updated}}
+use Rattle.krs_model.specs.{Hiding.{blind, blind_content, blind_keys, Hiding, over}, Lookup.{context_of, look_up}}
+use Rattle.krs_model.specs.{Outcome.Outcome, State.{Content, Key, Links, Payload, State}, Table.Table}
+use Rattle.krs_model.proofs.Hiding.{Accepted.{accepted, blind_done}, Adding.{add_blind, IsHidden}}
 
 -- what hides nothing
 abbrev bare : Hiding

@@ -1,20 +1,13 @@
 -- What a search finds with the payloads hidden.
-use Rattle.std.proofs.Common.{◌≡◌, ℕ, List, [], ◌∷◌, cond, not, flat_map, refl, ap, ◌∙◌}
-use Rattle.std.specs.List.{list_any, find}
-use Rattle.krs_types.specs.declared.context.Context.{Context}
-use Rattle.krs_types.specs.declared.name.Name.{Name}
-use Rattle.krs_types.specs.Refusing.{or_refuse}
-use Rattle.krs_model.specs.State.{State}
-use Rattle.krs_model.specs.Access.{is_over}
-use Rattle.krs_model.specs.Levels.{levels}
-use Rattle.krs_model.specs.Possession.{process_ring, attached_with, possessed}
-use Rattle.krs_model.specs.Search.{Searcher, searcher_with, grants_search, is_open, open_links, entered}
-use Rattle.krs_model.specs.Search.{searched, is_match}
-use Rattle.krs_model.specs.Search.{is_answer, is_revoked, is_expired, is_denied, fault, sought, found_by, found}
-use Rattle.krs_model.specs.Search.{requested_by, requested}
-use Rattle.krs_model.specs.Hiding.{Hiding, blind_keys, blind}
-use Rattle.krs_model.proofs.Hiding.Keys.{seen}
-use Rattle.krs_model.proofs.Hiding.Lookups.{same_links, same_possessed}
+use Rattle.std.proofs.Common.{[], ◌∙◌, ◌∷◌, ◌≡◌, ap, cond, find, flat_map, List, not, refl, ℕ}
+use Rattle.std.specs.List.{list_any}
+use Rattle.krs_types.specs.{Refusing.or_refuse, declared.{context.Context.Context, name.Name.Name}}
+use Rattle.krs_model.specs.{Access.is_over, Hiding.{blind, blind_keys, Hiding}, Levels.levels}
+use Rattle.krs_model.specs.Possession.{attached_with, possessed, process_ring}
+use Rattle.krs_model.specs.Search.{entered, fault, found, found_by, grants_search, is_answer, is_denied, is_expired}
+use Rattle.krs_model.specs.Search.{is_match, is_open, is_revoked, open_links, requested, requested_by, searched}
+use Rattle.krs_model.specs.{Search.{Searcher, searcher_with, sought}, State.State}
+use Rattle.krs_model.proofs.Hiding.{Keys.seen, Lookups.{same_links, same_possessed}}
 
 -- one who searches keys with their payloads hidden
 abbrev hid : Hiding → Searcher → Searcher

@@ -1,14 +1,8 @@
 -- To hide a set of keys is lawful.
-use Rattle.std.proofs.Common.{Result}
-use Rattle.std.proofs.Common.{◌≡◌, ℕ, ◌==◌, ◌&&◌, List, [], ◌∷◌, Bool, true, false, cond, Ok, Err, refl, ap}
-use Rattle.std.proofs.Common.{◌∙◌, sym, arith, length}
-use Rattle.std.specs.Prelude.{nat_le}
-use Rattle.std.proofs.lemmas.Bool.Decides.{nat_tests}
-use Rattle.krs_types.specs.declared.errno.Errno.{Errno}
-use Rattle.krs_types.specs.declared.errno.Errno.TheVariants.{EINVAL}
-use Rattle.krs_types.specs.declared.kind.Kind.{Kind}
-use Rattle.krs_types.specs.declared.kind.Kind.TheVariants.{User, Logon, Keyring}
-use Rattle.krs_types.specs.Kind.{paid}
+use Rattle.std.proofs.Common.{[], ◌&&◌, ◌==◌, ◌∙◌, ◌∷◌, ◌≡◌, ap, arith, Bool, cond, Err, false, length, List, nat_le}
+use Rattle.std.proofs.{Common.{Ok, refl, Result, sym, true, ℕ}, lemmas.Bool.Decides.nat_tests}
+use Rattle.krs_types.specs.{Kind.paid, declared.errno.Errno.{Errno, TheVariants.EINVAL}}
+use Rattle.krs_types.specs.declared.kind.Kind.{Kind, TheVariants.{Keyring, Logon, User}}
 use Rattle.krs_model.specs.Hiding.{Hides, hiding}
 
 pub not_empty : (n : ℕ) → (nat_le 1 n && nat_le n 32767) ≡ true → (n == 0) ≡ false

@@ -1,32 +1,17 @@
 -- Steps and histories with the payloads hidden.
-use Rattle.std.proofs.Common.{◌≡◌, ⊎_elim, inl, inr, ℕ, List, [], ◌∷◌, ◌++◌, Bool, cond, not, filter}
-use Rattle.std.proofs.Common.{Result, Ok, Err, refl, ap, ◌∙◌, sym, subst}
-use Rattle.std.specs.Prelude.{IsOk}
-use Rattle.krs_types.specs.declared.errno.Errno.{Errno}
-use Rattle.krs_types.specs.declared.ask.Answer.{Answer}
-use Rattle.krs_types.specs.declared.ask.Answer.TheVariants.{Nothing, Number, Bytes}
-use Rattle.krs_types.specs.declared.ask.Op.{Op}
-use Rattle.krs_types.specs.declared.ask.Op.TheVariants.{GetId, Add}
-use Rattle.krs_types.specs.declared.ask.Op.TheVariants.{Watch}
-use Rattle.krs_types.specs.declared.event.Event.{Event}
-use Rattle.krs_types.specs.declared.note.KeyEvent.TheVariants.{Updated, Linked}
-use Rattle.krs_types.specs.Growth.{grows}
-use Rattle.krs_model.specs.Table.{Table}
-use Rattle.krs_model.specs.State.{State, Key, raised}
+use Rattle.std.proofs.Common.{[], ⊎_elim, ◌++◌, ◌∙◌, ◌∷◌, ◌≡◌, ap, Bool, cond, Err, filter, inl, inr, IsOk, List, not}
+use Rattle.std.proofs.Common.{Ok, refl, Result, subst, sym, ℕ}
+use Rattle.krs_types.specs.{Growth.grows, declared.ask.Answer.{Answer, TheVariants.{Bytes, Nothing, Number}}}
+use Rattle.krs_types.specs.declared.ask.Op.{Op, TheVariants.{Add, GetId, Watch}}
+use Rattle.krs_types.specs.declared.{errno.Errno.Errno, event.Event.Event, note.KeyEvent.TheVariants.{Linked, Updated}}
+use Rattle.krs_model.specs.Hiding.{blind, blind_answer, blind_ask, blind_event, blind_keys, blind_outcome, blind_reply}
+use Rattle.krs_model.specs.{Hiding.{FurtherEvents, Hides, Hiding, IsBlinded, NoEvents}, History.IsLegal}
+use Rattle.krs_model.specs.{Lookup.{context_of, serial_of}, Notes.Posting.{dropped_watches, Post, posted_in, posts}}
+use Rattle.krs_model.specs.Notes.Telling.{about, about_added, about_link, ended_by, named, notes_of}
+use Rattle.krs_model.specs.{Outcome.Outcome, Queues.queues_of, State.{Key, raised, State}}
+use Rattle.krs_model.specs.{Step.{Ends, LacksMemory, outcome_of, posts_by, Serves, Step, watches_left}, Table.Table}
+use Rattle.krs_model.proofs.Hiding.{Outcomes.outcome_blind, Sweeps.{same_there, sweep_blind}}
 use Rattle.krs_model.specs.Queues as queues
-use Rattle.krs_model.specs.Queues.{queues_of}
-use Rattle.krs_model.specs.Lookup.{context_of, serial_of}
-use Rattle.krs_model.specs.Outcome.{Outcome}
-use Rattle.krs_model.specs.Notes.Posting.{Post, posts, dropped_watches, posted_in}
-use Rattle.krs_model.specs.Notes.Telling.{notes_of, ended_by, named, about, about_link, about_added}
-use Rattle.krs_model.specs.Step.{outcome_of, watches_left, posts_by, Serves, LacksMemory, Ends, Step}
-use Rattle.krs_model.specs.History.{IsLegal}
-use Rattle.krs_model.proofs.History.Determined.{one_history}
-use Rattle.krs_model.specs.Hiding.{Hiding, Hides, blind_keys, blind, blind_ask, blind_answer, blind_reply}
-use Rattle.krs_model.specs.Hiding.{blind_outcome}
-use Rattle.krs_model.specs.Hiding.{blind_event, IsBlinded, NoEvents, FurtherEvents}
-use Rattle.krs_model.proofs.Hiding.Sweeps.{same_there, sweep_blind}
-use Rattle.krs_model.proofs.Hiding.Outcomes.{outcome_blind}
 
 -- notes tell of serials alone
 added_notes : (hide : Hiding) (keys : Table Key) (ring : Result ℕ Errno) (answer : Answer)

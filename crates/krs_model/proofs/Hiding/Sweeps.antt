@@ -1,14 +1,9 @@
 -- The sweep with the payloads hidden: it looks at links alone.
-use Rattle.std.proofs.Common.{◌≡◌, ℕ, List, Option, Some, None, filter, refl, ap, ◌∙◌, sym, subst}
-use Rattle.std.specs.Prelude.{IsSome, is_some}
-use Rattle.std.specs.Option.{option_map}
-use Rattle.krs_model.specs.Table.{Table, at}
-use Rattle.krs_model.specs.State.{State, Key}
-use Rattle.krs_model.specs.Levels.{is_in}
-use Rattle.krs_model.specs.Sweep.{IsHeld, Attached, Linked, IsSweep, roots, live_watches}
-use Rattle.krs_model.specs.Hiding.{Hiding, blind_key, blind_keys, blind}
-use Rattle.krs_model.proofs.Hiding.Keys.{at_blind, filter_blind, seen}
-use Rattle.krs_model.proofs.Hiding.Links.{same_links_at}
+use Rattle.std.proofs.Common.{◌∙◌, ◌≡◌, ap, filter, is_some, IsSome, List, None, Option, option_map, refl, Some, subst}
+use Rattle.std.proofs.Common.{sym, ℕ}
+use Rattle.krs_model.specs.{Hiding.{blind, blind_key, blind_keys, Hiding}, Levels.is_in, State.{Key, State}}
+use Rattle.krs_model.specs.{Sweep.{Attached, IsHeld, IsSweep, Linked, live_watches, roots}, Table.{at, Table}}
+use Rattle.krs_model.proofs.Hiding.{Keys.{at_blind, filter_blind, seen}, Links.same_links_at}
 
 held_to : (hide : Hiding) (keys : Table Key) (attached : List ℕ) (k : ℕ) → IsHeld keys attached k
     → IsHeld (blind_keys hide keys) attached k

@@ -1,15 +1,11 @@
 -- What a client is told hangs on what its READs answer alone.
-use Rattle.std.proofs.Common.{◌≡◌, ℕ, ◌==◌, ◌&&◌, List, [], ◌∷◌, map, Bool, true, false, cond, inl, inr, ⊎_elim, ◌⊎◌}
-use Rattle.std.proofs.Common.{Result, Ok, Err, filter, refl, ap, ◌∙◌, sym}
-use Rattle.std.specs.Prelude.{is_ok}
-use Rattle.std.proofs.lemmas.Bool.{true≢false}
-use Rattle.krs_types.specs.declared.errno.Errno.{Errno}
-use Rattle.krs_types.specs.declared.ask.Answer.{Answer}
-use Rattle.krs_types.specs.declared.event.Event.{Event}
-use Rattle.krs_model.specs.State.{State, raised}
-use Rattle.krs_model.specs.Hiding.{Hiding, blind_answer, over, blind_event, IsBlinded, NoEvents, FurtherEvents}
-use Rattle.krs_model.specs.Secrecy.{is_read, tells, reads_to, replies_to, IsRead, TellsByReadsAlone}
-use Rattle.krs_model.proofs.Hiding.Clients.{blinded_alike, reply_or_read, read_alike}
+use Rattle.std.proofs.Common.{[], ⊎_elim, ◌&&◌, ◌==◌, ◌∙◌, ◌∷◌, ◌≡◌, ◌⊎◌, ap, Bool, cond, Err, false, filter, inl, inr}
+use Rattle.std.proofs.Common.{is_ok, List, map, Ok, refl, Result, sym, true, true≢false, ℕ}
+use Rattle.krs_types.specs.declared.{ask.Answer.Answer, errno.Errno.Errno, event.Event.Event}
+use Rattle.krs_model.specs.Hiding.{blind_answer, blind_event, FurtherEvents, Hiding, IsBlinded, NoEvents, over}
+use Rattle.krs_model.specs.Secrecy.{is_read, IsRead, reads_to, replies_to, tells, TellsByReadsAlone}
+use Rattle.krs_model.specs.State.{raised, State}
+use Rattle.krs_model.proofs.Hiding.Clients.{blinded_alike, read_alike, reply_or_read}
 
 -- event by event the clients are the same, both or neither are accepted READs, and the replies are the same but for these
 abbrev pub DifferByTold : List Event → List Event → Type 0

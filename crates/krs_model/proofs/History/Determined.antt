@@ -1,28 +1,14 @@
 -- A reply leads to one state, and a history to one: what is called for of a queue and taken from it is determined.
 -- So is the reply, ENOMEM aside.
-use Rattle.std.proofs.Common.{◌≡◌, ℕ, List, [], ◌∷◌, ◌++◌, map, Result, Ok, Err, refl, ap, ◌∙◌, sym, subst}
-use Rattle.std.proofs.Common.{⊎_elim}
-use Rattle.std.specs.Prelude.{◌≢◌}
-use Rattle.krs_types.specs.declared.errno.Errno.{Errno}
-use Rattle.krs_types.specs.declared.errno.Errno.TheVariants.{ENOMEM}
-use Rattle.krs_types.specs.declared.ask.Answer.{Answer}
-use Rattle.krs_types.specs.declared.ask.Ask.{Ask}
-use Rattle.krs_types.specs.declared.ask.Op.{Op}
-use Rattle.krs_types.specs.declared.event.Event.{Event}
-use Rattle.krs_types.specs.declared.note.Record.{Record}
-use Rattle.krs_model.specs.State.{State, raised}
-use Rattle.krs_model.specs.Sound.{IsSound}
-use Rattle.krs_model.specs.Sweep.{IsSweep}
-use Rattle.krs_model.specs.Outcome.{Outcome}
-use Rattle.krs_model.specs.Step.{Step, Serves, Ends, LacksMemory, outcome_of, posts_by}
-use Rattle.krs_model.specs.History.{IsLegal}
-use Rattle.krs_model.specs.Receiving.{called_for, Takes, HasMoves, NoMoves, FurtherMoves}
-use Rattle.krs_model.specs.Notes.Posting.{posted_in}
-use Rattle.krs_model.specs.Notes.Stream.{Move, Posted, Took}
-use Rattle.krs_model.proofs.Sweep.Laws.{one_sweep}
-use Rattle.krs_model.proofs.Asks.Later.{same_state}
-use Rattle.krs_model.proofs.Sound.Steps.{step_sound}
-use Rattle.krs_model.proofs.Notes.Reads.{step_read, takes_some, takes_one}
+use Rattle.std.proofs.Common.{[], ⊎_elim, ◌++◌, ◌∙◌, ◌∷◌, ◌≡◌, ◌≢◌, ap, Err, List, map, Ok, refl, Result, subst, sym, ℕ}
+use Rattle.krs_types.specs.declared.ask.{Answer.Answer, Ask.Ask, Op.Op}
+use Rattle.krs_types.specs.declared.{errno.Errno.{Errno, TheVariants.ENOMEM}, event.Event.Event, note.Record.Record}
+use Rattle.krs_model.specs.{History.IsLegal, Notes.{Posting.posted_in, Stream.{Move, Posted, Took}}, Outcome.Outcome}
+use Rattle.krs_model.specs.Receiving.{called_for, FurtherMoves, HasMoves, NoMoves, Takes}
+use Rattle.krs_model.specs.{Sound.IsSound, State.{raised, State}}
+use Rattle.krs_model.specs.{Step.{Ends, LacksMemory, outcome_of, posts_by, Serves, Step}, Sweep.IsSweep}
+use Rattle.krs_model.proofs.{Asks.Later.same_state, Notes.Reads.{step_read, takes_one, takes_some}}
+use Rattle.krs_model.proofs.{Sound.Steps.step_sound, Sweep.Laws.one_sweep}
 
 -- an accepted ask leaves one state
 pub one_served :

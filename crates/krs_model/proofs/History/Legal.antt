@@ -1,10 +1,7 @@
 -- Legal histories: none, one event, and one after the other.
-use Rattle.std.specs.Prelude.{List, [], ◌∷◌, ◌++◌, refl}
-use Rattle.std.proofs.Common.{subst, sym}
+use Rattle.std.proofs.Common.{[], ◌++◌, ◌∷◌, List, refl, subst, sym}
 use Rattle.krs_types.specs.declared.event.Event.{Event}
-use Rattle.krs_model.specs.State.{State}
-use Rattle.krs_model.specs.Step.{Step}
-use Rattle.krs_model.specs.History.{IsLegal}
+use Rattle.krs_model.specs.{History.IsLegal, State.State, Step.Step}
 
 pub legal_none : (s : State) → IsLegal s [] s
 unfolding IsLegal

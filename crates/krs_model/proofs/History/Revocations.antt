@@ -1,34 +1,17 @@
 -- A revoked key is not read again, as no key gets its serial.
-use Rattle.std.proofs.Common.{◌≡◌, ℕ, ℤ, ◌≤◌, ◌<◌, Some, true, false, Result, Ok, Err, refl, ap, ◌∙◌}
-use Rattle.std.proofs.Common.{sym, subst, arith, ⊎_elim}
-use Rattle.std.specs.Option.{option_map}
-use Rattle.std.specs.Result.{IsOk}
-use Rattle.std.proofs.lemmas.Bool.{true≢false, cases_lt}
-use Rattle.std.proofs.lemmas.Option.{none-some}
-use Rattle.krs_types.specs.declared.errno.Errno.{Errno}
-use Rattle.krs_types.specs.declared.context.Context.{Context}
-use Rattle.krs_types.specs.declared.rights.Want.{Want}
-use Rattle.krs_types.specs.declared.rights.Want.TheVariants.{ToRead, Either}
-use Rattle.krs_types.specs.declared.ask.Answer.{Answer}
-use Rattle.krs_types.specs.declared.ask.Answer.TheVariants.{Nothing, Bytes}
-use Rattle.krs_types.specs.declared.ask.Op.{Op}
-use Rattle.krs_types.specs.declared.ask.Op.TheVariants.{Revoke, Read}
-use Rattle.krs_types.specs.declared.event.Event.{Event}
-use Rattle.krs_types.specs.Rights.{WRITE, SETATTR}
-use Rattle.krs_types.specs.Refusing.{◌>>=◌}
-use Rattle.krs_model.specs.Table.{at, IsBelow}
-use Rattle.krs_model.specs.State.{State, Key, raised}
-use Rattle.krs_model.specs.Lookup.{context_of, serial_of, look_up}
-use Rattle.krs_model.specs.Outcome.{Outcome}
-use Rattle.krs_model.specs.Step.{Step, Serves, Ends}
-use Rattle.krs_model.specs.Revocation.{Names, IsOfKey, StaysUnread}
+use Rattle.std.proofs.Common.{⊎_elim, ◌<◌, ◌∙◌, ◌≡◌, ◌≤◌, ap, arith, Err, false, IsOk, Ok, option_map, refl, Result}
+use Rattle.std.proofs.{Common.{Some, subst, sym, true, true≢false, ℕ, ℤ}, lemmas.{Bool.cases_lt, Option.none-some}}
+use Rattle.krs_types.specs.{Refusing.◌>>=◌, Rights.{SETATTR, WRITE}, declared.ask.Answer.Answer}
+use Rattle.krs_types.specs.declared.ask.{Answer.TheVariants.{Bytes, Nothing}, Op.Op}
+use Rattle.krs_types.specs.declared.{ask.Op.TheVariants.{Read, Revoke}, context.Context.Context, errno.Errno.Errno}
+use Rattle.krs_types.specs.declared.{event.Event.Event, rights.Want.{Want, TheVariants.{Either, ToRead}}}
 use Rattle.krs_model.specs.Asks.Changing.{changed, revoke, revoked}
-use Rattle.krs_model.specs.Asks.Reading.{read, readable}
-use Rattle.krs_model.proofs.Tables.Changes.{at_alter_same}
-use Rattle.krs_model.proofs.Lookups.Laws.{look_up_usable}
-use Rattle.krs_model.proofs.Lookups.Serials.{found_serial}
-use Rattle.krs_model.proofs.Asks.Later.{is_gone, Follows, same_ok, same_state, bind_ok}
-use Rattle.krs_model.proofs.Asks.LaterByStep.{raised_follows, swept_follows, legal_follows}
+use Rattle.krs_model.specs.{Asks.Reading.{read, readable}, Lookup.{context_of, look_up, serial_of}, Outcome.Outcome}
+use Rattle.krs_model.specs.Revocation.{IsOfKey, Names, StaysUnread}
+use Rattle.krs_model.specs.{State.{Key, raised, State}, Step.{Ends, Serves, Step}, Table.{at, IsBelow}}
+use Rattle.krs_model.proofs.Asks.Later.{bind_ok, Follows, is_gone, same_ok, same_state}
+use Rattle.krs_model.proofs.Asks.LaterByStep.{legal_follows, raised_follows, swept_follows}
+use Rattle.krs_model.proofs.{Lookups.{Laws.look_up_usable, Serials.found_serial}, Tables.Changes.at_alter_same}
 
 -- what an accepted ask has found that begins with a look-up: a key that was not revoked, at the serial that the id
 -- names

@@ -1,13 +1,7 @@
 -- Laws of steps.
-use Rattle.std.proofs.Common.{◌≡◌, ℕ, Result, Ok, Err, sym}
-use Rattle.std.specs.Result.{IsErr}
-use Rattle.std.proofs.lemmas.Bool.{true≢false}
-use Rattle.krs_types.specs.declared.errno.Errno.{Errno}
-use Rattle.krs_types.specs.declared.ask.Answer.{Answer}
-use Rattle.krs_types.specs.declared.ask.Op.{Op}
-use Rattle.krs_types.specs.declared.event.Event.{Event}
-use Rattle.krs_model.specs.State.{State, raised}
-use Rattle.krs_model.specs.Step.{Step, Ends}
+use Rattle.std.proofs.Common.{◌≡◌, Err, IsErr, Ok, Result, sym, true≢false, ℕ}
+use Rattle.krs_types.specs.declared.{ask.{Answer.Answer, Op.Op}, errno.Errno.Errno, event.Event.Event}
+use Rattle.krs_model.specs.{State.{raised, State}, Step.{Ends, Step}}
 
 err_stays :
     (s new : State) (client context : ℕ) (op : Op) (reply : Result Answer Errno) → Ends s client context op reply new

@@ -1,23 +1,15 @@
 -- What a queue gives to its reader over a history is its stream.
-use Rattle.std.proofs.Common.{◌≡◌, ℕ, ◌<◌, ◌≤◌, List, [], ◌++◌, Some, None, true, map, nat_le}
-use Rattle.std.proofs.Common.{refl, ap, ◌∙◌, sym, subst, arith, ⊎_elim, append_assoc}
-use Rattle.std.proofs.lemmas.Bool.{leb-true, cases_lt}
-use Rattle.std.proofs.lemmas.Option.{none-some, same_Some}
-use Rattle.krs_types.specs.declared.event.Event.{Event}
-use Rattle.krs_types.specs.declared.note.Record.{Record}
-use Rattle.krs_model.specs.Table.{at}
-use Rattle.krs_model.specs.State.{State, Queue}
-use Rattle.krs_model.specs.Sound.{IsSound}
-use Rattle.krs_model.specs.Lists.{Begins}
-use Rattle.krs_model.specs.Receiving.{called_for, HasMoves, NoMoves, FurtherMoves, IsOpening, IsOpened, GivesStreams}
-use Rattle.krs_model.specs.Notes.Stream.{Move, Posted, Took, taken, stream}
-use Rattle.krs_model.specs.Notes.Waiting.{greatest_capacity, is_capacity, MovesTo}
-use Rattle.krs_model.specs.Asks.Watching.{new_queue}
+use Rattle.std.proofs.Common.{[], ⊎_elim, ◌++◌, ◌<◌, ◌∙◌, ◌≡◌, ◌≤◌, ap, append_assoc, arith, leb-true, List, map}
+use Rattle.std.proofs.Common.{nat_le, None, refl, Some, subst, sym, true, ℕ}
+use Rattle.std.proofs.lemmas.{Bool.cases_lt, Option.{none-some, same_Some}}
+use Rattle.krs_types.specs.declared.{event.Event.Event, note.Record.Record}
 use Rattle.krs_types.proofs.Names.{and_left}
-use Rattle.krs_model.proofs.Sound.Steps.{step_sound}
-use Rattle.krs_model.proofs.Notes.Streams.{gives_its_stream}
-use Rattle.krs_model.proofs.Notes.Taken.{Stays, moves_append, step_after, step_nothing}
-use Rattle.krs_model.proofs.Notes.QueueNumbers.{step_gone, step_next, step_opened}
+use Rattle.krs_model.specs.{Asks.Watching.new_queue, Lists.Begins, Notes.Stream.{Move, Posted, stream, taken, Took}}
+use Rattle.krs_model.specs.Notes.Waiting.{greatest_capacity, is_capacity, MovesTo}
+use Rattle.krs_model.specs.Receiving.{called_for, FurtherMoves, GivesStreams, HasMoves, IsOpened, IsOpening, NoMoves}
+use Rattle.krs_model.specs.{Sound.IsSound, State.{Queue, State}, Table.at}
+use Rattle.krs_model.proofs.Notes.{QueueNumbers.{step_gone, step_next, step_opened}, Streams.gives_its_stream}
+use Rattle.krs_model.proofs.{Notes.Taken.{moves_append, Stays, step_after, step_nothing}, Sound.Steps.step_sound}
 
 -- nothing was called for and nothing taken
 no_moves :

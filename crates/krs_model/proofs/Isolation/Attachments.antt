@@ -1,40 +1,24 @@
 -- What changes of attachments leave a uid to itself.
-use Rattle.std.proofs.Common.{◌≡◌, ◌≢◌, ℕ, ◌+◌, ◌==◌, ◌||◌, List, [], ◌∷◌, ◌++◌, Option, None, Some, Bool, true, false}
-use Rattle.std.proofs.Common.{cond, not, filter, refl, ap, ◌∙◌, sym, subst, arith, ◌⊎◌, inl, inr, ⊎_elim}
-use Rattle.std.specs.Option.{option_map, option_to_list, unwrap_or}
-use Rattle.std.specs.Ordering.{nat_cmp}
-use Rattle.std.specs.BTreeMap.{is_at}
-use Rattle.std.proofs.lemmas.Bool.{true≢false}
-use Rattle.std.proofs.lemmas.Bool.Decides.{nat_tests}
-use Rattle.std.proofs.lemmas.Option.{none-some, same_Some}
-use Rattle.krs_types.specs.declared.caller.Caller.{Caller}
-use Rattle.krs_types.specs.declared.context.Context.{Context}
-use Rattle.krs_types.specs.declared.context.UidRings.{UidRings}
-use Rattle.krs_model.specs.Table.{Table, at, put, alter, without, Rises}
-use Rattle.krs_model.specs.State.{State}
-use Rattle.krs_model.specs.Levels.{is_in}
-use Rattle.krs_model.specs.Possession.{process_ring}
-use Rattle.krs_model.specs.Making.{thread_to, with_thread, with_process}
-use Rattle.krs_model.specs.Asks.Hello.{with_uid, with_context, first_session}
-use Rattle.krs_model.specs.Asks.Entering.{without_thread, execed}
-use Rattle.krs_model.specs.Asks.Joining.{session_to, joined_to}
-use Rattle.krs_model.specs.Confidentiality.{foreign_keys, foreign_process, AreUnattached}
-use Rattle.krs_model.proofs.Tables.Changes.{at_map, at_kept, at_or_apart, at_without_other}
-use Rattle.krs_model.proofs.Reach.Levels.{same_is, in_left, in_right, in_one, only_in}
-use Rattle.krs_model.proofs.Sound.Changes.{IsChanged, at_change, IsPut, at_put}
-use Rattle.krs_model.proofs.Sound.Attached.{context_keys, uid_keys, attachments, own_process, attached_at, attached_either}
-use Rattle.krs_model.proofs.Sound.KeyChanges.{both_in}
+use Rattle.std.proofs.Common.{[], ⊎_elim, ◌++◌, ◌+◌, ◌==◌, ◌||◌, ◌∙◌, ◌∷◌, ◌≡◌, ◌≢◌, ◌⊎◌, ap, arith, Bool, cond, false}
+use Rattle.std.proofs.Common.{filter, inl, inr, IsSome, List, nat_cmp, None, not, Option, option_map, option_to_list}
+use Rattle.std.proofs.Common.{refl, Some, subst, sym, true, true≢false, unwrap_or, ℕ}
+use Rattle.std.specs.{BTreeMap.is_at, List.list_any, Map.values_of}
+use Rattle.std.proofs.lemmas.{Bool.Decides.nat_tests, Option.{none-some, same_Some}}
+use Rattle.krs_types.specs.declared.{caller.Caller.Caller, context.{Context.Context, UidRings.UidRings}}
+use Rattle.krs_model.specs.Asks.{Entering.{execed, without_thread}, Hello.{first_session, with_context, with_uid}}
+use Rattle.krs_model.specs.Asks.Invalidating.{context_without, detached, invalidated, rings_without}
+use Rattle.krs_model.specs.Asks.Joining.{joined_to, session_to}
+use Rattle.krs_model.specs.Asks.Leaving.{contexts_without, exited, has_process, has_uid, left}
+use Rattle.krs_model.specs.Confidentiality.{AreUnattached, foreign_keys, foreign_process}
+use Rattle.krs_model.specs.{Levels.is_in, Making.{thread_to, with_process, with_thread}, Possession.process_ring}
+use Rattle.krs_model.specs.{Sound.AllPlaced, State.State, Table.{alter, at, put, Rises, Table, without}}
+use Rattle.krs_model.proofs.{Isolation.Keys.AttachesNone, Reach.Levels.{in_left, in_one, in_right, only_in, same_is}}
+use Rattle.krs_model.proofs.Sound.Attached.{attached_alter, attached_at, attached_either, attached_fewer}
+use Rattle.krs_model.proofs.Sound.Attached.{attached_mapped, attached_without, attachments, context_keys, own_process}
+use Rattle.krs_model.proofs.Sound.{Attached.uid_keys, Changes.{at_change, at_put, IsChanged, IsPut}, KeyChanges.both_in}
 use Rattle.krs_model.proofs.Sound.NewContexts.{placed_in}
-use Rattle.krs_model.specs.Sound.{AllPlaced}
-use Rattle.std.specs.Option.{IsSome}
-use Rattle.krs_model.proofs.Tables.Distinct.{at_without_same}
-use Rattle.krs_model.specs.Asks.Invalidating.{detached, context_without, rings_without, invalidated}
-use Rattle.krs_model.specs.Asks.Leaving.{left, exited, has_process, has_uid, contexts_without}
-use Rattle.std.specs.List.{list_any}
-use Rattle.std.specs.Map.{values_of}
-use Rattle.krs_model.proofs.Sound.Attached.{attached_alter, attached_fewer, attached_without, attached_mapped}
-use Rattle.krs_model.proofs.Isolation.Keys.{AttachesNone}
-use Rattle.krs_model.proofs.Tables.Entries.{rises_distinct}
+use Rattle.krs_model.proofs.Tables.Changes.{at_kept, at_map, at_or_apart, at_without_other}
+use Rattle.krs_model.proofs.Tables.{Distinct.at_without_same, Entries.rises_distinct}
 
 -- what a context of another uid attaches is a foreign key, and its process a foreign one
 pub apart_is : (a b : ℕ) → a ≢ b → (a == b) ≡ false

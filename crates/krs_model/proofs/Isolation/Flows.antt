@@ -1,25 +1,15 @@
 -- Nothing of the payloads of keys that a uid has to itself is told to a client that asks nothing in a context of the uid.
-use Rattle.std.proofs.Common.{◌≡◌, ℕ, ◌≤◌, ◌<◌, List, [], ◌∷◌, ◌++◌, Some, Bool, true, false, refl, ◌∙◌, sym, subst, arith}
-use Rattle.std.proofs.Common.{◌⊎◌, inl, ⊎_elim, nat_le}
-use Rattle.std.proofs.lemmas.Bool.Decides.{nat_tests}
-use Rattle.std.proofs.lemmas.Bool.{leb-true}
-use Rattle.std.proofs.lemmas.Option.{none-some}
+use Rattle.std.proofs.Common.{[], ⊎_elim, ◌++◌, ◌<◌, ◌∙◌, ◌∷◌, ◌≡◌, ◌≤◌, ◌⊎◌, arith, Bool, false, inl, leb-true, List}
+use Rattle.std.proofs.Common.{nat_le, refl, Some, subst, sym, true, ℕ}
+use Rattle.std.proofs.lemmas.{Bool.Decides.nat_tests, Option.none-some}
 use Rattle.krs_types.specs.declared.event.Event.{Event}
-use Rattle.krs_model.specs.Table.{Table, at, IsBelow}
-use Rattle.krs_model.specs.State.{State, Key}
-use Rattle.krs_model.specs.History.{IsLegal}
-use Rattle.krs_model.specs.Hiding.{Hiding}
-use Rattle.krs_model.specs.Secrecy.{IsShown, ReadsShown}
-use Rattle.krs_model.specs.Sound.{IsSound}
-use Rattle.krs_model.specs.Step.{Step}
-use Rattle.krs_model.specs.Confidentiality.{HasToItself, IsGivenAway, GivesAway, IsFor, may_make, with_made, StaysPrivate}
-use Rattle.krs_model.specs.Confidentiality.{KeepsPrivate, IsStranger, TellsNoStranger}
-use Rattle.krs_model.proofs.Asks.LaterByStep.{step_follows}
-use Rattle.krs_model.proofs.History.Determined.{one_step}
-use Rattle.krs_model.proofs.Hiding.Clients.{keeps_secrets}
-use Rattle.krs_model.proofs.Isolation.Steps.{reads_own, same_context}
-use Rattle.krs_model.proofs.Isolation.Growth.{of_made, IsNew}
-use Rattle.krs_model.proofs.Isolation.Histories.{withheld_alone}
+use Rattle.krs_model.specs.Confidentiality.{GivesAway, HasToItself, IsFor, IsGivenAway, IsStranger, KeepsPrivate}
+use Rattle.krs_model.specs.Confidentiality.{may_make, StaysPrivate, TellsNoStranger, with_made}
+use Rattle.krs_model.specs.{Hiding.Hiding, History.IsLegal, Secrecy.{IsShown, ReadsShown}, Sound.IsSound}
+use Rattle.krs_model.specs.{State.{Key, State}, Step.Step, Table.{at, IsBelow, Table}}
+use Rattle.krs_model.proofs.{Asks.LaterByStep.step_follows, Hiding.Clients.keeps_secrets, History.Determined.one_step}
+use Rattle.krs_model.proofs.Isolation.Growth.{IsNew, of_made}
+use Rattle.krs_model.proofs.Isolation.{Histories.withheld_alone, Steps.{reads_own, same_context}}
 
 no_less : (a b : ℕ) → a ≤ b → b < a → ⊥
 no_less a b le less = omega arith

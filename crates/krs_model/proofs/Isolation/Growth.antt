@@ -1,47 +1,28 @@
 -- The keys that an ask for a uid makes, no context of another uid attaches.
-use Rattle.std.proofs.Common.{◌≡◌, ℕ, ◌+◌, ◌&&◌, nat_le, nat_lt, List, [], ◌∷◌, Option, Some, None}
-use Rattle.std.proofs.Common.{Bool, true, false, Result, Ok, Err, refl, ap, ◌∙◌, sym, subst, arith, ◌⊎◌, inl, inr, ⊎_elim}
-use Rattle.std.specs.Option.{IsSome, option_to_list}
-use Rattle.std.proofs.lemmas.Bool.{true≢false, leb-true}
-use Rattle.std.proofs.lemmas.Bool.Decides.{nat_tests}
-use Rattle.krs_types.specs.declared.errno.Errno.{Errno}
-use Rattle.krs_types.specs.declared.caller.Caller.{Caller}
-use Rattle.krs_types.specs.declared.context.Context.{Context}
-use Rattle.krs_types.specs.declared.context.UidRings.{UidRings}
-use Rattle.krs_types.specs.declared.ask.Answer.{Answer}
-use Rattle.krs_types.specs.declared.ask.Op.{Op}
-use Rattle.krs_types.specs.declared.ask.Op.TheVariants.{Hello}
-use Rattle.krs_types.specs.declared.event.Event.{Event}
+use Rattle.std.proofs.Common.{[], ⊎_elim, ◌&&◌, ◌+◌, ◌∙◌, ◌∷◌, ◌≡◌, ◌⊎◌, ap, arith, Bool, Err, false, inl, inr, IsSome}
+use Rattle.std.proofs.Common.{leb-true, List, nat_le, nat_lt, None, Ok, Option, option_to_list, refl, Result, Some}
+use Rattle.std.proofs.{Common.{subst, sym, true, true≢false, ℕ}, lemmas.Bool.Decides.nat_tests}
 use Rattle.krs_types.specs.Caller.{caller_check}
-use Rattle.krs_model.specs.Table.{Table, at, alter}
-use Rattle.krs_model.specs.State.{State, raised}
-use Rattle.krs_model.specs.Levels.{is_in}
-use Rattle.krs_model.specs.Lookup.{context_of}
-use Rattle.krs_model.specs.Search.{found}
-use Rattle.krs_model.specs.Sweep.{IsSweep, live_watches}
-use Rattle.krs_model.specs.Sound.{IsSound}
-use Rattle.krs_model.specs.Step.{Step, Ends, outcome_of, posts_by}
-use Rattle.krs_model.specs.Notes.Posting.{Post, posted_in}
-use Rattle.krs_model.specs.Asks.Hello.{hello, has_context_left, has_numbers, with_uid, first_session}
-use Rattle.krs_model.specs.Confidentiality.{foreign_keys, foreign_process, AreUnattached, HasToItself, IsGivenAway}
-use Rattle.krs_model.specs.Confidentiality.{ActsAs, may_make, IsFor, with_made, GivesAway, StaysPrivate}
-use Rattle.krs_model.proofs.Reach.Levels.{in_left, in_right, in_one, true_or, same_is}
+use Rattle.krs_types.specs.declared.{ask.{Answer.Answer, Op.{Op, TheVariants.Hello}}, caller.Caller.Caller}
+use Rattle.krs_types.specs.declared.{context.{Context.Context, UidRings.UidRings}, errno.Errno.Errno, event.Event.Event}
 use Rattle.krs_types.proofs.Names.{and_left, and_right}
-use Rattle.krs_model.proofs.Lookups.Serials.{own_there}
-use Rattle.krs_model.proofs.Asks.Later.{same_ok}
-use Rattle.krs_model.proofs.Sound.Changes.{Stands, IsChanged, at_change, IsPut, at_put, not_there}
-use Rattle.krs_model.proofs.Sound.Attached.{context_keys, uid_keys, attachments, attached_at, attached_alter, attached_entry}
-use Rattle.krs_model.proofs.Sound.Attached.{in_context, in_process, in_uid}
-use Rattle.krs_model.proofs.Sound.Steps.{sound_stands, raised_sound}
-use Rattle.krs_model.proofs.Isolation.Attachments.{of_foreign, of_foreign_process, alter_to, same_unattached}
-use Rattle.krs_model.proofs.Isolation.Attachments.{entered_unattached}
-use Rattle.krs_model.proofs.Asks.Houses.{Houses, Same, Begins, Enters, Named, Forked, Threads, Alters, Rings, Execs}
-use Rattle.krs_model.proofs.Asks.Houses.{Detaches, Exits, Departs}
-use Rattle.krs_model.proofs.Tables.Entries.{rises_distinct}
-use Rattle.krs_model.proofs.Asks.Outcomes.{Meets, meets_ok, meets_after}
-use Rattle.krs_model.proofs.Isolation.Guarded.{uid_processes, uid_placed}
-use Rattle.krs_model.proofs.Isolation.Steps.{step_guarded, not_given, raised_alone, step_alone}
-use Rattle.krs_model.proofs.Asks.Laws.{law_of}
+use Rattle.krs_model.specs.Asks.Hello.{first_session, has_context_left, has_numbers, hello, with_uid}
+use Rattle.krs_model.specs.Confidentiality.{ActsAs, AreUnattached, foreign_keys, foreign_process, GivesAway}
+use Rattle.krs_model.specs.Confidentiality.{HasToItself, IsFor, IsGivenAway, may_make, StaysPrivate, with_made}
+use Rattle.krs_model.specs.{Levels.is_in, Lookup.context_of, Notes.Posting.{Post, posted_in}, Search.found}
+use Rattle.krs_model.specs.{Sound.IsSound, State.{raised, State}, Step.{Ends, outcome_of, posts_by, Step}}
+use Rattle.krs_model.specs.{Sweep.{IsSweep, live_watches}, Table.{alter, at, Table}}
+use Rattle.krs_model.proofs.Asks.Houses.{Alters, Begins, Departs, Detaches, Enters, Execs, Exits, Forked, Houses, Named}
+use Rattle.krs_model.proofs.Asks.Houses.{Rings, Same, Threads}
+use Rattle.krs_model.proofs.Asks.{Later.same_ok, Laws.law_of, Outcomes.{Meets, meets_after, meets_ok}}
+use Rattle.krs_model.proofs.Isolation.Attachments.{alter_to, entered_unattached, of_foreign, of_foreign_process}
+use Rattle.krs_model.proofs.Isolation.{Attachments.same_unattached, Guarded.{uid_placed, uid_processes}}
+use Rattle.krs_model.proofs.Isolation.Steps.{not_given, raised_alone, step_alone, step_guarded}
+use Rattle.krs_model.proofs.{Lookups.Serials.own_there, Reach.Levels.{in_left, in_one, in_right, same_is, true_or}}
+use Rattle.krs_model.proofs.Sound.Attached.{attached_alter, attached_at, attached_entry, attachments, context_keys}
+use Rattle.krs_model.proofs.Sound.Attached.{in_context, in_process, in_uid, uid_keys}
+use Rattle.krs_model.proofs.Sound.Changes.{at_change, at_put, IsChanged, IsPut, not_there, Stands}
+use Rattle.krs_model.proofs.{Sound.Steps.{raised_sound, sound_stands}, Tables.Entries.rises_distinct}
 
 -- the serials from this one on
 abbrev pub late : ℕ → ℕ → Bool

@@ -1,25 +1,13 @@
 -- What a uid has to itself once an ask was accepted: where one key changes, and what others find.
-use Rattle.std.proofs.Common.{◌≡◌, ◌≢◌, ℕ, ℤ, ◌<◌, Option, Some, None, Bool, true, false}
-use Rattle.std.proofs.Common.{Ok, refl, arith, inl}
-use Rattle.krs_types.specs.declared.caller.Caller.{Caller}
-use Rattle.krs_types.specs.declared.context.Context.{Context}
-use Rattle.krs_types.specs.declared.context.UidRings.{UidRings}
-use Rattle.krs_types.specs.declared.ask.Op.{Op}
-use Rattle.krs_types.specs.declared.rights.Want.{Want}
-use Rattle.krs_types.specs.Rights.{allows}
-use Rattle.krs_model.specs.Table.{at}
-use Rattle.krs_model.specs.State.{State, Key}
-use Rattle.krs_model.specs.Lookup.{context_of, look_up}
-use Rattle.krs_model.specs.Sound.{AllPlaced}
-use Rattle.krs_model.specs.Asks.Hello.{with_uid}
-use Rattle.krs_model.specs.Asks.Changing.{changed}
-use Rattle.krs_model.specs.Confidentiality.{is_own, AreEnclosed, AreUnattached, HasToItself, may_give}
-use Rattle.krs_model.proofs.Tables.Counts.{part_in}
-use Rattle.krs_model.proofs.Lookups.Serials.{own_there}
-use Rattle.krs_model.proofs.Sound.Changes.{Lessens}
-use Rattle.krs_model.proofs.Isolation.Keys.{KeepsOwn, changed_enclosed}
-use Rattle.krs_model.proofs.Isolation.Keys.{not_found}
+use Rattle.std.proofs.Common.{◌<◌, ◌≡◌, ◌≢◌, arith, Bool, false, inl, None, Ok, Option, refl, Some, true, ℕ, ℤ}
+use Rattle.krs_types.specs.{Rights.allows, declared.{ask.Op.Op, caller.Caller.Caller, context.Context.Context}}
+use Rattle.krs_types.specs.declared.{context.UidRings.UidRings, rights.Want.Want}
+use Rattle.krs_model.specs.Asks.{Changing.changed, Hello.with_uid}
+use Rattle.krs_model.specs.Confidentiality.{AreEnclosed, AreUnattached, HasToItself, is_own, may_give}
+use Rattle.krs_model.specs.{Lookup.{context_of, look_up}, Sound.AllPlaced, State.{Key, State}, Table.at}
 use Rattle.krs_model.proofs.Isolation.Attachments.{attaches_none, same_unattached}
+use Rattle.krs_model.proofs.Isolation.Keys.{changed_enclosed, KeepsOwn, not_found}
+use Rattle.krs_model.proofs.{Lookups.Serials.own_there, Sound.Changes.Lessens, Tables.Counts.part_in}
 
 -- the uid has them to itself, but for the links and masks, which are so where this holds
 pub record Guarded (uid : ℕ) (private : ℕ → Bool) (P : Type 0) (s : State) : Type 0 where

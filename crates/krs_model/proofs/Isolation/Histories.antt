@@ -1,14 +1,10 @@
 -- Over whole histories the keys that a uid keeps private it has to itself, reads alone, and nobody else changes.
-use Rattle.std.proofs.Common.{ℕ, List, [], ◌∷◌, Bool, false, subst}
+use Rattle.std.proofs.Common.{[], ◌∷◌, Bool, false, List, subst, ℕ}
 use Rattle.krs_types.specs.declared.event.Event.{Event}
-use Rattle.krs_model.specs.State.{State, starting_at}
-use Rattle.krs_model.specs.History.{IsLegal}
-use Rattle.krs_model.specs.Sound.{IsSound}
-use Rattle.krs_model.specs.Confidentiality.{HasToItself, KeepsPrivate, ReadsAlone, LeavesAlone}
-use Rattle.krs_model.proofs.Sound.Steps.{step_sound, start_sound}
-use Rattle.krs_model.proofs.Isolation.Steps.{reads_own, none_alone}
-use Rattle.krs_model.proofs.Isolation.Growth.{goes_alone}
-use Rattle.krs_model.proofs.Isolation.Stays.{step_unchanged}
+use Rattle.krs_model.specs.Confidentiality.{HasToItself, KeepsPrivate, LeavesAlone, ReadsAlone}
+use Rattle.krs_model.specs.{History.IsLegal, Sound.IsSound, State.{starting_at, State}}
+use Rattle.krs_model.proofs.Isolation.{Growth.goes_alone, Stays.step_unchanged, Steps.{none_alone, reads_own}}
+use Rattle.krs_model.proofs.Sound.Steps.{start_sound, step_sound}
 
 -- it is a legal history
 pub private_legal :

@@ -1,27 +1,16 @@
 -- What changes of keys leave a uid to itself, and that no context of another uid has a right on such a key.
-use Rattle.std.proofs.Common.{◌≡◌, ◌≢◌, ℕ, ℤ, zero, suc, List, [], Option, None, Some, Bool, true, false}
-use Rattle.std.proofs.Common.{Ok, cond, filter, refl, ap, ◌∙◌, sym, subst, arith, ◌⊎◌, inl, ⊎_elim}
-use Rattle.std.specs.Option.{option_map}
-use Rattle.std.proofs.lemmas.Bool.{true≢false}
+use Rattle.std.proofs.Common.{[], ⊎_elim, ◌∙◌, ◌≡◌, ◌≢◌, ◌⊎◌, ap, arith, Bool, cond, false, filter, inl, List, None, Ok}
+use Rattle.std.proofs.Common.{Option, option_map, refl, Some, subst, suc, sym, true, true≢false, zero, ℕ, ℤ}
 use Rattle.std.proofs.lemmas.Bool.Decides.{nat_tests}
-use Rattle.krs_types.specs.declared.caller.Caller.{Caller}
-use Rattle.krs_types.specs.declared.context.Context.{Context}
-use Rattle.krs_types.specs.Caller.{is_of_group}
-use Rattle.krs_types.specs.Perm.{group_byte, other_byte}
-use Rattle.krs_types.specs.declared.rights.Want.{Want}
-use Rattle.krs_types.specs.Rights.{allows}
-use Rattle.krs_model.specs.Lookup.{look_up}
-use Rattle.krs_model.proofs.Lookups.Laws.{look_up_usable}
-use Rattle.krs_model.proofs.Lookups.Rights.{one_byte}
-use Rattle.krs_model.specs.Table.{Table, at, put, alter, map_values}
-use Rattle.krs_model.specs.State.{State, Key}
+use Rattle.krs_types.specs.{Caller.is_of_group, Perm.{group_byte, other_byte}, Rights.allows}
+use Rattle.krs_types.specs.declared.{caller.Caller.Caller, context.Context.Context, rights.Want.Want}
 use Rattle.krs_model.specs.Access.{rights_on}
-use Rattle.krs_model.specs.Levels.{level, is_in, search_depth}
-use Rattle.krs_model.specs.Possession.{attached, links_of_content, is_followed, followed_at, followed, possessed}
-use Rattle.krs_model.specs.Confidentiality.{is_own, AreEnclosed}
-use Rattle.krs_model.proofs.Tables.Changes.{at_map, at_kept}
-use Rattle.krs_model.proofs.Reach.Levels.{in_level, in_flat}
-use Rattle.krs_model.proofs.Sound.Changes.{LinksTo, IsChanged, at_change, IsPut, at_put}
+use Rattle.krs_model.specs.{Confidentiality.{AreEnclosed, is_own}, Levels.{is_in, level, search_depth}, Lookup.look_up}
+use Rattle.krs_model.specs.Possession.{attached, followed, followed_at, is_followed, links_of_content, possessed}
+use Rattle.krs_model.specs.{State.{Key, State}, Table.{alter, at, map_values, put, Table}}
+use Rattle.krs_model.proofs.{Lookups.{Laws.look_up_usable, Rights.one_byte}, Reach.Levels.{in_flat, in_level}}
+use Rattle.krs_model.proofs.Sound.Changes.{at_change, at_put, IsChanged, IsPut, LinksTo}
+use Rattle.krs_model.proofs.Tables.Changes.{at_kept, at_map}
 
 -- a change of a key of its own leaves it its own, where the key may be one of these
 pub record KeepsOwn (uid : ℕ) (private : ℕ → Bool) (n : ℕ) (f : Key → Key) : Type 0 where

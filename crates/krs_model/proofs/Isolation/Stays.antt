@@ -1,50 +1,29 @@
 -- An ask in no context of a uid drops none of the keys that the uid has to itself: what holds them stays.
-use Rattle.std.proofs.Common.{◌≡◌, ◌≢◌, ℕ, ℤ, ◌==◌, ◌||◌, List, [], ◌∷◌, ◌++◌, Option, Some, None, Bool, true, false}
-use Rattle.std.proofs.Common.{cond, not, filter, Result, Ok, Err, refl, ap, ◌∙◌, sym, subst, arith, ◌⊎◌, inl, inr, ⊎_elim}
-use Rattle.std.specs.Option.{IsSome, option_map, option_to_list}
-use Rattle.std.specs.Result.{IsOk}
-use Rattle.std.proofs.lemmas.Bool.{true≢false}
-use Rattle.std.proofs.lemmas.Bool.Decides.{nat_tests}
-use Rattle.std.proofs.lemmas.Option.{none-some, same_Some}
-use Rattle.krs_types.specs.declared.context.Context.{Context}
-use Rattle.krs_types.specs.declared.context.UidRings.{UidRings}
-use Rattle.krs_types.specs.declared.ask.Op.{Op}
-use Rattle.krs_types.specs.declared.ask.Op.TheVariants.{Leave, Invalidate}
-use Rattle.krs_types.specs.declared.ask.Answer.{Answer}
-use Rattle.krs_types.specs.declared.errno.Errno.{Errno}
-use Rattle.krs_types.specs.declared.event.Event.{Event}
-use Rattle.krs_types.specs.declared.rights.Want.TheVariants.{Granted}
-use Rattle.krs_types.specs.Rights.{SEARCH}
-use Rattle.krs_model.specs.Table.{Table, at, put, alter}
-use Rattle.krs_model.specs.State.{State, Key, Payload, Links, raised}
-use Rattle.krs_model.specs.Levels.{is_in}
-use Rattle.krs_model.specs.Lookup.{context_of, serial_of}
-use Rattle.krs_model.specs.Possession.{links_of_content}
-use Rattle.krs_model.specs.Reach.{links_of_key_at}
-use Rattle.krs_model.specs.Sweep.{IsHeld, Attached, Linked, IsSweep, links_of_key, roots, context_roots, process_roots, uid_roots}
-use Rattle.krs_model.specs.Sound.{IsSound}
-use Rattle.krs_model.specs.Step.{Step, Ends, Serves}
-use Rattle.krs_model.specs.Asks.Invalidating.{detached, context_without, rings_without}
-use Rattle.krs_model.specs.Asks.Leaving.{left, has_process, has_uid, contexts_without}
-use Rattle.krs_model.specs.Asks.Linked.{without_link}
-use Rattle.krs_model.specs.Confidentiality.{foreign_keys, foreign_process, HasToItself, IsAskedBy, AreUnchanged}
-use Rattle.krs_model.proofs.Tables.Changes.{at_map, at_kept}
-use Rattle.krs_model.proofs.Tables.Entries.{IsEntry, rises_distinct, entry_passes, filter_still, still_unless}
-use Rattle.krs_model.proofs.Reach.Levels.{same_is, in_left, in_right, in_one, only_in}
-use Rattle.krs_model.proofs.Lookups.Serials.{own_there, found_serial}
-use Rattle.krs_model.proofs.Asks.Houses.{Houses, Same, Begins, Enters, Threads, Alters, Rings, Execs, Detaches, Exits}
-use Rattle.krs_model.proofs.Asks.Houses.{Departs}
-use Rattle.krs_model.proofs.Sound.Changes.{IsChanged, at_change, IsPut, at_put}
-use Rattle.krs_model.proofs.Sound.Attached.{context_keys, uid_keys, attached_at, attached_entry, attached_by}
-use Rattle.krs_model.proofs.Sound.Attached.{in_context, in_process, in_uid}
-use Rattle.krs_model.proofs.Sound.Steps.{sound_stands, raised_sound}
-use Rattle.krs_model.proofs.Isolation.Attachments.{is_foreign}
-use Rattle.krs_model.proofs.Isolation.Keys.{false_where}
-use Rattle.krs_model.proofs.Sound.InUse.{was_mapped}
-use Rattle.krs_model.proofs.Isolation.Guarded.{NotBy, none_found}
-use Rattle.krs_model.proofs.Isolation.Steps.{raised_alone, same_context}
-use Rattle.krs_model.proofs.Isolation.Untouched.{KeysAfter, IsDetached, AreSame}
-use Rattle.krs_model.proofs.Asks.Laws.{law_of}
+use Rattle.std.proofs.Common.{[], ⊎_elim, ◌++◌, ◌==◌, ◌||◌, ◌∙◌, ◌∷◌, ◌≡◌, ◌≢◌, ◌⊎◌, ap, arith, Bool, cond, Err, false}
+use Rattle.std.proofs.Common.{filter, inl, inr, IsOk, IsSome, List, None, not, Ok, Option, option_map, option_to_list}
+use Rattle.std.proofs.Common.{refl, Result, Some, subst, sym, true, true≢false, ℕ, ℤ}
+use Rattle.std.proofs.lemmas.{Bool.Decides.nat_tests, Option.{none-some, same_Some}}
+use Rattle.krs_types.specs.{Rights.SEARCH, declared.ask.{Answer.Answer, Op.{Op, TheVariants.{Invalidate, Leave}}}}
+use Rattle.krs_types.specs.declared.context.{Context.Context, UidRings.UidRings}
+use Rattle.krs_types.specs.declared.{errno.Errno.Errno, event.Event.Event, rights.Want.TheVariants.Granted}
+use Rattle.krs_model.specs.Asks.Invalidating.{context_without, detached, rings_without}
+use Rattle.krs_model.specs.Asks.{Leaving.{contexts_without, has_process, has_uid, left}, Linked.without_link}
+use Rattle.krs_model.specs.Confidentiality.{AreUnchanged, foreign_keys, foreign_process, HasToItself, IsAskedBy}
+use Rattle.krs_model.specs.{Levels.is_in, Lookup.{context_of, serial_of}, Possession.links_of_content}
+use Rattle.krs_model.specs.{Reach.links_of_key_at, Sound.IsSound, State.{Key, Links, Payload, raised, State}}
+use Rattle.krs_model.specs.{Step.{Ends, Serves, Step}, Sweep.{Attached, context_roots, IsHeld, IsSweep, Linked}}
+use Rattle.krs_model.specs.{Sweep.{links_of_key, process_roots, roots, uid_roots}, Table.{alter, at, put, Table}}
+use Rattle.krs_model.proofs.Asks.Houses.{Alters, Begins, Departs, Detaches, Enters, Execs, Exits, Houses, Rings, Same}
+use Rattle.krs_model.proofs.Asks.{Houses.Threads, Laws.law_of}
+use Rattle.krs_model.proofs.Isolation.{Attachments.is_foreign, Guarded.{none_found, NotBy}, Keys.false_where}
+use Rattle.krs_model.proofs.Isolation.{Steps.{raised_alone, same_context}, Untouched.{AreSame, IsDetached, KeysAfter}}
+use Rattle.krs_model.proofs.Lookups.Serials.{found_serial, own_there}
+use Rattle.krs_model.proofs.Reach.Levels.{in_left, in_one, in_right, only_in, same_is}
+use Rattle.krs_model.proofs.Sound.Attached.{attached_at, attached_by, attached_entry, context_keys, in_context}
+use Rattle.krs_model.proofs.Sound.Attached.{in_process, in_uid, uid_keys}
+use Rattle.krs_model.proofs.Sound.{Changes.{at_change, at_put, IsChanged, IsPut}, InUse.was_mapped}
+use Rattle.krs_model.proofs.{Sound.Steps.{raised_sound, sound_stands}, Tables.Changes.{at_kept, at_map}}
+use Rattle.krs_model.proofs.Tables.Entries.{entry_passes, filter_still, IsEntry, rises_distinct, still_unless}
 
 -- no context of the uid asks, nor leaves
 pub record IsOutside (uid : ℕ) (s : State) (client context : ℕ) (op : Op) : Type 0 where

@@ -1,40 +1,19 @@
 -- Each step leaves a uid its keys to itself, but where a context of it gives one away.
-use Rattle.std.proofs.Common.{◌≡◌, ◌≢◌, ℕ, ◌==◌, List, [], Bool, true, false, Some, filter}
-use Rattle.std.proofs.Common.{Result, Ok, Err, refl, ap, sym, subst, ◌∙◌, ◌⊎◌, inl, inr, ⊎_elim, arith}
-use Rattle.std.proofs.lemmas.Bool.{true≢false}
-use Rattle.std.proofs.lemmas.Bool.Decides.{nat_tests}
-use Rattle.krs_types.specs.declared.errno.Errno.{Errno}
-use Rattle.krs_types.specs.declared.context.Context.{Context}
-use Rattle.krs_types.specs.declared.ask.Answer.{Answer}
-use Rattle.krs_types.specs.declared.ask.Op.{Op}
-use Rattle.krs_types.specs.declared.event.Event.{Event}
-use Rattle.krs_types.specs.declared.rights.Rights.{Rights}
+use Rattle.std.proofs.Common.{[], ⊎_elim, ◌==◌, ◌∙◌, ◌≡◌, ◌≢◌, ◌⊎◌, ap, arith, Bool, Err, false, filter, inl, inr, List}
+use Rattle.std.proofs.{Common.{Ok, refl, Result, Some, subst, sym, true, true≢false, ℕ}, lemmas.Bool.Decides.nat_tests}
 use Rattle.krs_types.specs.Rights.{has_all, READ, SEARCH}
+use Rattle.krs_types.specs.declared.{ask.{Answer.Answer, Op.Op}, context.Context.Context, errno.Errno.Errno}
+use Rattle.krs_types.specs.declared.{event.Event.Event, rights.Rights.Rights}
 use Rattle.krs_model.specs.Access.{rights_on}
-use Rattle.krs_model.specs.Table.{Table, at}
-use Rattle.krs_model.specs.State.{State, Key, raised}
-use Rattle.krs_model.specs.Possession.{possessed}
-use Rattle.krs_model.specs.Levels.{is_in}
-use Rattle.krs_model.specs.Reach.{links_of_key_at}
-use Rattle.krs_model.specs.Lookup.{context_of}
-use Rattle.krs_model.specs.History.{IsLegal}
-use Rattle.krs_model.specs.Revocation.{Reads}
-use Rattle.krs_model.specs.Secrecy.{MayBeRead, Grants}
-use Rattle.krs_model.specs.Sweep.{IsSweep, live_watches}
-use Rattle.krs_model.specs.Sound.{IsSound}
-use Rattle.krs_model.specs.Step.{Step, Serves, Ends, posts_by}
-use Rattle.krs_model.specs.Notes.Posting.{Post, posted_in}
-use Rattle.krs_model.specs.Confidentiality.{is_own, AreEnclosed, HasToItself, ActsAs, may_give, IsGivenAway}
-use Rattle.krs_model.specs.Confidentiality.{GivesAway}
-use Rattle.krs_model.proofs.Asks.Later.{same_ok}
-use Rattle.krs_model.proofs.Lookups.Serials.{own_there}
-use Rattle.krs_model.proofs.Sound.Steps.{sound_stands, raised_sound}
-use Rattle.krs_model.proofs.Hiding.Readers.{reads_by_right}
-use Rattle.krs_model.proofs.Isolation.Keys.{kept_enclosed, no_rights}
-use Rattle.krs_model.proofs.Isolation.Attachments.{attaches_none, same_unattached}
-use Rattle.krs_model.proofs.Isolation.Guarded.{Guarded, NotBy, Holds}
-use Rattle.krs_model.proofs.Isolation.Guarded.{alone_guarded}
-use Rattle.krs_model.proofs.Asks.Laws.{law_of}
+use Rattle.krs_model.specs.Confidentiality.{ActsAs, AreEnclosed, GivesAway, HasToItself, is_own, IsGivenAway, may_give}
+use Rattle.krs_model.specs.{History.IsLegal, Levels.is_in, Lookup.context_of, Notes.Posting.{Post, posted_in}}
+use Rattle.krs_model.specs.{Possession.possessed, Reach.links_of_key_at, Revocation.Reads, Secrecy.{Grants, MayBeRead}}
+use Rattle.krs_model.specs.{Sound.IsSound, State.{Key, raised, State}, Step.{Ends, posts_by, Serves, Step}}
+use Rattle.krs_model.specs.{Sweep.{IsSweep, live_watches}, Table.{at, Table}}
+use Rattle.krs_model.proofs.Asks.{Later.same_ok, Laws.law_of}
+use Rattle.krs_model.proofs.{Hiding.Readers.reads_by_right, Isolation.Attachments.{attaches_none, same_unattached}}
+use Rattle.krs_model.proofs.Isolation.{Guarded.{alone_guarded, Guarded, Holds, NotBy}, Keys.{kept_enclosed, no_rights}}
+use Rattle.krs_model.proofs.{Lookups.Serials.own_there, Sound.Steps.{raised_sound, sound_stands}}
 
 sweep_guarded :
     (uid : ℕ) (private : ℕ → Bool) (P : Type 0) (old new : State) → IsSweep old new → Guarded uid private P old

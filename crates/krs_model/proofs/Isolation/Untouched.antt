@@ -1,31 +1,17 @@
 -- An ask in no context of a uid leaves each key that the uid has to itself as it is, but that an invalidated key goes out
 -- of its links.
-use Rattle.std.proofs.Common.{◌≡◌, ℕ, ℤ, Bool, true}
-use Rattle.std.proofs.Common.{Result, Ok, refl, ◌∙◌, subst, ◌⊎◌, ⊎_elim}
-use Rattle.std.specs.Prelude.{codes}
-use Rattle.krs_types.specs.declared.errno.Errno.{Errno}
-use Rattle.krs_types.specs.declared.context.Context.{Context}
-use Rattle.krs_types.specs.declared.key_id.KeyId.{KeyId}
-use Rattle.krs_types.specs.declared.rights.Want.TheVariants.{Granted}
-use Rattle.krs_types.specs.Rights.{WRITE, SEARCH}
-use Rattle.krs_types.specs.KeyId.{key_id_of}
-use Rattle.krs_model.specs.Table.{Table, at, put, alter, map_values}
-use Rattle.krs_model.specs.State.{State, Key}
-use Rattle.krs_model.specs.Lookup.{context_of, look_up}
-use Rattle.krs_model.specs.Linking.{is_named}
-use Rattle.krs_model.specs.Making.{made_for, special_ring}
-use Rattle.krs_model.specs.Asks.Linked.{linked_into, name_of, without_link}
-use Rattle.krs_types.specs.declared.ask.Op.{Op}
-use Rattle.krs_types.specs.declared.ask.Op.TheVariants.{Invalidate}
+use Rattle.std.proofs.Common.{⊎_elim, ◌∙◌, ◌≡◌, ◌⊎◌, Bool, codes, Ok, refl, Result, subst, true, ℕ, ℤ}
+use Rattle.krs_types.specs.{KeyId.key_id_of, Rights.{SEARCH, WRITE}, declared.ask.Op.Op}
+use Rattle.krs_types.specs.declared.{ask.Op.TheVariants.Invalidate, context.Context.Context, errno.Errno.Errno}
+use Rattle.krs_types.specs.declared.{key_id.KeyId.KeyId, rights.Want.TheVariants.Granted}
 use Rattle.krs_model.specs.Asks.Leaving.{left}
-use Rattle.krs_model.specs.Search.{found}
+use Rattle.krs_model.specs.{Asks.Linked.{linked_into, name_of, without_link}, Confidentiality.HasToItself}
+use Rattle.krs_model.specs.{Linking.is_named, Lookup.{context_of, look_up}, Making.{made_for, special_ring}}
+use Rattle.krs_model.specs.{Search.found, State.{Key, State}, Table.{alter, at, map_values, put, Table}}
 use Rattle.krs_model.proofs.Asks.LaterByAsk.{linked_into_is}
-use Rattle.krs_model.proofs.Isolation.Keys.{not_found}
-use Rattle.krs_model.proofs.Isolation.Links.{other_made, made_alone}
-use Rattle.krs_model.specs.Confidentiality.{HasToItself}
-use Rattle.krs_model.proofs.Sound.Changes.{Stands, IsChanged, at_change, IsPut, at_put, with_linked}
-use Rattle.krs_model.proofs.MadeKeyring.Which.{IsMade, NoneMade, ThreadMade, ProcessMade, made_for_is}
-use Rattle.krs_model.proofs.Isolation.Guarded.{NotBy, next_apart}
+use Rattle.krs_model.proofs.Isolation.{Guarded.{next_apart, NotBy}, Keys.not_found, Links.{made_alone, other_made}}
+use Rattle.krs_model.proofs.MadeKeyring.Which.{IsMade, made_for_is, NoneMade, ProcessMade, ThreadMade}
+use Rattle.krs_model.proofs.Sound.Changes.{at_change, at_put, IsChanged, IsPut, Stands, with_linked}
 
 abbrev pub AreSame : (ℕ → Bool) → Table Key → Table Key → Type 0
 AreSame private old new = (k : ℕ) → private k ≡ true → at new k ≡ at old k

@@ -1,9 +1,8 @@
 -- Laws of rights.
-use Rattle.std.proofs.Common.{◌≡◌, ◌≢◌, ℕ, ◌==◌, true, false, cond, refl, ap, ◌∙◌, arith}
+use Rattle.std.proofs.Common.{◌==◌, ◌∙◌, ◌≡◌, ◌≢◌, ap, arith, cond, false, refl, true, ℕ}
 use Rattle.std.proofs.lemmas.Bool.Decides.{nat_tests}
+use Rattle.krs_types.specs.{Caller.is_of_group, Perm.{class_byte, granted, group_byte, other_byte, user_byte}}
 use Rattle.krs_types.specs.declared.caller.Caller.{Caller}
-use Rattle.krs_types.specs.Caller.{is_of_group}
-use Rattle.krs_types.specs.Perm.{granted, class_byte, user_byte, group_byte, other_byte}
 use Rattle.krs_model.specs.Laws.{IsOneByte}
 
 equal : (a b : ℕ) → a ≡ b → (a == b) ≡ true

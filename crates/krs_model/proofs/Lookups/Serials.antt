@@ -1,16 +1,10 @@
 -- The serial that a look-up answers.
-use Rattle.std.proofs.Common.{◌≡◌, ℕ, ℤ, ◌==◌, true, false, cond, Bool, Option, Some, None, Result, Ok, Err, ap, ◌∙◌}
-use Rattle.krs_types.specs.declared.errno.Errno.{Errno}
-use Rattle.krs_types.specs.declared.errno.Errno.TheVariants.{ENOKEY, ESRCH, EKEYREVOKED, EKEYEXPIRED, EACCES}
-use Rattle.krs_types.specs.declared.context.Context.{Context}
+use Rattle.std.proofs.Common.{◌==◌, ◌∙◌, ◌≡◌, ap, Bool, cond, Err, false, None, Ok, Option, Result, Some, true, ℕ, ℤ}
+use Rattle.krs_types.specs.{Refusing.{◌>>=◌, or_refuse}, Rights.allows, declared.context.Context.Context}
+use Rattle.krs_types.specs.declared.errno.Errno.{Errno, TheVariants.{EACCES, EKEYEXPIRED, EKEYREVOKED, ENOKEY, ESRCH}}
 use Rattle.krs_types.specs.declared.rights.Want.{Want}
-use Rattle.krs_types.specs.Rights.{allows}
-use Rattle.krs_types.specs.Refusing.{◌>>=◌, or_refuse}
-use Rattle.krs_model.specs.Table.{at}
-use Rattle.krs_model.specs.State.{State, Key}
-use Rattle.krs_model.specs.Access.{is_over, rights_on}
-use Rattle.krs_model.specs.Possession.{possessed}
-use Rattle.krs_model.specs.Lookup.{context_of, if_own, serial_of, if_usable, look_up}
+use Rattle.krs_model.specs.{Access.{is_over, rights_on}, Lookup.{context_of, if_own, if_usable, look_up, serial_of}}
+use Rattle.krs_model.specs.{Possession.possessed, State.{Key, State}, Table.at}
 use Rattle.krs_model.proofs.Asks.Later.{bind_ok}
 
 chosen :

@@ -1,40 +1,22 @@
 -- What links to a thread or process keyring that is made, and what is added to it.
-use Rattle.std.proofs.Common.{◌≡◌, ◌≢◌, ℕ, ℤ, List, Option, Some}
-use Rattle.std.proofs.Common.{None, Bool, cond, Result, Ok, Err, refl, ap}
-use Rattle.std.proofs.Common.{◌∙◌, arith}
-use Rattle.std.specs.Prelude.{nat_lt}
-use Rattle.std.specs.Option.{IsSome}
-use Rattle.krs_types.specs.declared.errno.Errno.{Errno}
-use Rattle.krs_types.specs.declared.errno.Errno.TheVariants.{ENOKEY, EACCES, EDEADLK}
-use Rattle.krs_types.specs.declared.errno.Errno.TheVariants.{ELOOP, ENOSPC}
-use Rattle.krs_types.specs.declared.caller.Caller.{Caller}
-use Rattle.krs_types.specs.declared.context.Context.{Context}
-use Rattle.krs_types.specs.declared.name.Name.{Name}
-use Rattle.krs_types.specs.declared.rights.Want.TheVariants.{Granted}
-use Rattle.krs_types.specs.Rights.{has_all, SEARCH, WRITE, LINK}
+use Rattle.std.proofs.Common.{◌∙◌, ◌≡◌, ◌≢◌, ap, arith, Bool, cond, Err, IsSome, List, nat_lt, None, Ok, Option, refl}
+use Rattle.std.proofs.Common.{Result, Some, ℕ, ℤ}
 use Rattle.krs_types.specs.Refusing.{◌>>=◌, or_refuse}
-use Rattle.krs_model.specs.Table.{Table, at}
-use Rattle.krs_model.specs.State.{State, Key}
-use Rattle.krs_model.specs.Access.{rights_on}
-use Rattle.krs_model.specs.Possession.{possessed}
-use Rattle.krs_model.specs.Reach.{has_chain, nesting_depth}
-use Rattle.krs_model.specs.Search.{found}
-use Rattle.krs_model.specs.Search.{requested}
-use Rattle.krs_model.specs.Linking.{linking, link_named, ring_links}
-use Rattle.krs_model.specs.Sound.{IsSound, AllLinked}
-use Rattle.krs_model.specs.Asks.Linked.{unless, nestable, linked, linked_into, name_of}
-use Rattle.krs_model.specs.Asks.Finding.{got, if_linkable, found_into, sought_into, requested_into}
-use Rattle.krs_model.specs.Outcome.{Outcome}
-use Rattle.krs_types.specs.declared.ask.Answer.TheVariants.{Nothing, Number}
-use Rattle.krs_model.specs.Asks.Changing.{changed}
-use Rattle.krs_model.specs.Asks.Adding.{Place, Made, by_match, place_of}
-use Rattle.krs_model.specs.Lookup.{serial_of, look_up}
-use Rattle.krs_model.specs.Making.{special_ring}
-use Rattle.krs_model.proofs.Sound.NewContexts.{own_process_there}
-use Rattle.krs_model.proofs.MadeKeyring.State.{HasMade}
-use Rattle.krs_model.proofs.MadeKeyring.Lookups.{possessed_other, there_new, rights_new, look_up_new}
+use Rattle.krs_types.specs.{Rights.{has_all, LINK, SEARCH, WRITE}, declared.ask.Answer.TheVariants.{Nothing, Number}}
+use Rattle.krs_types.specs.declared.{caller.Caller.Caller, context.Context.Context, errno.Errno.Errno}
+use Rattle.krs_types.specs.declared.errno.Errno.TheVariants.{EACCES, EDEADLK, ELOOP, ENOKEY, ENOSPC}
+use Rattle.krs_types.specs.declared.{name.Name.Name, rights.Want.TheVariants.Granted}
+use Rattle.krs_model.specs.{Access.rights_on, Asks.Adding.{by_match, Made, Place, place_of}}
+use Rattle.krs_model.specs.Asks.{Changing.changed, Finding.{found_into, got, if_linkable, requested_into, sought_into}}
+use Rattle.krs_model.specs.Asks.Linked.{linked, linked_into, name_of, nestable, unless}
+use Rattle.krs_model.specs.Linking.{link_named, linking, ring_links}
+use Rattle.krs_model.specs.{Lookup.{look_up, serial_of}, Making.special_ring, Outcome.Outcome, Possession.possessed}
+use Rattle.krs_model.specs.{Reach.{has_chain, nesting_depth}, Search.{found, requested}, Sound.{AllLinked, IsSound}}
+use Rattle.krs_model.specs.{State.{Key, State}, Table.{at, Table}}
+use Rattle.krs_model.proofs.MadeKeyring.Lookups.{look_up_new, possessed_other, rights_new, there_new}
 use Rattle.krs_model.proofs.MadeKeyring.Nesting.{nestable_other, nestable_self}
-use Rattle.krs_model.proofs.MadeKeyring.Searches.{there_is, found_other, AreThere, attached_there}
+use Rattle.krs_model.proofs.MadeKeyring.Searches.{AreThere, attached_there, found_other, there_is}
+use Rattle.krs_model.proofs.{MadeKeyring.State.HasMade, Sound.NewContexts.own_process_there}
 
 -- a new keyring has room
 after_room :

@@ -1,35 +1,19 @@
 -- What is possessed and what a look-up meets where a thread or process keyring is made.
-use Rattle.std.proofs.Common.{◌≡◌, ◌≢◌, ℕ, ℤ, zero, suc, ◌==◌, ◌&&◌, ◌||◌, List, [], ◌∷◌, ◌++◌, Option, Some}
-use Rattle.std.proofs.Common.{None, Bool, true, false, cond, flat_map, Result, Ok, Err, refl, ap}
-use Rattle.std.proofs.Common.{◌∙◌, sym, arith, ◌⊎◌, inl, inr, ⊎_elim}
-use Rattle.std.proofs.lemmas.Bool.Decides.{nat_tests}
-use Rattle.std.proofs.lemmas.List.Folds.{list_any-append}
-use Rattle.std.proofs.lemmas.Grind.{flat_map-append}
-use Rattle.krs_types.specs.declared.errno.Errno.{Errno}
-use Rattle.krs_types.specs.declared.errno.Errno.TheVariants.{ENOKEY, EKEYREVOKED, EKEYEXPIRED, EACCES}
-use Rattle.krs_types.specs.declared.caller.Caller.{Caller}
-use Rattle.krs_types.specs.declared.context.Context.{Context}
-use Rattle.krs_types.specs.declared.key_id.KeyId.{KeyId}
-use Rattle.krs_types.specs.declared.rights.Rights.{Rights}
-use Rattle.krs_types.specs.declared.rights.Want.{Want}
-use Rattle.krs_types.specs.declared.rights.Want.TheVariants.{Granted}
-use Rattle.krs_types.specs.KeyId.{key_id_of}
-use Rattle.std.specs.Int.RustNames.{bit_or}
+use Rattle.std.proofs.Common.{[], ⊎_elim, ◌&&◌, ◌++◌, ◌==◌, ◌||◌, ◌∙◌, ◌∷◌, ◌≡◌, ◌≢◌, ◌⊎◌, ap, arith, bit_or, Bool}
+use Rattle.std.proofs.Common.{cond, Err, false, flat_map, inl, inr, List, None, Ok, Option, refl, Result, Some, suc}
+use Rattle.std.proofs.Common.{sym, true, zero, ℕ, ℤ}
+use Rattle.std.proofs.lemmas.{Bool.Decides.nat_tests, Grind.flat_map-append, List.Folds.list_any-append}
 use Rattle.krs_types.specs.Caller.{is_of_group}
-use Rattle.krs_types.specs.Perm.{group_byte, other_byte}
-use Rattle.krs_types.specs.Rights.{has_all, allows, SEARCH}
-use Rattle.krs_types.specs.Refusing.{◌>>=◌, or_refuse}
-use Rattle.krs_model.specs.Table.{Table, at, put}
-use Rattle.krs_model.specs.State.{State, Key}
-use Rattle.krs_model.specs.Access.{is_alive, is_over, rights_on}
-use Rattle.krs_model.specs.Levels.{level, levels, is_in, search_depth}
-use Rattle.krs_model.specs.Possession.{attached, links_of_content, followed, followed_in, possessed}
-use Rattle.krs_model.specs.Lookup.{attachment, serial_of, if_usable, look_up}
-use Rattle.krs_model.specs.Making.{special_ring}
-use Rattle.krs_model.proofs.Tables.Changes.{at_put_same}
-use Rattle.krs_model.proofs.Reach.Levels.{in_right, same_is}
-use Rattle.krs_model.proofs.Reach.Acyclic.{heads_first}
-use Rattle.krs_model.proofs.MadeKeyring.State.{HasMade, StandsFor, either_at, at_other}
+use Rattle.krs_types.specs.{KeyId.key_id_of, Perm.{group_byte, other_byte}, Refusing.{◌>>=◌, or_refuse}}
+use Rattle.krs_types.specs.{Rights.{allows, has_all, SEARCH}, declared.{caller.Caller.Caller, context.Context.Context}}
+use Rattle.krs_types.specs.declared.errno.Errno.{Errno, TheVariants.{EACCES, EKEYEXPIRED, EKEYREVOKED, ENOKEY}}
+use Rattle.krs_types.specs.declared.{key_id.KeyId.KeyId, rights.{Rights.Rights, Want.{Want, TheVariants.Granted}}}
+use Rattle.krs_model.specs.{Access.{is_alive, is_over, rights_on}, Levels.{is_in, level, levels, search_depth}}
+use Rattle.krs_model.specs.{Lookup.{attachment, if_usable, look_up, serial_of}, Making.special_ring}
+use Rattle.krs_model.specs.Possession.{attached, followed, followed_in, links_of_content, possessed}
+use Rattle.krs_model.specs.{State.{Key, State}, Table.{at, put, Table}}
+use Rattle.krs_model.proofs.MadeKeyring.State.{at_other, either_at, HasMade, StandsFor}
+use Rattle.krs_model.proofs.{Reach.{Acyclic.heads_first, Levels.{in_right, same_is}}, Tables.Changes.at_put_same}
 
 pub none_followed : (b : Bool) (links : List ℕ) → links ≡ [] → cond b links [] ≡ []
 none_followed true links empty = empty

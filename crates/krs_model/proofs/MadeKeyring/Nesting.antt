@@ -1,27 +1,15 @@
 -- Which keyrings nest and which links close a cycle where a thread or process keyring is made.
-use Rattle.std.proofs.Common.{◌≡◌, ◌≢◌, ℕ, suc, List, [], ◌∷◌, Option}
-use Rattle.std.proofs.Common.{None, Bool, true, false, filter, length, Result, Err, refl, ap}
-use Rattle.std.proofs.Common.{◌∙◌, sym, subst, ⊎_elim}
-use Rattle.std.specs.Ordering.{nat_cmp, match_ordering}
-use Rattle.std.specs.declared.cmp.Ordering.TheVariants.{Less, Equal, Greater}
-use Rattle.krs_types.specs.declared.errno.Errno.{Errno}
-use Rattle.krs_types.specs.declared.errno.Errno.TheVariants.{EDEADLK}
-use Rattle.krs_types.specs.declared.errno.Errno.TheVariants.{ELOOP}
-use Rattle.krs_types.specs.Refusing.{◌>>=◌}
-use Rattle.krs_model.specs.Table.{Table, at, put}
-use Rattle.krs_model.specs.State.{Key}
-use Rattle.krs_model.specs.Levels.{level, levels, is_in}
-use Rattle.krs_model.specs.Possession.{links_of_content}
-use Rattle.krs_model.specs.Sweep.{links_of_key}
-use Rattle.krs_model.specs.Reach.{links_of_key_at, closes, is_ring, nested_in, is_some_in, has_chain, nesting_depth}
-use Rattle.krs_model.specs.Sound.{AllLinked}
-use Rattle.krs_model.specs.Asks.Linked.{unless, nestable, linked}
-use Rattle.krs_model.proofs.Reach.Levels.{same_is, levels_linked}
-use Rattle.krs_model.proofs.Tables.Tests.{AgreeOn, filter_agree}
-use Rattle.krs_model.proofs.Reach.Levels.{only_in}
-use Rattle.krs_model.proofs.Reach.Acyclic.{heads_first}
-use Rattle.krs_model.proofs.Sound.Changes.{not_there}
-use Rattle.krs_model.proofs.MadeKeyring.State.{either_at, at_other}
+use Rattle.std.proofs.Common.{[], ⊎_elim, ◌∙◌, ◌∷◌, ◌≡◌, ◌≢◌, ap, Bool, Err, false, filter, length, List, nat_cmp, None}
+use Rattle.std.proofs.Common.{Option, refl, Result, subst, suc, sym, true, ℕ}
+use Rattle.std.specs.{Ordering.match_ordering, declared.cmp.Ordering.TheVariants.{Equal, Greater, Less}}
+use Rattle.krs_types.specs.{Refusing.◌>>=◌, declared.errno.Errno.{Errno, TheVariants.{EDEADLK, ELOOP}}}
+use Rattle.krs_model.specs.Asks.Linked.{linked, nestable, unless}
+use Rattle.krs_model.specs.{Levels.{is_in, level, levels}, Possession.links_of_content}
+use Rattle.krs_model.specs.Reach.{closes, has_chain, is_ring, is_some_in, links_of_key_at, nested_in, nesting_depth}
+use Rattle.krs_model.specs.{Sound.AllLinked, State.Key, Sweep.links_of_key, Table.{at, put, Table}}
+use Rattle.krs_model.proofs.MadeKeyring.State.{at_other, either_at}
+use Rattle.krs_model.proofs.Reach.{Acyclic.heads_first, Levels.{levels_linked, only_in, same_is}}
+use Rattle.krs_model.proofs.{Sound.Changes.not_there, Tables.Tests.{AgreeOn, filter_agree}}
 
 -- what is linked is not the new keyring
 pub linked_other :

@@ -1,43 +1,24 @@
 -- What a search and a request meet where a thread or process keyring is made.
-use Rattle.std.proofs.Common.{◌≡◌, ◌≢◌, ℕ, zero, suc, ◌==◌, ◌&&◌, ◌||◌, List, [], ◌∷◌, ◌++◌, Option, Some}
-use Rattle.std.proofs.Common.{None, Bool, true, false, not, cond, flat_map, Result, Ok, Err, refl, ap}
-use Rattle.std.proofs.Common.{◌∙◌, sym, subst, ⊎_elim}
-use Rattle.std.specs.Option.{IsSome, option_to_list, unwrap_or}
-use Rattle.std.specs.List.{list_any, find}
-use Rattle.std.proofs.lemmas.Bool.{true≢false}
+use Rattle.std.proofs.Common.{[], ⊎_elim, ◌&&◌, ◌++◌, ◌==◌, ◌||◌, ◌∙◌, ◌∷◌, ◌≡◌, ◌≢◌, ap, Bool, cond, Err, false, find}
+use Rattle.std.proofs.Common.{flat_map, IsSome, List, None, not, Ok, Option, option_to_list, refl, Result, Some, subst}
+use Rattle.std.proofs.Common.{suc, sym, true, true≢false, unwrap_or, zero, ℕ}
+use Rattle.std.specs.List.{list_any}
 use Rattle.std.proofs.lemmas.Grind.{flat_map-append}
-use Rattle.krs_types.specs.declared.errno.Errno.{Errno}
-use Rattle.krs_types.specs.declared.errno.Errno.TheVariants.{ENOKEY}
-use Rattle.krs_types.specs.declared.caller.Caller.{Caller}
-use Rattle.krs_types.specs.declared.context.Context.{Context}
-use Rattle.krs_types.specs.declared.name.Name.{Name}
-use Rattle.krs_types.specs.Rights.{has_all, SEARCH}
-use Rattle.krs_types.specs.Refusing.{or_refuse}
-use Rattle.krs_model.specs.Table.{Table, at}
-use Rattle.krs_model.specs.State.{State, Key}
-use Rattle.krs_model.specs.Access.{is_alive, is_over, rights_on}
-use Rattle.krs_model.specs.Levels.{level, levels, is_in, search_depth}
-use Rattle.krs_model.specs.Possession.{attached, process_ring, links_of_content, possessed}
-use Rattle.krs_model.specs.Sweep.{links_of_key, process_roots}
-use Rattle.krs_model.specs.Search.{Searcher, searcher_of, grants_search, is_open, open_links, entered, searched}
-use Rattle.krs_model.specs.Search.{is_match, is_answer, is_revoked, is_expired, is_denied, fault, sought, found}
-use Rattle.krs_model.specs.Search.{requested, or_next}
-use Rattle.krs_model.specs.Laws.{in_turn}
-use Rattle.krs_model.specs.Linking.{is_named}
-use Rattle.krs_model.specs.Sound.{AllLinked, AllAttached}
-use Rattle.krs_model.specs.Asks.Linked.{linked}
-use Rattle.krs_model.specs.Making.{special_ring}
-use Rattle.krs_model.proofs.Tables.Changes.{at_put_same}
-use Rattle.krs_model.proofs.Reach.Levels.{in_left, in_right, in_one, in_flat, same_is, levels_linked}
-use Rattle.krs_model.proofs.Tables.Tests.{AgreeOn, find_agree, any_agree}
-use Rattle.krs_model.proofs.Sound.Attached.{context_keys, attached_at, in_context, in_process}
-use Rattle.krs_model.proofs.Reach.Levels.{only_in}
-use Rattle.krs_model.proofs.Reach.Searches.{sought_append, in_turn_flat}
-use Rattle.krs_model.proofs.Reach.Acyclic.{is_or_not}
-use Rattle.krs_model.proofs.Sound.Changes.{not_there}
-use Rattle.krs_model.proofs.MadeKeyring.State.{HasMade, at_other}
-use Rattle.krs_model.proofs.MadeKeyring.Lookups.{none_followed, possessed_other, there_new, rights_new}
-use Rattle.krs_model.proofs.MadeKeyring.Nesting.{linked_other}
+use Rattle.krs_types.specs.{Refusing.or_refuse, Rights.{has_all, SEARCH}, declared.caller.Caller.Caller}
+use Rattle.krs_types.specs.declared.{context.Context.Context, errno.Errno.{Errno, TheVariants.ENOKEY}, name.Name.Name}
+use Rattle.krs_model.specs.{Access.{is_alive, is_over, rights_on}, Asks.Linked.linked, Laws.in_turn}
+use Rattle.krs_model.specs.{Levels.{is_in, level, levels, search_depth}, Linking.is_named, Making.special_ring}
+use Rattle.krs_model.specs.Possession.{attached, links_of_content, possessed, process_ring}
+use Rattle.krs_model.specs.Search.{entered, fault, found, grants_search, is_answer, is_denied, is_expired, is_match}
+use Rattle.krs_model.specs.Search.{is_open, is_revoked, open_links, or_next, requested, searched, Searcher, searcher_of}
+use Rattle.krs_model.specs.{Search.sought, Sound.{AllAttached, AllLinked}, State.{Key, State}}
+use Rattle.krs_model.specs.{Sweep.{links_of_key, process_roots}, Table.{at, Table}}
+use Rattle.krs_model.proofs.MadeKeyring.Lookups.{none_followed, possessed_other, rights_new, there_new}
+use Rattle.krs_model.proofs.{MadeKeyring.{Nesting.linked_other, State.{at_other, HasMade}}, Reach.Acyclic.is_or_not}
+use Rattle.krs_model.proofs.Reach.Levels.{in_flat, in_left, in_one, in_right, levels_linked, only_in, same_is}
+use Rattle.krs_model.proofs.Reach.Searches.{in_turn_flat, sought_append}
+use Rattle.krs_model.proofs.Sound.{Attached.{attached_at, context_keys, in_context, in_process}, Changes.not_there}
+use Rattle.krs_model.proofs.Tables.{Changes.at_put_same, Tests.{AgreeOn, any_agree, find_agree}}
 
 abbrev grants_by : Key → Caller → Bool → Bool
 grants_by key caller mine = has_all (rights_on key caller mine) SEARCH

@@ -1,25 +1,15 @@
 -- A thread or process keyring that is made: what its store is, told by the state before.
-use Rattle.std.proofs.Common.{◌≡◌, ◌≢◌, ℕ, ℤ, ◌+◌, List, [], ◌∷◌, ◌++◌, Option, Some}
-use Rattle.std.proofs.Common.{None, Result, Ok, refl, ap}
-use Rattle.std.proofs.Common.{◌∙◌, sym, subst, ◌⊎◌, inl, inr, ⊎_elim}
-use Rattle.std.specs.Prelude.{codes}
-use Rattle.std.specs.Option.{IsSome, option_to_list, option_map, unwrap_or}
-use Rattle.std.proofs.lemmas.Bool.{true≢false}
-use Rattle.krs_types.specs.declared.errno.Errno.{Errno}
-use Rattle.krs_types.specs.declared.errno.Errno.TheVariants.{ENOKEY}
-use Rattle.krs_types.specs.declared.context.Context.{Context}
-use Rattle.krs_types.specs.declared.key_id.KeyId.{KeyId}
-use Rattle.krs_types.specs.declared.key_id.KeyId.TheVariants.{Serial, Thread, Process, Session, User, UserSession}
-use Rattle.krs_types.specs.KeyId.{key_id_of}
-use Rattle.krs_types.specs.Refusing.{◌>>=◌, or_refuse}
-use Rattle.krs_model.specs.Table.{Table, at, put}
-use Rattle.krs_model.specs.State.{State, Key}
-use Rattle.krs_model.specs.Possession.{attached, process_ring}
+use Rattle.std.proofs.Common.{[], ⊎_elim, ◌++◌, ◌+◌, ◌∙◌, ◌∷◌, ◌≡◌, ◌≢◌, ◌⊎◌, ap, codes, inl, inr, IsSome, List, None}
+use Rattle.std.proofs.Common.{Ok, Option, option_map, option_to_list, refl, Result, Some, subst, sym, true≢false}
+use Rattle.std.proofs.Common.{unwrap_or, ℕ, ℤ}
+use Rattle.krs_types.specs.{KeyId.key_id_of, Refusing.{◌>>=◌, or_refuse}, declared.context.Context.Context}
+use Rattle.krs_types.specs.declared.{errno.Errno.{Errno, TheVariants.ENOKEY}, key_id.KeyId.KeyId}
+use Rattle.krs_types.specs.declared.key_id.KeyId.TheVariants.{Process, Serial, Session, Thread, User, UserSession}
 use Rattle.krs_model.specs.Lookup.{attachment, serial_of}
-use Rattle.krs_model.specs.Making.{special_ring, thread_to, with_thread, with_process, made_for}
-use Rattle.krs_model.proofs.Tables.Changes.{at_alter_same}
-use Rattle.krs_model.proofs.Sound.Changes.{IsPut, at_put}
-use Rattle.krs_model.proofs.MadeKeyring.Which.{IsMade, NoneMade, ThreadMade, ProcessMade, made_for_is}
+use Rattle.krs_model.specs.Making.{made_for, special_ring, thread_to, with_process, with_thread}
+use Rattle.krs_model.specs.{Possession.{attached, process_ring}, State.{Key, State}, Table.{at, put, Table}}
+use Rattle.krs_model.proofs.MadeKeyring.Which.{IsMade, made_for_is, NoneMade, ProcessMade, ThreadMade}
+use Rattle.krs_model.proofs.{Sound.Changes.{at_put, IsPut}, Tables.Changes.at_alter_same}
 
 -- t and d are s and c with an empty keyring of that description made under the next serial, which is attached behind
 -- some keyrings and before others, and which a special id stands for

@@ -1,17 +1,12 @@
 -- What is made for an id: nothing, a thread keyring or a process keyring.
-use Rattle.std.proofs.Common.{◌≡◌, ℕ, ℤ, Option, Some, None, Result, Ok, Err, refl, ap, ◌∙◌, sym}
+use Rattle.std.proofs.Common.{◌∙◌, ◌≡◌, ap, Err, None, Ok, Option, refl, Result, Some, sym, ℕ, ℤ}
 use Rattle.std.proofs.lemmas.Option.{none-some}
-use Rattle.krs_types.specs.declared.errno.Errno.{Errno}
-use Rattle.krs_types.specs.declared.errno.Errno.TheVariants.{ENOKEY}
-use Rattle.krs_types.specs.declared.context.Context.{Context}
-use Rattle.krs_types.specs.declared.key_id.KeyId.{KeyId}
-use Rattle.krs_types.specs.declared.key_id.KeyId.TheVariants.{Serial, Thread, Process, Session, User, UserSession}
-use Rattle.krs_types.specs.KeyId.{key_id_of}
-use Rattle.krs_types.specs.Refusing.{◌>>=◌, or_refuse}
-use Rattle.krs_model.specs.State.{State}
-use Rattle.krs_model.specs.Possession.{process_ring}
+use Rattle.krs_types.specs.{KeyId.key_id_of, Refusing.{◌>>=◌, or_refuse}, declared.context.Context.Context}
+use Rattle.krs_types.specs.declared.{errno.Errno.{Errno, TheVariants.ENOKEY}, key_id.KeyId.KeyId}
+use Rattle.krs_types.specs.declared.key_id.KeyId.TheVariants.{Process, Serial, Session, Thread, User, UserSession}
 use Rattle.krs_model.specs.Lookup.{attachment, serial_of}
-use Rattle.krs_model.specs.Making.{with_thread, with_process, thread_to, thread_made, process_made, made_at, made_for}
+use Rattle.krs_model.specs.Making.{made_at, made_for, process_made, thread_made, thread_to, with_process, with_thread}
+use Rattle.krs_model.specs.{Possession.process_ring, State.State}
 
 -- nothing is made, or a thread keyring where the context has none, or a process keyring where its process has none
 pub data IsMade (s : State) (number : ℕ) (c : Context) (id : Result KeyId Errno) : State × Context → Type 0 where

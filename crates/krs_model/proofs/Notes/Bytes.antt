@@ -1,16 +1,12 @@
 -- The bytes of records are those of no other records: each number of a record stands at its place in the bytes.
-use Rattle.std.proofs.Common.{◌≡◌, ℕ, ◌+◌, ◌*◌, ◌/◌, ◌%◌, ◌<◌, List, [], ◌∷◌, ◌++◌}
-use Rattle.std.proofs.Common.{refl, sym, ap, ◌∙◌, arith}
-use Rattle.std.specs.List.{slice_index}
-use Rattle.std.specs.Int.{w32, w64, to_le_bytes, from_le_bytes}
-use Rattle.std.proofs.lemmas.Nat.{from_le_bytes-to_le_bytes_4, from_le_bytes-to_le_bytes_8}
-use Rattle.std.proofs.lemmas.List.{append_cancel_left}
-use Rattle.krs_types.specs.declared.note.Record.{Record}
-use Rattle.krs_types.specs.declared.note.Record.TheVariants.{Key, Removal, Loss}
-use Rattle.krs_types.specs.declared.note.KeyEvent.{KeyEvent}
-use Rattle.krs_types.specs.declared.note.KeyEvent.TheVariants.{Instantiated, Updated, Linked, Unlinked, Cleared}
-use Rattle.krs_types.specs.declared.note.KeyEvent.TheVariants.{Revoked, Invalidated, Setattr}
-use Rattle.krs_model.specs.Notes.Bytes.{event_number, bytes_of, bytes_of_all, Fits, AllFit}
+use Rattle.std.proofs.Common.{[], ◌%◌, ◌*◌, ◌++◌, ◌+◌, ◌/◌, ◌<◌, ◌∙◌, ◌∷◌, ◌≡◌, ap, arith, List, refl, slice_index, sym}
+use Rattle.std.proofs.Common.{w32, w64, ℕ}
+use Rattle.std.specs.Int.{from_le_bytes, to_le_bytes}
+use Rattle.std.proofs.lemmas.{List.append_cancel_left, Nat.{from_le_bytes-to_le_bytes_4, from_le_bytes-to_le_bytes_8}}
+use Rattle.krs_types.specs.declared.note.KeyEvent.{KeyEvent, TheVariants.{Cleared, Instantiated, Invalidated, Linked}}
+use Rattle.krs_types.specs.declared.note.KeyEvent.TheVariants.{Revoked, Setattr, Unlinked, Updated}
+use Rattle.krs_types.specs.declared.note.Record.{Record, TheVariants.{Key, Loss, Removal}}
+use Rattle.krs_model.specs.Notes.Bytes.{AllFit, bytes_of, bytes_of_all, event_number, Fits}
 
 -- the two words in front of every record
 header_is : (t n s w : ℕ) (tail : List ℕ) → t < 256 → n < 256 → s < 256 → w < 256 →

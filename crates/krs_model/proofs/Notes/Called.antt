@@ -1,32 +1,18 @@
 -- What a step calls for of a queue.
-use Rattle.std.proofs.Common.{◌≡◌, ℕ, ◌==◌, List, [], ◌∷◌, ◌++◌, Option, None, Bool, true, false}
-use Rattle.std.proofs.Common.{not, cond, filter, map}
-use Rattle.std.proofs.Common.{flat_map, length, Result, Ok, refl, ap, ◌∙◌, sym, subst, arith}
-use Rattle.std.specs.Option.{IsSome, is_some, option_map}
-use Rattle.std.proofs.lemmas.Bool.{true≢false, eqb-true}
-use Rattle.std.proofs.lemmas.List.Filters.{length-filter_both}
-use Rattle.krs_types.specs.declared.errno.Errno.{Errno}
-use Rattle.krs_types.specs.declared.ask.Answer.{Answer}
-use Rattle.krs_types.specs.declared.ask.Op.{Op}
-use Rattle.krs_types.specs.declared.note.Record.{Record}
-use Rattle.krs_model.specs.Table.{Table, at}
-use Rattle.krs_model.specs.State.{State, Key, Queue}
-use Rattle.krs_model.specs.Queues.{Queues, Watch, queues_of}
-use Rattle.krs_model.specs.Orderly.{Each, IsWatch, AreOrderly}
-use Rattle.krs_model.specs.Sound.{IsSound}
-use Rattle.krs_model.specs.Sweep.{IsSweep, IsSwept}
-use Rattle.krs_model.specs.Step.{Serves, outcome_of, posts_by, watches_left}
-use Rattle.krs_model.specs.Notes.Posting.{Note, Post, note_for, removal_for, passes_at, posts_of, watches_at}
-use Rattle.krs_model.specs.Notes.Posting.{dropped_watches, after_notes, post_all, records_for}
-use Rattle.krs_model.specs.Notes.Telling.{notes_of, ended_by}
-use Rattle.krs_model.specs.Asks.Leaving.{left}
-use Rattle.krs_model.proofs.Sweep.Laws.{one_sweep, swept_sweep}
-use Rattle.krs_model.proofs.Notes.Posts.{at_post_all, records_for-append}
-use Rattle.krs_model.proofs.Notes.Fitting.{each_filter, each_on}
-use Rattle.krs_model.proofs.Sound.Watches.{each_without, each_with}
-use Rattle.krs_model.proofs.Asks.Effects.{Effect, OfKeys, Opens, Filters, Reads, Closes, Watches, Unwatches, Leaves}
-use Rattle.krs_model.proofs.Asks.Effects.{effect_of}
-use Rattle.krs_model.proofs.Sound.Queues.{ended_watch}
+use Rattle.std.proofs.Common.{[], ◌++◌, ◌==◌, ◌∙◌, ◌∷◌, ◌≡◌, ap, arith, Bool, cond, eqb-true, false, filter, flat_map}
+use Rattle.std.proofs.Common.{is_some, IsSome, length, List, map, None, not, Ok, Option, option_map, refl, Result}
+use Rattle.std.proofs.{Common.{subst, sym, true, true≢false, ℕ}, lemmas.List.Filters.length-filter_both}
+use Rattle.krs_types.specs.declared.{ask.{Answer.Answer, Op.Op}, errno.Errno.Errno, note.Record.Record}
+use Rattle.krs_model.specs.{Asks.Leaving.left, Notes.Posting.{after_notes, dropped_watches, Note, note_for, passes_at}}
+use Rattle.krs_model.specs.Notes.Posting.{Post, post_all, posts_of, records_for, removal_for, watches_at}
+use Rattle.krs_model.specs.Notes.Telling.{ended_by, notes_of}
+use Rattle.krs_model.specs.{Orderly.{AreOrderly, Each, IsWatch}, Queues.{Queues, queues_of, Watch}, Sound.IsSound}
+use Rattle.krs_model.specs.{State.{Key, Queue, State}, Step.{outcome_of, posts_by, Serves, watches_left}}
+use Rattle.krs_model.specs.{Sweep.{IsSweep, IsSwept}, Table.{at, Table}}
+use Rattle.krs_model.proofs.Asks.Effects.{Closes, Effect, effect_of, Filters, Leaves, OfKeys, Opens, Reads, Unwatches}
+use Rattle.krs_model.proofs.{Asks.Effects.Watches, Notes.Fitting.{each_filter, each_on}}
+use Rattle.krs_model.proofs.{Notes.Posts.{at_post_all, records_for-append}, Sound.Queues.ended_watch}
+use Rattle.krs_model.proofs.{Sound.Watches.{each_with, each_without}, Sweep.Laws.{one_sweep, swept_sweep}}
 
 -- nothing is posted to a queue that is not there
 none_of_note :

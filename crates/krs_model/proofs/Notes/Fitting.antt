@@ -1,18 +1,12 @@
 -- Records whose numbers fit their fields, and which are no losses.
-use Rattle.std.proofs.Common.{◌≡◌, ℕ, ◌-◌, ◌<◌, ◌^◌, ◌==◌, List, [], ◌∷◌, ◌++◌, Bool, true, false, cond, filter, map}
-use Rattle.std.proofs.Common.{flat_map, length, nat_le, nat_lt, refl, subst, arith}
-use Rattle.std.proofs.lemmas.Bool.{eqb-true}
-use Rattle.krs_types.specs.declared.note.Record.{Record}
-use Rattle.krs_types.specs.declared.note.Record.TheVariants.{Key, Loss}
-use Rattle.krs_model.specs.Table.{Table}
-use Rattle.krs_model.specs.State.{Queue}
-use Rattle.krs_model.specs.Queues.{Queues, Watch}
-use Rattle.krs_model.specs.Orderly.{Each, IsWatch, IsQueue}
-use Rattle.krs_model.specs.Notes.Bytes.{is_loss, bytes_of, Fits, AllFit}
-use Rattle.krs_model.specs.Notes.Front.{front, behind}
-use Rattle.krs_model.specs.Notes.Waiting.{total_room, ends_with_loss, with_loss, after_post}
-use Rattle.krs_model.specs.Notes.Posting.{Note, Post, watches_at, note_for, removal_for, posts_of, posts}
-use Rattle.krs_model.specs.Notes.Posting.{after_note, after_notes, records_for}
+use Rattle.std.proofs.Common.{[], ◌++◌, ◌-◌, ◌<◌, ◌==◌, ◌^◌, ◌∷◌, ◌≡◌, arith, Bool, cond, eqb-true, false, filter}
+use Rattle.std.proofs.Common.{flat_map, length, List, map, nat_le, nat_lt, refl, subst, true, ℕ}
+use Rattle.krs_types.specs.declared.note.Record.{Record, TheVariants.{Key, Loss}}
+use Rattle.krs_model.specs.Notes.Bytes.{AllFit, bytes_of, Fits, is_loss}
+use Rattle.krs_model.specs.Notes.{Front.{behind, front}, Posting.{after_note, after_notes, Note, note_for, Post, posts}}
+use Rattle.krs_model.specs.Notes.Posting.{posts_of, records_for, removal_for, watches_at}
+use Rattle.krs_model.specs.Notes.Waiting.{after_post, ends_with_loss, total_room, with_loss}
+use Rattle.krs_model.specs.{Orderly.{Each, IsQueue, IsWatch}, Queues.{Queues, Watch}, State.Queue, Table.Table}
 
 pub each_filter : (P : Watch → Type 0) (p : Watch → Bool) (ws : List Watch) → Each P ws → Each P (filter p ws)
 each_filter P p [] h = tt

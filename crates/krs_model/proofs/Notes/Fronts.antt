@@ -1,23 +1,14 @@
 -- READ_QUEUE takes the longest front that fits its room.
-use Rattle.std.proofs.Common.{◌≡◌, ℕ, ◌-◌, ◌+◌, ◌≤◌, true, false, cond, leb, nat_le, List, [], ◌∷◌, ◌++◌, Some, length}
-use Rattle.std.proofs.Common.{Ok, Err, refl, ap, ◌∙◌, sym, arith, length-append, ⊎_elim}
-use Rattle.std.specs.Prelude.{◌≢◌}
-use Rattle.std.specs.Option.{option_map}
-use Rattle.std.proofs.lemmas.Bool.{leb-true, leb-false}
-use Rattle.krs_types.specs.declared.errno.Errno.TheVariants.{ENOBUFS}
-use Rattle.krs_types.specs.declared.ask.Answer.{Answer}
-use Rattle.krs_types.specs.declared.ask.Answer.TheVariants.{Bytes}
-use Rattle.krs_types.specs.declared.note.Record.{Record}
-use Rattle.krs_model.specs.Table.{at, alter}
-use Rattle.krs_model.specs.State.{State}
-use Rattle.krs_model.specs.Queues.{Queues, queues_of, with_queues, queue_of}
-use Rattle.krs_model.specs.Laws.{ReadsFront}
-use Rattle.krs_model.specs.Notes.Bytes.{bytes_of, bytes_of_all}
-use Rattle.krs_model.specs.Notes.Front.{front, behind, readable, IsLongestFront}
-use Rattle.krs_model.specs.Asks.Watching.{after_read, read_out, read_queue}
-use Rattle.krs_model.proofs.Tables.Changes.{at_alter_same, at_alter_other, at_or_apart}
-use Rattle.krs_model.proofs.Asks.Later.{bind_ok, same_ok}
+use Rattle.std.proofs.Common.{[], ⊎_elim, ◌++◌, ◌+◌, ◌-◌, ◌∙◌, ◌∷◌, ◌≡◌, ◌≢◌, ◌≤◌, ap, arith, cond, Err, false, leb}
+use Rattle.std.proofs.Common.{leb-false, leb-true, length, length-append, List, nat_le, Ok, option_map, refl, Some, sym}
+use Rattle.std.proofs.Common.{true, ℕ}
+use Rattle.krs_types.specs.declared.ask.Answer.{Answer, TheVariants.Bytes}
+use Rattle.krs_types.specs.declared.{errno.Errno.TheVariants.ENOBUFS, note.Record.Record}
+use Rattle.krs_model.specs.{Asks.Watching.{after_read, read_out, read_queue}, Laws.ReadsFront}
+use Rattle.krs_model.specs.Notes.{Bytes.{bytes_of, bytes_of_all}, Front.{behind, front, IsLongestFront, readable}}
+use Rattle.krs_model.specs.{Queues.{queue_of, Queues, queues_of, with_queues}, State.State, Table.{alter, at}}
 use Rattle.krs_model.proofs.Asks.Effects.{queue_there, readable_is}
+use Rattle.krs_model.proofs.{Asks.Later.{bind_ok, same_ok}, Tables.Changes.{at_alter_other, at_alter_same, at_or_apart}}
 
 -- a front fits its room
 pub front_size : (room : ℕ) (rs : List Record) → length (bytes_of_all (front room rs)) ≤ room

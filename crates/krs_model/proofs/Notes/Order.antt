@@ -1,27 +1,14 @@
 -- Records go out by rising queue, and the removal records of an ask by rising key, then queue.
-use Rattle.std.proofs.Common.{◌≡◌, ℕ, ◌<◌, ◌==◌, List, [], ◌∷◌, ◌++◌, Bool, true, false, cond, filter, map}
-use Rattle.std.proofs.Common.{refl, ap, ◌∙◌, sym, subst, ⊎_elim}
-use Rattle.std.specs.Ordering.{nat_cmp, ordering_then}
-use Rattle.std.specs.declared.cmp.Ordering.TheVariants.{Less, Equal}
-use Rattle.std.specs.Cmp.{ranked, nat_cmp_is}
-use Rattle.std.proofs.lemmas.Bool.{eqb-true}
-use Rattle.krs_types.specs.declared.ask.Answer.{Answer}
-use Rattle.krs_types.specs.declared.ask.Op.{Op}
-use Rattle.krs_model.specs.Table.{at}
-use Rattle.krs_model.specs.State.{State}
-use Rattle.krs_model.specs.Queues.{Queues, Watch, place_cmp}
-use Rattle.krs_model.specs.Orderly.{Each, AreRising, AreOrderly}
-use Rattle.krs_model.specs.Ordering.{AreAbove, GoByQueue}
-use Rattle.krs_model.specs.Notes.Posting.{Note, Post, watches_at, note_for, posts_of, passes_at}
-use Rattle.krs_model.specs.Sound.{IsSound}
-use Rattle.krs_model.specs.Sweep.{IsSweep}
-use Rattle.krs_model.specs.Notes.Posting.{dropped_watches}
+use Rattle.std.proofs.Common.{[], ⊎_elim, ◌++◌, ◌<◌, ◌==◌, ◌∙◌, ◌∷◌, ◌≡◌, ap, Bool, cond, eqb-true, false, filter, List}
+use Rattle.std.proofs.Common.{map, nat_cmp, refl, subst, sym, true, ℕ}
+use Rattle.std.specs.{Cmp.{nat_cmp_is, ranked}, Ordering.ordering_then, declared.cmp.Ordering.TheVariants.{Equal, Less}}
+use Rattle.krs_types.specs.declared.ask.{Answer.Answer, Op.Op}
+use Rattle.krs_model.specs.Notes.Posting.{dropped_watches, Note, note_for, passes_at, Post, posts_of, watches_at}
 use Rattle.krs_model.specs.Notes.Telling.{ended_by}
-use Rattle.krs_model.proofs.Sound.Watches.{filter_rising}
-use Rattle.krs_model.proofs.Asks.Effects.{Effect}
-use Rattle.krs_model.proofs.Sound.Queues.{effect_orderly}
-use Rattle.krs_model.proofs.Notes.Called.{swept_drops_none}
-use Rattle.krs_model.proofs.Sweep.QueueAsks.{EndsOne, effect_ends}
+use Rattle.krs_model.specs.{Ordering.{AreAbove, GoByQueue}, Orderly.{AreOrderly, AreRising, Each}}
+use Rattle.krs_model.specs.{Queues.{place_cmp, Queues, Watch}, Sound.IsSound, State.State, Sweep.IsSweep, Table.at}
+use Rattle.krs_model.proofs.{Asks.Effects.Effect, Notes.Called.swept_drops_none, Sound.Queues.effect_orderly}
+use Rattle.krs_model.proofs.{Sound.Watches.filter_rising, Sweep.QueueAsks.{effect_ends, EndsOne}}
 
 -- posts of watches of a key behind one of that key
 abbrev IsOf : ℕ → ℕ → Watch → Type 0

@@ -1,12 +1,10 @@
 -- What posts do to each queue.
-use Rattle.std.proofs.Common.{◌≡◌, ℕ, ◌==◌, List, [], ◌∷◌, ◌++◌, Option, Some, None, true, false, cond, filter, map}
-use Rattle.std.proofs.Common.{refl, ap, ◌∙◌}
-use Rattle.std.specs.Option.{option_map}
+use Rattle.std.proofs.Common.{[], ◌++◌, ◌==◌, ◌∙◌, ◌∷◌, ◌≡◌, ap, cond, false, filter, List, map, None, Option}
+use Rattle.std.proofs.Common.{option_map, refl, Some, true, ℕ}
 use Rattle.krs_types.specs.declared.note.Record.{Record}
-use Rattle.krs_model.specs.Table.{Table, at, alter}
-use Rattle.krs_model.specs.State.{Queue}
-use Rattle.krs_model.specs.Notes.Posting.{Post, after_note, after_notes, post_all, records_for}
-use Rattle.krs_model.proofs.Tables.Distinct.{same_test, at_alter}
+use Rattle.krs_model.specs.Notes.Posting.{after_note, after_notes, Post, post_all, records_for}
+use Rattle.krs_model.specs.{State.Queue, Table.{alter, at, Table}}
+use Rattle.krs_model.proofs.Tables.Distinct.{at_alter, same_test}
 
 none_came : (o : Option Queue) → o ≡ option_map (after_notes []) o
 none_came None = refl

@@ -1,34 +1,16 @@
 -- Queues that are opened: a number is given once.
-use Rattle.std.proofs.Common.{◌≡◌, ℕ, ◌<◌, ◌≤◌, List, Some, None}
-use Rattle.std.proofs.Common.{Result, Ok, Err, refl, ap, ◌∙◌, sym, subst, arith}
-use Rattle.std.proofs.Common.{⊎_elim}
-use Rattle.std.specs.Option.{option_map}
-use Rattle.std.proofs.lemmas.Bool.{true≢false}
-use Rattle.krs_types.specs.declared.errno.Errno.{Errno}
-use Rattle.krs_types.specs.declared.ask.Answer.{Answer}
-use Rattle.krs_types.specs.declared.ask.Answer.TheVariants.{Number}
-use Rattle.krs_types.specs.declared.ask.Op.{Op}
-use Rattle.krs_types.specs.declared.ask.Op.TheVariants.{OpenQueue}
-use Rattle.krs_types.specs.declared.event.Event.{Event}
-use Rattle.krs_types.specs.declared.note.Record.{Record}
-use Rattle.krs_model.specs.Table.{at, put}
-use Rattle.krs_model.specs.State.{State, raised}
-use Rattle.krs_model.specs.Queues.{Queues}
-use Rattle.krs_model.specs.Sound.{IsSound}
-use Rattle.krs_model.specs.Step.{Step, Ends, posts_by}
-use Rattle.krs_model.specs.Receiving.{IsOpening}
-use Rattle.krs_model.specs.Notes.Posting.{after_notes, records_for}
-use Rattle.krs_model.specs.Asks.Leaving.{left}
-use Rattle.krs_model.specs.Asks.Watching.{new_queue, with_filter, after_read}
-use Rattle.krs_model.proofs.Tables.Changes.{at_alter_none, at_filter_none, at_without_none, at_or_apart}
-use Rattle.krs_model.proofs.Tables.Changes.{at_put_other, at_put_same}
-use Rattle.krs_model.proofs.Asks.Effects.{Effect, OfKeys, Opens, Filters, Reads, Closes, Watches, Unwatches, Leaves}
-use Rattle.krs_model.proofs.Asks.Effects.{effect_of}
-use Rattle.krs_model.proofs.Asks.Effects.{is_of_queues}
-use Rattle.krs_model.proofs.Asks.Later.{same_ok}
-use Rattle.krs_model.proofs.Sound.Steps.{raised_sound}
-use Rattle.krs_model.proofs.Notes.Called.{none_called, served_at, served_next}
-use Rattle.krs_model.proofs.Notes.Taken.{queue_capacity, number_given}
+use Rattle.std.proofs.Common.{⊎_elim, ◌<◌, ◌∙◌, ◌≡◌, ◌≤◌, ap, arith, Err, List, None, Ok, option_map, refl, Result}
+use Rattle.std.proofs.Common.{Some, subst, sym, true≢false, ℕ}
+use Rattle.krs_types.specs.declared.ask.{Answer.{Answer, TheVariants.Number}, Op.{Op, TheVariants.OpenQueue}}
+use Rattle.krs_types.specs.declared.{errno.Errno.Errno, event.Event.Event, note.Record.Record}
+use Rattle.krs_model.specs.Asks.{Leaving.left, Watching.{after_read, new_queue, with_filter}}
+use Rattle.krs_model.specs.{Notes.Posting.{after_notes, records_for}, Queues.Queues, Receiving.IsOpening, Sound.IsSound}
+use Rattle.krs_model.specs.{State.{raised, State}, Step.{Ends, posts_by, Step}, Table.{at, put}}
+use Rattle.krs_model.proofs.Asks.Effects.{Closes, Effect, effect_of, Filters, is_of_queues, Leaves, OfKeys, Opens}
+use Rattle.krs_model.proofs.Asks.{Effects.{Reads, Unwatches, Watches}, Later.same_ok}
+use Rattle.krs_model.proofs.Notes.{Called.{none_called, served_at, served_next}, Taken.{number_given, queue_capacity}}
+use Rattle.krs_model.proofs.{Sound.Steps.raised_sound, Tables.Changes.at_alter_none}
+use Rattle.krs_model.proofs.Tables.Changes.{at_filter_none, at_or_apart, at_put_other, at_put_same, at_without_none}
 
 -- a number that was given is not given again
 effect_gone :

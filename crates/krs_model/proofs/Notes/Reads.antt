@@ -1,30 +1,13 @@
 -- What the reply of an accepted read spells.
-use Rattle.std.proofs.Common.{◌≡◌, ℕ, List, []}
-use Rattle.std.proofs.Common.{Result, Ok, Err, refl, ap, ◌∙◌, sym}
-use Rattle.std.proofs.Common.{⊎_elim}
-use Rattle.std.proofs.lemmas.Bool.{true≢false}
-use Rattle.krs_types.specs.declared.errno.Errno.{Errno}
-use Rattle.krs_types.specs.declared.ask.Answer.{Answer}
-use Rattle.krs_types.specs.declared.ask.Answer.TheVariants.{Bytes}
-use Rattle.krs_types.specs.declared.ask.Op.{Op}
-use Rattle.krs_types.specs.declared.ask.Op.TheVariants.{ReadQueue}
-use Rattle.krs_types.specs.declared.event.Event.{Event}
-use Rattle.krs_types.specs.declared.note.Record.{Record}
-use Rattle.krs_model.specs.State.{State, raised}
-use Rattle.krs_model.specs.Sound.{IsSound}
-use Rattle.krs_model.specs.Step.{Step, Ends}
-use Rattle.krs_model.specs.Receiving.{IsRead, Takes}
-use Rattle.krs_model.specs.Notes.Bytes.{bytes_of_all, AllFit}
-use Rattle.krs_model.specs.Notes.Front.{front}
-use Rattle.krs_model.proofs.Tables.Changes.{at_or_apart}
-use Rattle.krs_model.proofs.Notes.Fitting.{front_fit}
-use Rattle.krs_model.proofs.Notes.Bytes.{spelled_once}
-use Rattle.krs_model.proofs.Asks.Effects.{Effect, OfKeys, Opens, Filters, Reads, Closes, Watches, Unwatches, Leaves}
-use Rattle.krs_model.proofs.Asks.Effects.{effect_of}
-use Rattle.krs_model.proofs.Asks.Effects.{is_of_queues}
-use Rattle.krs_model.proofs.Asks.Later.{same_ok}
-use Rattle.krs_model.proofs.Sound.Steps.{raised_sound}
-use Rattle.krs_model.proofs.Notes.Taken.{queue_read, bytes_given, no_other, not_both}
+use Rattle.std.proofs.Common.{[], ⊎_elim, ◌∙◌, ◌≡◌, ap, Err, List, Ok, refl, Result, sym, true≢false, ℕ}
+use Rattle.krs_types.specs.declared.ask.{Answer.{Answer, TheVariants.Bytes}, Op.{Op, TheVariants.ReadQueue}}
+use Rattle.krs_types.specs.declared.{errno.Errno.Errno, event.Event.Event, note.Record.Record}
+use Rattle.krs_model.specs.Notes.{Bytes.{AllFit, bytes_of_all}, Front.front}
+use Rattle.krs_model.specs.{Receiving.{IsRead, Takes}, Sound.IsSound, State.{raised, State}, Step.{Ends, Step}}
+use Rattle.krs_model.proofs.Asks.Effects.{Closes, Effect, effect_of, Filters, is_of_queues, Leaves, OfKeys, Opens}
+use Rattle.krs_model.proofs.{Asks.{Effects.{Reads, Unwatches, Watches}, Later.same_ok}, Notes.Bytes.spelled_once}
+use Rattle.krs_model.proofs.Notes.{Fitting.front_fit, Taken.{bytes_given, no_other, not_both, queue_read}}
+use Rattle.krs_model.proofs.{Sound.Steps.raised_sound, Tables.Changes.at_or_apart}
 
 -- whether an ask is an accepted read of a queue
 pub data Reading (q : ℕ) (op : Op) (answer : Answer) : Type 0 where

@@ -1,14 +1,10 @@
 -- What was taken and what waits are the stream.
-use Rattle.std.proofs.Common.{◌≡◌, ℕ, ◌+◌, ◌-◌, ◌≤◌, Bool, true, false, cond, ltb, not, List, [], ◌∷◌, ◌++◌, refl}
-use Rattle.std.proofs.Common.{sym, ap, subst, ◌∙◌, append_assoc, arith}
-use Rattle.std.proofs.lemmas.Bool.{ltb-false}
-use Rattle.std.proofs.lemmas.List.{append-nil}
-use Rattle.krs_types.specs.declared.note.Record.{Record}
-use Rattle.krs_types.specs.declared.note.Record.TheVariants.{Loss}
-use Rattle.krs_model.specs.Notes.Bytes.{is_loss}
-use Rattle.krs_model.specs.Notes.Stream.{Move, Posted, Took, taken, room_of, calls, Verdict, verdicts}
-use Rattle.krs_model.specs.Notes.Stream.{begins_with_drop, loss_if, kept_and_losses, stream}
-use Rattle.krs_model.specs.Notes.Waiting.{total_room, ends_with_loss, with_loss, MovesTo}
+use Rattle.std.proofs.Common.{[], ◌++◌, ◌+◌, ◌-◌, ◌∙◌, ◌∷◌, ◌≡◌, ◌≤◌, ap, append-nil, append_assoc, arith, Bool, cond}
+use Rattle.std.proofs.Common.{false, List, ltb, ltb-false, not, refl, subst, sym, true, ℕ}
+use Rattle.krs_types.specs.declared.note.Record.{Record, TheVariants.Loss}
+use Rattle.krs_model.specs.Notes.{Bytes.is_loss, Stream.{begins_with_drop, calls, kept_and_losses, loss_if, Move}}
+use Rattle.krs_model.specs.Notes.Stream.{Posted, room_of, stream, taken, Took, Verdict, verdicts}
+use Rattle.krs_model.specs.Notes.Waiting.{ends_with_loss, MovesTo, total_room, with_loss}
 
 pub total_room-append : (a b : List Record) → total_room (a ++ b) ≡ total_room a + total_room b
 total_room-append [] b = omega arith

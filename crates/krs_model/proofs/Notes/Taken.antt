@@ -1,49 +1,25 @@
 -- What a step takes from a queue, and what it makes of it.
-use Rattle.std.proofs.Common.{◌≡◌, ℕ, ◌-◌, List, [], ◌∷◌, ◌++◌, Some, None, true, false}
-use Rattle.std.proofs.Common.{cond, map}
-use Rattle.std.proofs.Common.{length, nat_le, Result, Ok, Err, refl, ap, ◌∙◌, sym, subst, arith, ◌⊎◌, inl}
-use Rattle.std.proofs.Common.{inr, ⊎_elim}
-use Rattle.std.specs.Option.{option_map}
-use Rattle.std.specs.Ordering.{nat_cmp}
+use Rattle.std.proofs.Common.{[], ⊎_elim, ◌++◌, ◌-◌, ◌∙◌, ◌∷◌, ◌≡◌, ◌⊎◌, ap, append-nil, arith, cond, Err, false, inl}
+use Rattle.std.proofs.Common.{inr, length, List, map, nat_cmp, nat_le, None, Ok, option_map, refl, Result, Some, subst}
+use Rattle.std.proofs.Common.{sym, true, true≢false, ℕ}
 use Rattle.std.specs.BTreeMap.{is_at}
-use Rattle.std.proofs.lemmas.Bool.{true≢false}
 use Rattle.std.proofs.lemmas.Option.{none-some, same_Some}
-use Rattle.std.proofs.lemmas.List.{append-nil}
-use Rattle.krs_types.specs.declared.errno.Errno.{Errno}
-use Rattle.krs_types.specs.declared.ask.Answer.{Answer}
-use Rattle.krs_types.specs.declared.ask.Answer.TheVariants.{Number, Bytes}
-use Rattle.krs_types.specs.declared.ask.Op.{Op}
-use Rattle.krs_types.specs.declared.ask.Op.TheVariants.{OpenQueue, ReadQueue}
-use Rattle.krs_types.specs.declared.event.Event.{Event}
-use Rattle.krs_types.specs.declared.note.Record.{Record}
-use Rattle.krs_model.specs.Table.{at, put, alter, without}
-use Rattle.krs_model.specs.State.{State, Queue, raised}
-use Rattle.krs_model.specs.Queues.{Queues, queues_without}
-use Rattle.krs_model.specs.Sound.{IsSound}
-use Rattle.krs_model.specs.Sweep.{IsSwept}
-use Rattle.krs_model.specs.Step.{Step, Serves, Ends, posts_by}
-use Rattle.krs_model.specs.Receiving.{called, called_for, Takes}
-use Rattle.krs_model.specs.Notes.Bytes.{bytes_of, bytes_of_all, AllFit}
-use Rattle.krs_model.specs.Notes.Front.{front, behind}
-use Rattle.krs_model.specs.Notes.Stream.{Move, Posted, Took}
-use Rattle.krs_model.specs.Notes.Waiting.{MovesTo}
-use Rattle.krs_model.specs.Notes.Posting.{after_note, after_notes, records_for}
-use Rattle.krs_model.specs.Notes.Telling.{notes_of, ended_by}
-use Rattle.krs_model.specs.Asks.Leaving.{left}
-use Rattle.krs_model.specs.Asks.Watching.{new_queue, with_filter, after_read}
-use Rattle.krs_model.proofs.Tables.Changes.{at_or_apart, at_alter_same}
-use Rattle.krs_model.proofs.Tables.Changes.{at_alter_other}
-use Rattle.krs_model.proofs.Tables.Changes.{at_put_other, at_without_other, is_at_same}
-use Rattle.krs_model.proofs.Tables.Distinct.{at_filter_some, at_without_same}
-use Rattle.krs_model.proofs.Notes.Fitting.{AllPost, posts_for, front_fit}
-use Rattle.krs_model.proofs.Notes.Bytes.{spelled_once}
-use Rattle.krs_model.proofs.Asks.Effects.{Effect, OfKeys, Opens, Filters, Reads, Closes, Watches, Unwatches, Leaves}
-use Rattle.krs_model.proofs.Asks.Effects.{effect_of}
-use Rattle.krs_model.proofs.Asks.Effects.{is_of_queues}
-use Rattle.krs_model.proofs.Sound.Queues.{effect_orderly}
-use Rattle.krs_model.proofs.Asks.Later.{same_ok}
-use Rattle.krs_model.proofs.Sound.Steps.{posts_by_fit, raised_sound}
-use Rattle.krs_model.proofs.Notes.Called.{none_called, served_at, posts_none, gone_called}
+use Rattle.krs_types.specs.declared.ask.Answer.{Answer, TheVariants.{Bytes, Number}}
+use Rattle.krs_types.specs.declared.ask.Op.{Op, TheVariants.{OpenQueue, ReadQueue}}
+use Rattle.krs_types.specs.declared.{errno.Errno.Errno, event.Event.Event, note.Record.Record}
+use Rattle.krs_model.specs.Asks.{Leaving.left, Watching.{after_read, new_queue, with_filter}}
+use Rattle.krs_model.specs.Notes.{Bytes.{AllFit, bytes_of, bytes_of_all}, Front.{behind, front}}
+use Rattle.krs_model.specs.Notes.{Posting.{after_note, after_notes, records_for}, Stream.{Move, Posted, Took}}
+use Rattle.krs_model.specs.{Notes.{Telling.{ended_by, notes_of}, Waiting.MovesTo}, Queues.{Queues, queues_without}}
+use Rattle.krs_model.specs.{Receiving.{called, called_for, Takes}, Sound.IsSound, State.{Queue, raised, State}}
+use Rattle.krs_model.specs.{Step.{Ends, posts_by, Serves, Step}, Sweep.IsSwept, Table.{alter, at, put, without}}
+use Rattle.krs_model.proofs.Asks.Effects.{Closes, Effect, effect_of, Filters, is_of_queues, Leaves, OfKeys, Opens}
+use Rattle.krs_model.proofs.Asks.{Effects.{Reads, Unwatches, Watches}, Later.same_ok}
+use Rattle.krs_model.proofs.Notes.{Bytes.spelled_once, Called.{gone_called, none_called, posts_none, served_at}}
+use Rattle.krs_model.proofs.Notes.Fitting.{AllPost, front_fit, posts_for}
+use Rattle.krs_model.proofs.Sound.{Queues.effect_orderly, Steps.{posts_by_fit, raised_sound}}
+use Rattle.krs_model.proofs.Tables.Changes.{at_alter_other, at_alter_same, at_or_apart, at_put_other, at_without_other}
+use Rattle.krs_model.proofs.Tables.{Changes.is_at_same, Distinct.{at_filter_some, at_without_same}}
 
 -- moves one after the other
 pub moves_append :

@@ -1,11 +1,9 @@
 -- Laws of reaching: what links fewer and a link more leave acyclic, and how many levels hold all that is reached.
-use Rattle.std.proofs.Common.{◌≡◌, ℕ, zero, suc, ◌≤◌, ◌<◌, ◌==◌, ◌||◌, List, [], ◌∷◌, true, false, not}
-use Rattle.std.proofs.Common.{cond, filter, flat_map, length, refl, ap, sym, subst, arith, ◌⊎◌, inl, inr, ⊎_elim}
-use Rattle.std.proofs.lemmas.Bool.{true≢false}
+use Rattle.std.proofs.Common.{[], ⊎_elim, ◌<◌, ◌==◌, ◌||◌, ◌∷◌, ◌≡◌, ◌≤◌, ◌⊎◌, ap, arith, cond, false, filter, flat_map}
+use Rattle.std.proofs.Common.{inl, inr, length, List, not, refl, subst, suc, sym, true, true≢false, zero, ℕ}
 use Rattle.std.proofs.lemmas.Bool.Decides.{nat_tests}
-use Rattle.krs_model.specs.Levels.{level, levels, is_in}
-use Rattle.krs_model.specs.Reach.{Reaches, Directly, Further, IsAcyclic}
-use Rattle.krs_model.proofs.Reach.Levels.{or_true, true_or, same_is, in_left, in_right, in_one, in_flat}
+use Rattle.krs_model.specs.{Levels.{is_in, level, levels}, Reach.{Directly, Further, IsAcyclic, Reaches}}
+use Rattle.krs_model.proofs.Reach.Levels.{in_flat, in_left, in_one, in_right, or_true, same_is, true_or}
 
 -- along links and then along more
 pub reaches_on : (links : ℕ → List ℕ) (a b c : ℕ) → Reaches links a b → Reaches links b c → Reaches links a c

@@ -1,24 +1,14 @@
 -- The test of LINK for cycles says what is reached.
-use Rattle.std.proofs.Common.{◌≡◌, ℕ, ◌==◌, ◌||◌, [], ◌∷◌, Some, Bool, true, false, cond}
-use Rattle.std.proofs.Common.{length, Result, Ok, refl, sym, subst}
-use Rattle.std.specs.Option.{IsSome}
-use Rattle.std.specs.Ordering.{nat_cmp}
-use Rattle.std.specs.BTreeMap.{is_at}
-use Rattle.std.specs.Map.{keys_of}
-use Rattle.std.proofs.lemmas.Bool.{true≢false}
+use Rattle.std.proofs.Common.{[], ◌==◌, ◌||◌, ◌∷◌, ◌≡◌, Bool, cond, false, IsSome, length, nat_cmp, Ok, refl, Result}
+use Rattle.std.proofs.Common.{Some, subst, sym, true, true≢false, ℕ}
+use Rattle.std.specs.{BTreeMap.is_at, Map.keys_of}
 use Rattle.std.proofs.lemmas.List.{length-map}
-use Rattle.krs_types.specs.declared.errno.Errno.{Errno}
-use Rattle.krs_types.specs.declared.errno.Errno.TheVariants.{EDEADLK, ELOOP}
-use Rattle.krs_types.specs.Refusing.{◌>>=◌}
-use Rattle.krs_model.specs.Table.{Table, at}
-use Rattle.krs_model.specs.State.{Key}
-use Rattle.krs_model.specs.Levels.{levels, is_in}
-use Rattle.krs_model.specs.Reach.{links_of_key_at, closes, has_chain, nesting_depth}
-use Rattle.krs_model.specs.Sound.{AllLinked}
+use Rattle.krs_types.specs.{Refusing.◌>>=◌, declared.errno.Errno.{Errno, TheVariants.{EDEADLK, ELOOP}}}
 use Rattle.krs_model.specs.Asks.Linked.{nestable, unless}
-use Rattle.krs_model.proofs.Tables.Changes.{same_at}
-use Rattle.krs_model.proofs.Reach.Levels.{or_true, same_is}
-use Rattle.krs_model.proofs.Reach.Acyclic.{From, closed_levels, levels_reached, IsClosed}
+use Rattle.krs_model.specs.{Levels.{is_in, levels}, Reach.{closes, has_chain, links_of_key_at, nesting_depth}}
+use Rattle.krs_model.specs.{Sound.AllLinked, State.Key, Table.{at, Table}}
+use Rattle.krs_model.proofs.Reach.Acyclic.{closed_levels, From, IsClosed, levels_reached}
+use Rattle.krs_model.proofs.{Reach.Levels.{or_true, same_is}, Tables.Changes.same_at}
 
 -- a key that is there is in the list of serials
 pub there_in : (keys : Table Key) (k : ℕ) → IsSome (at keys k) → is_in k (keys_of keys) ≡ true

@@ -1,11 +1,9 @@
 -- Laws of levels.
-use Rattle.std.proofs.Common.{◌≡◌, ℕ, zero, suc, ◌+◌, ◌-◌, ◌<◌, ◌==◌, ◌||◌, List, [], ◌∷◌, ◌++◌, Bool, true, false, flat_map}
-use Rattle.std.proofs.Common.{refl, arith, add-one, sym, subst, ◌⊎◌, inl, inr, ⊎_elim}
-use Rattle.std.proofs.lemmas.Bool.{true≢false}
-use Rattle.std.proofs.lemmas.Bool.Decides.{nat_tests}
-use Rattle.std.proofs.lemmas.List.Folds.{list_any-append}
+use Rattle.std.proofs.Common.{[], ⊎_elim, ◌++◌, ◌+◌, ◌-◌, ◌<◌, ◌==◌, ◌||◌, ◌∷◌, ◌≡◌, ◌⊎◌, add-one, arith, Bool, false}
+use Rattle.std.proofs.Common.{flat_map, inl, inr, List, refl, subst, suc, sym, true, true≢false, zero, ℕ}
+use Rattle.std.proofs.lemmas.{Bool.Decides.nat_tests, List.Folds.list_any-append}
 use native.Mathlib.Numerals.{unary_clauses}
-use Rattle.krs_model.specs.Levels.{level, levels, is_in}
+use Rattle.krs_model.specs.Levels.{is_in, level, levels}
 
 pub or_true : (b c : Bool) → c ≡ true → (b || c) ≡ true
 or_true true c h = refl

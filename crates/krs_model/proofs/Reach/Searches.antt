@@ -1,23 +1,16 @@
 -- Laws of a search: how searches join, and where an answer stands.
-use Rattle.std.proofs.Common.{◌≡◌, ◌⊎◌, ◌<◌, ◌≤◌, ℕ, zero, suc, ◌||◌, Bool, true, false, cond, List, [], ◌∷◌, ◌++◌}
-use Rattle.std.proofs.Common.{Option, None, Some, Ok, Err, refl, ap, ◌∙◌, sym, inl, inr, ⊎_elim, arith}
-use Rattle.std.specs.List.{find, list_any, flat_map, slice_get}
-use Rattle.std.specs.Option.{option_or}
-use Rattle.std.proofs.lemmas.Bool.{cases_lt, true≢false}
-use Rattle.std.proofs.lemmas.Option.{none-some, same_Some}
-use Rattle.std.proofs.lemmas.List.Folds.{find-append, list_any-append}
-use Rattle.krs_types.specs.declared.context.Context.{Context}
-use Rattle.krs_types.specs.declared.errno.Errno.{Errno}
-use Rattle.krs_types.specs.declared.errno.Errno.TheVariants.{ENOKEY, EKEYREVOKED, EKEYEXPIRED, EACCES}
-use Rattle.krs_types.specs.declared.name.Name.{Name}
-use Rattle.krs_types.specs.Refusing.{or_refuse}
+use Rattle.std.proofs.Common.{[], ⊎_elim, ◌++◌, ◌<◌, ◌||◌, ◌∙◌, ◌∷◌, ◌≡◌, ◌≤◌, ◌⊎◌, ap, arith, Bool, cond, Err, false}
+use Rattle.std.proofs.Common.{find, flat_map, inl, inr, List, None, Ok, Option, refl, slice_get, Some, suc, sym, true}
+use Rattle.std.proofs.Common.{true≢false, zero, ℕ}
+use Rattle.std.specs.{List.list_any, Option.option_or}
+use Rattle.std.proofs.lemmas.{Bool.cases_lt, List.Folds.{find-append, list_any-append}, Option.{none-some, same_Some}}
+use Rattle.krs_types.specs.{Refusing.or_refuse, declared.{context.Context.Context, errno.Errno.Errno}}
+use Rattle.krs_types.specs.declared.{errno.Errno.TheVariants.{EACCES, EKEYEXPIRED, EKEYREVOKED, ENOKEY}, name.Name.Name}
+use Rattle.krs_model.specs.Laws.{HasNoAnswer, in_turn, IsBefore, IsFault, IsFirstAnswer, IsMet}
+use Rattle.krs_model.specs.{Levels.{level, levels, search_depth}, Possession.{attached, possessed}}
+use Rattle.krs_model.specs.Search.{entered, fault, fault_among, found, found_by, is_answer, is_denied, is_expired}
+use Rattle.krs_model.specs.Search.{is_revoked, or_next, requested, searched, Searcher, searcher_of, sought, weightier}
 use Rattle.krs_model.specs.State.{State}
-use Rattle.krs_model.specs.Possession.{attached, possessed}
-use Rattle.krs_model.specs.Levels.{level, levels, search_depth}
-use Rattle.krs_model.specs.Search.{Searcher, searcher_of, entered, searched, is_answer, is_revoked, is_expired}
-use Rattle.krs_model.specs.Search.{is_denied, fault, fault_among, sought, found_by, found, requested, weightier}
-use Rattle.krs_model.specs.Search.{or_next}
-use Rattle.krs_model.specs.Laws.{IsBefore, IsFirstAnswer, HasNoAnswer, IsMet, IsFault, in_turn}
 
 -- the weightier of two faults is that of the matches of both
 faults_join : (r e d r2 e2 d2 : Bool) → weightier (fault r e d) (fault r2 e2 d2) ≡ fault (r || r2) (e || e2) (d || d2)

@@ -1,22 +1,14 @@
 -- What the entries of contexts, processes and uids attach.
-use Rattle.std.proofs.Common.{◌≡◌, ℕ, List, [], ◌∷◌, ◌++◌, Some, Bool, true, false}
-use Rattle.std.proofs.lemmas.List.Concat.{flat_map_single}
-use Rattle.std.proofs.Common.{cond, filter, flat_map, ap, sym, subst, ◌⊎◌, inl, inr, ⊎_elim}
-use Rattle.std.specs.Option.{option_to_list}
-use Rattle.std.specs.Ordering.{nat_cmp, match_ordering}
-use Rattle.std.specs.declared.cmp.Ordering.TheVariants.{Less, Equal, Greater}
-use Rattle.std.specs.BTreeMap.{is_at}
-use Rattle.std.proofs.lemmas.Bool.{true≢false}
-use Rattle.std.proofs.lemmas.Option.{none-some, same_Some}
-use Rattle.krs_types.specs.declared.context.Context.{Context}
-use Rattle.krs_types.specs.declared.context.UidRings.{UidRings}
-use Rattle.krs_model.specs.Table.{Table, at, put, without, alter, map_values, IsDistinct}
-use Rattle.krs_model.specs.State.{State}
+use Rattle.std.proofs.Common.{[], ⊎_elim, ◌++◌, ◌∷◌, ◌≡◌, ◌⊎◌, ap, Bool, cond, false, filter, flat_map, inl, inr, List}
+use Rattle.std.proofs.Common.{nat_cmp, option_to_list, Some, subst, sym, true, true≢false, ℕ}
+use Rattle.std.specs.{BTreeMap.is_at, Ordering.match_ordering, declared.cmp.Ordering.TheVariants.{Equal, Greater, Less}}
+use Rattle.std.proofs.lemmas.{List.Concat.flat_map_single, Option.{none-some, same_Some}}
+use Rattle.krs_types.specs.declared.context.{Context.Context, UidRings.UidRings}
 use Rattle.krs_model.specs.Levels.{is_in}
-use Rattle.krs_model.specs.Sound.{processes_of}
-use Rattle.krs_model.specs.Sweep.{roots, context_roots, process_roots, uid_roots}
-use Rattle.krs_model.proofs.Reach.Levels.{in_left, in_right, in_one}
-use Rattle.krs_model.proofs.Tables.Entries.{IsEntry, first_entry, later_entry}
+use Rattle.krs_model.specs.{Sound.processes_of, State.State, Sweep.{context_roots, process_roots, roots, uid_roots}}
+use Rattle.krs_model.specs.Table.{alter, at, IsDistinct, map_values, put, Table, without}
+use Rattle.krs_model.proofs.Reach.Levels.{in_left, in_one, in_right}
+use Rattle.krs_model.proofs.Tables.Entries.{first_entry, IsEntry, later_entry}
 
 -- the keys that a context, a uid, and the entries of a table attach
 abbrev pub context_keys : Context → List ℕ

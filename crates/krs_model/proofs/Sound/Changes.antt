@@ -1,29 +1,21 @@
 -- What leaves a store sound but for the sweep: links fewer, a further key, a further link, a sweep.
-use Rattle.std.proofs.Common.{◌≡◌, ℕ, ◌≤◌, List, Option, None, Some, Bool, true, false, cond, filter}
-use Rattle.std.proofs.Common.{refl, ap, ◌∙◌, sym, subst, arith, ◌⊎◌, inl, inr, ⊎_elim}
-use Rattle.std.specs.Option.{IsSome, option_map}
-use Rattle.std.specs.List.{count_by}
-use Rattle.std.proofs.lemmas.Bool.{true≢false}
+use Rattle.std.proofs.Common.{⊎_elim, ◌∙◌, ◌≡◌, ◌≤◌, ◌⊎◌, ap, arith, Bool, cond, count_by, false, filter, inl, inr}
+use Rattle.std.proofs.Common.{IsSome, List, None, Option, option_map, refl, Some, subst, sym, true, true≢false, ℕ}
 use Rattle.std.proofs.lemmas.Option.{none-some}
 use Rattle.krs_types.specs.declared.name.Name.{Name}
-use Rattle.krs_model.specs.Table.{Table, at, put, alter, map_values, IsBelow, Rises}
-use Rattle.krs_model.specs.State.{State, Key, Content, Payload, Links}
-use Rattle.krs_model.specs.Possession.{links_of_content}
-use Rattle.krs_model.specs.Levels.{is_in}
-use Rattle.krs_model.specs.Linking.{is_named, linked_content}
-use Rattle.krs_model.specs.Reach.{Reaches, Directly, Further, IsAcyclic, links_of_key_at}
-use Rattle.krs_model.specs.Sweep.{IsSweep, PicksHeld, IsHeld, Attached, Linked, links_of_key, live_watches, roots}
-use Rattle.krs_model.specs.Sound.{AllLinked, AllAttached, AllPlaced, AreHoused, IsFitting, AllFitting, HasOneOfEach}
-use Rattle.krs_model.specs.Making.{with_new}
-use Rattle.krs_model.specs.Asks.Changing.{changed}
-use Rattle.krs_model.proofs.Tables.Changes.{at_put_same, at_put_other, at_or_apart, at_alter_same, at_alter_other}
-use Rattle.krs_model.proofs.Tables.Changes.{at_alter_none, at_map}
-use Rattle.krs_model.proofs.Tables.Changes.{at_kept, below_put, below_filter}
-use Rattle.krs_model.proofs.Tables.Rising.{alter_rises, map_rises, filter_rises, put_rises}
-use Rattle.krs_model.proofs.Sound.Contents.{FitStays, form_stays, linked_form, alter_fits, map_fits, filter_fits, put_fits}
-use Rattle.krs_model.proofs.Reach.Acyclic.{AddsAtMost, From, acyclic_fewer, acyclic_adds}
-use Rattle.krs_model.proofs.Tables.Counts.{IsPart, part_in, none_part, count_on, in_with_link, one_linked}
-use Rattle.krs_model.proofs.Sweep.Laws.{linking_is_there}
+use Rattle.krs_model.specs.{Asks.Changing.changed, Levels.is_in, Linking.{is_named, linked_content}, Making.with_new}
+use Rattle.krs_model.specs.{Possession.links_of_content, Reach.{Directly, Further, IsAcyclic, links_of_key_at, Reaches}}
+use Rattle.krs_model.specs.Sound.{AllAttached, AllFitting, AllLinked, AllPlaced, AreHoused, HasOneOfEach, IsFitting}
+use Rattle.krs_model.specs.State.{Content, Key, Links, Payload, State}
+use Rattle.krs_model.specs.Sweep.{Attached, IsHeld, IsSweep, Linked, links_of_key, live_watches, PicksHeld, roots}
+use Rattle.krs_model.specs.Table.{alter, at, IsBelow, map_values, put, Rises, Table}
+use Rattle.krs_model.proofs.Reach.Acyclic.{acyclic_adds, acyclic_fewer, AddsAtMost, From}
+use Rattle.krs_model.proofs.Sound.Contents.{alter_fits, filter_fits, FitStays, form_stays, linked_form, map_fits}
+use Rattle.krs_model.proofs.{Sound.Contents.put_fits, Sweep.Laws.linking_is_there}
+use Rattle.krs_model.proofs.Tables.Changes.{at_alter_none, at_alter_other, at_alter_same, at_kept, at_map, at_or_apart}
+use Rattle.krs_model.proofs.Tables.Changes.{at_put_other, at_put_same, below_filter, below_put}
+use Rattle.krs_model.proofs.Tables.Counts.{count_on, in_with_link, IsPart, none_part, one_linked, part_in}
+use Rattle.krs_model.proofs.Tables.Rising.{alter_rises, filter_rises, map_rises, put_rises}
 
 -- sound but for the sweep
 pub record Stands (s : State) : Type 0 where

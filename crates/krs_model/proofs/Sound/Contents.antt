@@ -1,17 +1,12 @@
 -- What leaves keyrings with links, and any other key with a payload.
-use Rattle.std.proofs.Common.{◌≡◌, ℕ, Option, None, Some, Bool, true, false, cond, filter, refl, ap, ◌∙◌, sym, subst}
-use Rattle.std.proofs.Common.{⊎_elim}
-use Rattle.std.specs.Option.{option_map}
-use Rattle.std.specs.Ordering.{nat_cmp}
+use Rattle.std.proofs.Common.{⊎_elim, ◌∙◌, ◌≡◌, ap, Bool, cond, false, filter, nat_cmp, None, Option, option_map, refl}
+use Rattle.std.proofs.Common.{Some, subst, sym, true, ℕ}
 use Rattle.std.specs.BTreeMap.{is_at}
 use Rattle.std.proofs.lemmas.Option.{none-some, same_Some}
-use Rattle.krs_types.specs.declared.kind.Kind.TheVariants.{Keyring}
-use Rattle.krs_types.specs.Kind.{same_kind}
-use Rattle.krs_model.specs.Table.{Table, at, put, alter, map_values}
-use Rattle.krs_model.specs.State.{Key, Content, Payload, Links}
-use Rattle.krs_model.specs.Linking.{linked_content}
-use Rattle.krs_model.specs.Sound.{is_links, IsFitting, AllFitting}
-use Rattle.krs_model.proofs.Tables.Changes.{at_map, at_kept, at_put_same, at_put_other, at_or_apart}
+use Rattle.krs_types.specs.{Kind.same_kind, declared.kind.Kind.TheVariants.Keyring}
+use Rattle.krs_model.specs.{Linking.linked_content, Sound.{AllFitting, is_links, IsFitting}}
+use Rattle.krs_model.specs.{State.{Content, Key, Links, Payload}, Table.{alter, at, map_values, put, Table}}
+use Rattle.krs_model.proofs.Tables.Changes.{at_kept, at_map, at_or_apart, at_put_other, at_put_same}
 use Rattle.krs_model.proofs.Tables.Distinct.{at_alter}
 
 -- what may be at a number is so

@@ -1,22 +1,17 @@
 -- What leaves contexts, processes and uids housed: a further one, one that is changed, fewer of them.
-use Rattle.std.proofs.Common.{◌≡◌, ℕ, ◌+◌, ◌==◌, ◌||◌, List, [], ◌∷◌, Option, Some, Bool, true, false}
-use Rattle.std.proofs.Common.{cond, filter, refl, ap, ◌∙◌, sym, subst, arith, inl, ⊎_elim}
-use Rattle.std.specs.Option.{IsSome, option_map}
-use Rattle.std.proofs.lemmas.Bool.{true≢false}
+use Rattle.std.proofs.Common.{[], ⊎_elim, ◌+◌, ◌==◌, ◌||◌, ◌∙◌, ◌∷◌, ◌≡◌, ap, arith, Bool, cond, false, filter, inl}
+use Rattle.std.proofs.Common.{IsSome, List, Option, option_map, refl, Some, subst, sym, true, true≢false, ℕ}
 use Rattle.std.proofs.lemmas.List.Concat.{flat_map_single}
-use Rattle.krs_types.specs.declared.context.Context.{Context}
-use Rattle.krs_types.specs.declared.context.UidRings.{UidRings}
-use Rattle.krs_model.specs.Table.{Table, at, put, without, alter, map_values, IsBelow, Rises}
-use Rattle.krs_model.specs.Levels.{is_in}
-use Rattle.krs_model.specs.Sound.{AreHoused, AllOwned, uids_of}
-use Rattle.krs_model.specs.Asks.Leaving.{has_uid}
-use Rattle.krs_model.proofs.Tables.Changes.{below_put, below_filter, at_alter_none, at_without_none, at_without_other, at_map}
-use Rattle.krs_model.proofs.Tables.Changes.{at_kept, at_or_apart}
-use Rattle.krs_model.proofs.Tables.Rising.{alter_rises, map_rises, filter_rises, without_rises, put_rises}
-use Rattle.krs_model.proofs.Reach.Levels.{same_is, only_in}
-use Rattle.krs_model.proofs.Sound.Attached.{attachments, attached_either, attached_alter, attached_fewer, attached_without}
-use Rattle.krs_model.proofs.Sound.Attached.{attached_mapped, attached_at}
-use Rattle.krs_model.proofs.Sound.Changes.{there_put, there_map, kept_some}
+use Rattle.krs_types.specs.declared.context.{Context.Context, UidRings.UidRings}
+use Rattle.krs_model.specs.{Asks.Leaving.has_uid, Levels.is_in, Sound.{AllOwned, AreHoused, uids_of}}
+use Rattle.krs_model.specs.Table.{alter, at, IsBelow, map_values, put, Rises, Table, without}
+use Rattle.krs_model.proofs.Reach.Levels.{only_in, same_is}
+use Rattle.krs_model.proofs.Sound.Attached.{attached_alter, attached_at, attached_either, attached_fewer}
+use Rattle.krs_model.proofs.Sound.Attached.{attached_mapped, attached_without, attachments}
+use Rattle.krs_model.proofs.Sound.Changes.{kept_some, there_map, there_put}
+use Rattle.krs_model.proofs.Tables.Changes.{at_alter_none, at_kept, at_map, at_or_apart, at_without_none}
+use Rattle.krs_model.proofs.Tables.Changes.{at_without_other, below_filter, below_put}
+use Rattle.krs_model.proofs.Tables.Rising.{alter_rises, filter_rises, map_rises, put_rises, without_rises}
 
 -- the uid of a context, as if it attached it
 abbrev pub own_uid : Context → List ℕ

@@ -1,30 +1,23 @@
 -- A process and a uid are there only while they have a context, and the contexts of a process are of one uid, after
 -- whatever is asked.
-use Rattle.std.proofs.Common.{◌≡◌, ℕ, ◌==◌, ◌||◌, Option, Some, None, Bool, true, false, cond, not, filter, refl, ap, ◌∙◌}
-use Rattle.std.proofs.Common.{sym, subst, arith, ◌⊎◌, inl, inr, ⊎_elim}
-use Rattle.std.specs.Option.{IsSome, option_map}
-use Rattle.std.proofs.lemmas.Bool.{true≢false}
-use Rattle.std.proofs.lemmas.Bool.Decides.{nat_tests}
-use Rattle.std.proofs.lemmas.Option.{none-some, same_Some}
-use Rattle.krs_types.specs.declared.caller.Caller.{Caller}
-use Rattle.krs_types.specs.declared.context.Context.{Context}
-use Rattle.krs_types.specs.declared.context.UidRings.{UidRings}
-use Rattle.krs_types.specs.declared.ask.Op.{Op}
-use Rattle.krs_model.specs.Table.{Table, at, put, alter, without, map_values, IsDistinct}
-use Rattle.krs_model.specs.State.{State}
-use Rattle.krs_model.specs.Sound.{HasContext, AreInUse}
-use Rattle.krs_model.specs.Asks.Entering.{without_thread, execed}
+use Rattle.std.proofs.Common.{⊎_elim, ◌==◌, ◌||◌, ◌∙◌, ◌≡◌, ◌⊎◌, ap, arith, Bool, cond, false, filter, inl, inr, IsSome}
+use Rattle.std.proofs.Common.{None, not, Option, option_map, refl, Some, subst, sym, true, true≢false, ℕ}
+use Rattle.std.proofs.lemmas.{Bool.Decides.nat_tests, Option.{none-some, same_Some}}
+use Rattle.krs_types.specs.declared.{ask.Op.Op, caller.Caller.Caller, context.{Context.Context, UidRings.UidRings}}
+use Rattle.krs_model.specs.Asks.Entering.{execed, without_thread}
 use Rattle.krs_model.specs.Asks.Invalidating.{context_without, detached, rings_without}
-use Rattle.krs_model.specs.Asks.Leaving.{left, exited, has_process, has_uid, contexts_without}
-use Rattle.krs_model.proofs.Tables.Changes.{at_map, at_kept, at_put_same, at_alter_same}
-use Rattle.krs_model.proofs.Tables.Distinct.{alter_distinct, filter_distinct, without_distinct, at_filter_some}
-use Rattle.krs_model.proofs.Tables.Entries.{rises_distinct, find_entry, filter_still, left_unless, still_unless, without_was}
-use Rattle.krs_model.proofs.Asks.Houses.{Houses, Same, Begins, Enters, Threads, Alters, Rings, Execs, Detaches, Exits}
-use Rattle.krs_model.proofs.Asks.Houses.{Departs, entering, StaysWhose}
-use Rattle.krs_model.proofs.Lookups.Serials.{own_there}
-use Rattle.krs_model.proofs.Reach.Levels.{same_is, or_true}
-use Rattle.krs_model.proofs.Sound.Changes.{Stands, IsChanged, at_change, IsPut, at_put, not_there}
+use Rattle.krs_model.specs.Asks.Leaving.{contexts_without, exited, has_process, has_uid, left}
+use Rattle.krs_model.specs.Sound.{AreInUse, HasContext}
+use Rattle.krs_model.specs.{State.State, Table.{alter, at, IsDistinct, map_values, put, Table, without}}
+use Rattle.krs_model.proofs.Asks.Houses.{Alters, Begins, Departs, Detaches, entering, Enters, Execs, Exits, Houses}
+use Rattle.krs_model.proofs.Asks.Houses.{Rings, Same, StaysWhose, Threads}
+use Rattle.krs_model.proofs.{Lookups.Serials.own_there, Reach.Levels.{or_true, same_is}}
+use Rattle.krs_model.proofs.Sound.Changes.{at_change, at_put, IsChanged, IsPut, not_there, Stands}
 use Rattle.krs_model.proofs.Sound.NewContexts.{own_process_there}
+use Rattle.krs_model.proofs.Tables.Changes.{at_alter_same, at_kept, at_map, at_put_same}
+use Rattle.krs_model.proofs.Tables.Distinct.{alter_distinct, at_filter_some, filter_distinct, without_distinct}
+use Rattle.krs_model.proofs.Tables.Entries.{filter_still, find_entry, left_unless, rises_distinct, still_unless}
+use Rattle.krs_model.proofs.Tables.Entries.{without_was}
 
 -- contexts of a process are of one uid
 abbrev AreAlike : Table Context → Type 0

@@ -1,37 +1,27 @@
 -- Queues and watches stay orderly: over what an accepted ask does to them, over the sweep, and over posts.
-use Rattle.std.proofs.Common.{◌≡◌, ℕ, ◌==◌, ◌<◌, ◌≤◌, ◌^◌, List, [], ◌∷◌, Option, Some, None, Bool, true, false, not}
-use Rattle.std.proofs.Common.{cond, filter}
-use Rattle.std.proofs.Common.{Result, Ok, Err, refl, ap, ◌∙◌, sym, subst, arith, ⊎_elim}
-use Rattle.std.specs.Option.{IsSome, option_map}
-use Rattle.std.specs.Ordering.{nat_cmp}
+use Rattle.std.proofs.Common.{[], ⊎_elim, ◌<◌, ◌==◌, ◌^◌, ◌∙◌, ◌∷◌, ◌≡◌, ◌≤◌, ap, arith, Bool, cond, Err, false, filter}
+use Rattle.std.proofs.Common.{IsSome, List, nat_cmp, None, not, Ok, Option, option_map, refl, Result, Some, subst, sym}
+use Rattle.std.proofs.Common.{true, true≢false, ℕ}
 use Rattle.std.specs.BTreeMap.{is_at}
-use Rattle.std.proofs.lemmas.Bool.{true≢false}
 use Rattle.std.proofs.lemmas.Option.{none-some, same_Some}
-use Rattle.krs_types.specs.declared.errno.Errno.{Errno}
-use Rattle.krs_types.specs.declared.ask.Answer.{Answer}
-use Rattle.krs_types.specs.declared.ask.Op.{Op}
-use Rattle.krs_model.specs.Table.{Table, at, put, alter, without, IsBelow, IsDistinct}
-use Rattle.krs_model.specs.State.{State, Queue}
-use Rattle.krs_model.specs.Queues.{Queues, Watch, queues_of, queues_without, place_cmp, watch_at, with_watch}
-use Rattle.krs_model.specs.Queues.{without_watch}
-use Rattle.krs_model.specs.Orderly.{Each, IsWatch, IsQueue, AreOrderly}
-use Rattle.krs_model.specs.Sweep.{IsSweep, live_watches}
-use Rattle.krs_model.specs.Notes.Waiting.{is_capacity}
-use Rattle.krs_model.specs.Notes.Posting.{Post, after_note, after_notes, post_all, posted, records_for}
-use Rattle.krs_model.specs.Notes.Telling.{named, ended_where, ended_by}
+use Rattle.krs_types.specs.declared.{ask.{Answer.Answer, Op.Op}, errno.Errno.Errno}
 use Rattle.krs_model.specs.Asks.Leaving.{left}
-use Rattle.krs_model.specs.Asks.Watching.{new_queue, with_queue, with_filter, after_read, without_queue, watches_of}
-use Rattle.krs_model.proofs.Tables.Changes.{at_alter_none, at_filter_none, at_without_none, at_without_other, at_or_apart}
-use Rattle.krs_model.proofs.Tables.Changes.{below_put}
-use Rattle.krs_model.proofs.Tables.Distinct.{at_alter, alter_distinct, filter_distinct, without_distinct, put_distinct}
-use Rattle.krs_model.proofs.Tables.Distinct.{at_without_same, at_filter_some, has_entry}
-use Rattle.krs_model.proofs.Reach.Levels.{same_is}
-use Rattle.krs_model.proofs.Sound.Changes.{IsPut, at_put, there_put, there_alter}
-use Rattle.krs_model.proofs.Notes.Posts.{at_post_all}
-use Rattle.krs_model.proofs.Notes.Fitting.{each_filter, each_on, ArePosts, posts_for, after_notes_fit, behind_fit}
-use Rattle.krs_model.proofs.Sound.Watches.{filter_rising, each_without, without_rising, each_with, with_rising}
-use Rattle.krs_model.proofs.Asks.Effects.{Effect, OfKeys, Opens, Filters, Reads, Closes, Watches, Unwatches, Leaves}
+use Rattle.krs_model.specs.Asks.Watching.{after_read, new_queue, watches_of, with_filter, with_queue, without_queue}
+use Rattle.krs_model.specs.Notes.Posting.{after_note, after_notes, Post, post_all, posted, records_for}
+use Rattle.krs_model.specs.Notes.{Telling.{ended_by, ended_where, named}, Waiting.is_capacity}
+use Rattle.krs_model.specs.{Orderly.{AreOrderly, Each, IsQueue, IsWatch}, Queues.{place_cmp, Queues, queues_of}}
+use Rattle.krs_model.specs.{Queues.{queues_without, Watch, watch_at, with_watch, without_watch}, State.{Queue, State}}
+use Rattle.krs_model.specs.{Sweep.{IsSweep, live_watches}, Table.{alter, at, IsBelow, IsDistinct, put, Table, without}}
+use Rattle.krs_model.proofs.Asks.Effects.{Closes, Effect, Filters, Leaves, OfKeys, Opens, Reads, Unwatches, Watches}
 use Rattle.krs_model.proofs.Asks.NewSerials.{small_there}
+use Rattle.krs_model.proofs.Notes.Fitting.{after_notes_fit, ArePosts, behind_fit, each_filter, each_on, posts_for}
+use Rattle.krs_model.proofs.Notes.Posts.{at_post_all}
+use Rattle.krs_model.proofs.{Reach.Levels.same_is, Sound.Changes.{at_put, IsPut, there_alter, there_put}}
+use Rattle.krs_model.proofs.Sound.Watches.{each_with, each_without, filter_rising, with_rising, without_rising}
+use Rattle.krs_model.proofs.Tables.Changes.{at_alter_none, at_filter_none, at_or_apart, at_without_none}
+use Rattle.krs_model.proofs.Tables.Changes.{at_without_other, below_put}
+use Rattle.krs_model.proofs.Tables.Distinct.{alter_distinct, at_alter, at_filter_some, at_without_same, filter_distinct}
+use Rattle.krs_model.proofs.Tables.Distinct.{has_entry, put_distinct, without_distinct}
 
 each_filter_on :
     (P Q : Watch → Type 0) (p : Watch → Bool) (ws : List Watch) → ((w : Watch) → p w ≡ true → P w → Q w) → Each P ws

@@ -1,36 +1,22 @@
 -- Each step leaves a store sound.
-use Rattle.std.proofs.Common.{◌≡◌, ℕ, ◌++◌, List, [], ◌∷◌}
-use Rattle.std.proofs.Common.{Option, Result, Ok, Err, refl, ap, sym, subst, arith}
+use Rattle.std.proofs.Common.{[], ◌++◌, ◌∷◌, ◌≡◌, ap, arith, Err, List, Ok, Option, refl, Result, subst, sym}
+use Rattle.std.proofs.Common.{true≢false, ℕ}
 use Rattle.std.specs.List.Sorted.{IsStrictlySortedBy}
-use Rattle.std.proofs.lemmas.Bool.{true≢false}
 use Rattle.std.proofs.lemmas.Option.{none-some}
-use Rattle.krs_types.specs.declared.errno.Errno.{Errno}
-use Rattle.krs_types.specs.declared.context.Context.{Context}
-use Rattle.krs_types.specs.declared.context.UidRings.{UidRings}
-use Rattle.krs_types.specs.declared.ask.Answer.{Answer}
-use Rattle.krs_types.specs.declared.ask.Op.{Op}
-use Rattle.krs_types.specs.declared.event.Event.{Event}
-use Rattle.krs_model.specs.Table.{Table, IsBelow, Rises}
-use Rattle.krs_model.specs.State.{State, Queue, Key, starting_at, raised}
-use Rattle.krs_model.specs.Reach.{Reaches, Directly, Further, IsAcyclic, links_of_key_at}
-use Rattle.krs_model.specs.History.{IsLegal}
-use Rattle.krs_model.specs.Sweep.{IsSwept, IsSweep}
-use Rattle.krs_model.specs.Sound.{AreHoused, AreInUse, IsSound}
-use Rattle.krs_model.specs.Step.{Step, Serves, Ends, outcome_of, posts_by, watches_left}
-use Rattle.krs_model.specs.Queues as queues
-use Rattle.krs_model.specs.Queues.{queues_of}
-use Rattle.krs_model.specs.Orderly.{Each, IsWatch, AreOrderly}
-use Rattle.krs_model.specs.Notes.Posting.{Post, posted_in, dropped_watches}
-use Rattle.krs_model.specs.Notes.Telling.{notes_of}
+use Rattle.krs_types.specs.declared.ask.{Answer.Answer, Op.Op}
+use Rattle.krs_types.specs.declared.{context.{Context.Context, UidRings.UidRings}, errno.Errno.Errno, event.Event.Event}
+use Rattle.krs_model.specs.{History.IsLegal, Notes.Posting.{dropped_watches, Post, posted_in}}
+use Rattle.krs_model.specs.{Notes.Telling.notes_of, Orderly.{AreOrderly, Each, IsWatch}, Queues.queues_of}
+use Rattle.krs_model.specs.Reach.{Directly, Further, IsAcyclic, links_of_key_at, Reaches}
+use Rattle.krs_model.specs.{Sound.{AreHoused, AreInUse, IsSound}, State.{Key, Queue, raised, starting_at, State}}
+use Rattle.krs_model.specs.Step.{Ends, outcome_of, posts_by, Serves, Step, watches_left}
+use Rattle.krs_model.specs.{Sweep.{IsSweep, IsSwept}, Table.{IsBelow, Rises, Table}}
+use Rattle.krs_model.proofs.Asks.{Effects.effect_of, GreatestSerial.{few_swept, mid_few}, Laws.law_of}
+use Rattle.krs_model.proofs.Notes.Fitting.{ArePosts, each_filter, each_on, FitsRecord, posts_fit}
+use Rattle.krs_model.proofs.Sound.{Changes.{same_stands, Stands, sweep_stands}, InUse.houses_in_use}
+use Rattle.krs_model.proofs.Sound.Queues.{effect_orderly, ended_watch, posted_orderly, sweep_orderly}
 use Rattle.krs_model.proofs.Sweep.Laws.{sweep_swept}
-use Rattle.krs_model.proofs.Sound.InUse.{houses_in_use}
-use Rattle.krs_model.proofs.Sound.Changes.{Stands, same_stands}
-use Rattle.krs_model.proofs.Sound.Changes.{sweep_stands}
-use Rattle.krs_model.proofs.Notes.Fitting.{FitsRecord, ArePosts, each_filter, each_on, posts_fit}
-use Rattle.krs_model.proofs.Asks.Effects.{effect_of}
-use Rattle.krs_model.proofs.Asks.GreatestSerial.{few_swept, mid_few}
-use Rattle.krs_model.proofs.Sound.Queues.{effect_orderly, sweep_orderly, posted_orderly, ended_watch}
-use Rattle.krs_model.proofs.Asks.Laws.{law_of}
+use Rattle.krs_model.specs.Queues as queues
 
 posted_stands : (ps : List Post) (s : State) → Stands s → Stands (posted_in ps s)
 posted_stands ps s stands = same_stands s _ refl refl stands.attached stands.placed stands.housed stands

@@ -1,14 +1,11 @@
 -- Watches by rising key, then queue.
-use Rattle.std.proofs.Common.{◌≡◌, ℕ, List, [], ◌∷◌, Bool, true, false, cond, filter, refl, ap, ◌∙◌, sym}
-use Rattle.std.specs.Ordering.{nat_cmp, ordering_then, match_ordering, ordering_reverse, is_eq}
-use Rattle.std.specs.declared.cmp.Ordering.TheVariants.{Less, Equal, Greater}
-use Rattle.std.specs.BTreeMap.{is_at}
-use Rattle.std.specs.Cmp.{then_flip}
+use Rattle.std.proofs.Common.{[], ◌∙◌, ◌∷◌, ◌≡◌, ap, Bool, cond, false, filter, is_eq, List, nat_cmp, refl, sym, true}
+use Rattle.std.proofs.Common.{ℕ}
+use Rattle.std.specs.{BTreeMap.is_at, Cmp.then_flip, Ordering.{match_ordering, ordering_reverse, ordering_then}}
+use Rattle.std.specs.declared.cmp.Ordering.TheVariants.{Equal, Greater, Less}
 use Rattle.std.proofs.lemmas.Cmp.{nat_cmp_total}
-use Rattle.krs_model.specs.Queues.{Watch, place_cmp, with_watch, without_watch}
-use Rattle.krs_model.specs.Orderly.{Each, AreRising}
-use Rattle.krs_model.proofs.Tables.Changes.{same_at}
-use Rattle.krs_model.proofs.Notes.Fitting.{each_filter, each_on}
+use Rattle.krs_model.specs.{Orderly.{AreRising, Each}, Queues.{place_cmp, Watch, with_watch, without_watch}}
+use Rattle.krs_model.proofs.{Notes.Fitting.{each_filter, each_on}, Tables.Changes.same_at}
 
 abbrev IsAfter : Watch → Watch → Type 0
 IsAfter w v = place_cmp w.0 v.0 ≡ Less

@@ -1,25 +1,14 @@
 -- In an acyclic state a closed choice is that of the held keys.
-use Rattle.std.proofs.Common.{◌≡◌, ℕ, zero, suc, ◌+◌, ◌≤◌, ◌==◌, ◌||◌, List, [], ◌∷◌, Bool}
-use Rattle.std.proofs.Common.{true, false, length, refl, ◌∙◌, sym, subst, arith, inl, inr, ⊎_elim}
-use Rattle.std.specs.Option.{IsSome}
-use Rattle.std.specs.List.{AllByRecursion, IsDistinct, list_any}
-use Rattle.std.specs.Cmp.{nat_cmp_total, eq_by_cmp_equiv}
-use Rattle.std.specs.Ordering.{nat_cmp, eq_by_cmp}
-use Rattle.std.specs.BTreeMap.{is_at}
-use Rattle.std.proofs.lemmas.Bool.{true≢false, cases_eq}
-use Rattle.std.proofs.lemmas.Bool.Decides.{nat_tests}
-use Rattle.std.proofs.lemmas.Map.Keys.{IsDistinct-cons}
-use Rattle.std.proofs.lemmas.Map.Steps.{length-le_from_keys}
-use Rattle.krs_model.specs.Table.{Table, at}
-use Rattle.krs_model.specs.State.{Key}
-use Rattle.krs_model.specs.Levels.{is_in}
-use Rattle.krs_model.specs.Sweep.{IsHeld, Attached, Linked, PicksHeld}
-use Rattle.krs_model.specs.Reach.{Reaches, Directly, Further, IsAcyclic, links_of_key_at}
+use Rattle.std.proofs.Common.{[], ⊎_elim, ◌+◌, ◌==◌, ◌||◌, ◌∙◌, ◌∷◌, ◌≡◌, ◌≤◌, arith, Bool, false, inl, inr, IsSome}
+use Rattle.std.proofs.Common.{length, List, nat_cmp, refl, subst, suc, sym, true, true≢false, zero, ℕ}
+use Rattle.std.specs.{BTreeMap.is_at, Cmp.{eq_by_cmp_equiv, nat_cmp_total}, List.{AllByRecursion, IsDistinct, list_any}}
+use Rattle.std.specs.Ordering.{eq_by_cmp}
+use Rattle.std.proofs.lemmas.{Bool.{cases_eq, Decides.nat_tests}, Map.{Keys.IsDistinct-cons, Steps.length-le_from_keys}}
 use Rattle.krs_model.specs.Anchored.{IsAnchored, IsClosedChoice}
-use Rattle.krs_model.proofs.Tables.Changes.{same_at}
-use Rattle.krs_model.proofs.Reach.Levels.{or_true, same_is}
+use Rattle.krs_model.specs.{Levels.is_in, Reach.{Directly, Further, IsAcyclic, links_of_key_at, Reaches}, State.Key}
+use Rattle.krs_model.specs.{Sweep.{Attached, IsHeld, Linked, PicksHeld}, Table.{at, Table}}
 use Rattle.krs_model.proofs.Reach.Acyclic.{reaches_on}
-use Rattle.krs_model.proofs.Sweep.Laws.{linking_is_there}
+use Rattle.krs_model.proofs.{Reach.Levels.{or_true, same_is}, Sweep.Laws.linking_is_there, Tables.Changes.same_at}
 
 -- the first of a list is in it
 pub in_head : (k : ℕ) (ks : List ℕ) → is_in k (k ∷ ks) ≡ true

@@ -1,17 +1,10 @@
 -- Laws of sweeps.
-use Rattle.std.proofs.Common.{◌≡◌, ℕ, List, [], ◌∷◌, Option, Some, None, Bool, true, false, cond, filter, refl, ap}
-use Rattle.std.proofs.Common.{◌∙◌, sym, subst}
-use Rattle.std.specs.List.{find}
-use Rattle.std.proofs.lemmas.Option.{none-some, same_Some}
-use Rattle.std.specs.Ordering.{nat_cmp}
-use Rattle.std.specs.Option.{IsSome, is_some}
+use Rattle.std.proofs.Common.{[], ◌∙◌, ◌∷◌, ◌≡◌, ap, Bool, cond, false, filter, find, is_some, IsSome, List, nat_cmp}
+use Rattle.std.proofs.Common.{None, Option, refl, Some, subst, sym, true, true≢false, ℕ}
 use Rattle.std.specs.BTreeMap.{is_at}
-use Rattle.std.proofs.lemmas.Bool.{true≢false}
-use Rattle.krs_model.specs.Table.{Table, at}
-use Rattle.krs_model.specs.State.{State, Key}
-use Rattle.krs_model.specs.Levels.{is_in}
-use Rattle.krs_model.specs.Sweep.{IsHeld, Attached, Linked, PicksHeld, AllHeld, IsSweep, IsSwept, live_watches}
-use Rattle.krs_model.specs.Sweep.{links_of_key, roots}
+use Rattle.std.proofs.lemmas.Option.{none-some, same_Some}
+use Rattle.krs_model.specs.{Levels.is_in, State.{Key, State}, Sweep.{AllHeld, Attached, IsHeld, IsSweep, IsSwept}}
+use Rattle.krs_model.specs.{Sweep.{Linked, links_of_key, live_watches, PicksHeld, roots}, Table.{at, Table}}
 use Rattle.krs_model.proofs.Tables.Changes.{at_kept, is_at_same}
 
 filter_all : {X : Type 0} (xs : List X) → xs ≡ filter (λ x. true) xs

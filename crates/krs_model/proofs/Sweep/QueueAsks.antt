@@ -1,24 +1,13 @@
 -- An ask of queues leaves a swept state: keys and attachments stay, and watches are at keys that are there.
-use Rattle.std.proofs.Common.{◌≡◌, ℕ, ◌==◌, List, [], ◌∷◌, Bool, true, false, not, cond, filter, length}
-use Rattle.std.proofs.Common.{refl, ap, ◌∙◌, sym, arith, ◌⊎◌, inl, inr}
-use Rattle.std.specs.Option.{IsSome, is_some}
-use Rattle.std.proofs.lemmas.Bool.{true≢false}
+use Rattle.std.proofs.Common.{[], ◌==◌, ◌∙◌, ◌∷◌, ◌≡◌, ◌⊎◌, ap, arith, Bool, cond, false, filter, inl, inr, is_some}
+use Rattle.std.proofs.Common.{IsSome, length, List, not, refl, sym, true, true≢false, ℕ}
 use Rattle.std.proofs.lemmas.List.Filters.{length-filter_both}
-use Rattle.krs_types.specs.declared.ask.Answer.{Answer}
-use Rattle.krs_types.specs.declared.ask.Op.{Op}
-use Rattle.krs_types.specs.declared.ask.Op.TheVariants.{Leave}
-use Rattle.krs_model.specs.Table.{Table, at}
-use Rattle.krs_model.specs.State.{State, Key}
-use Rattle.krs_model.specs.Queues.{Watch}
-use Rattle.krs_model.specs.Orderly.{Each}
-use Rattle.krs_model.specs.Sound.{IsSound}
-use Rattle.krs_model.specs.Sweep.{IsSwept, live_watches}
-use Rattle.krs_model.specs.Notes.Telling.{ended_by, named}
-use Rattle.krs_model.proofs.Notes.Fitting.{each_filter}
-use Rattle.krs_model.proofs.Sound.Watches.{each_without, each_with}
-use Rattle.krs_model.proofs.Asks.Effects.{Effect, OfKeys, Opens, Filters, Reads, Closes, Watches, Unwatches, Leaves}
-use Rattle.krs_model.proofs.Asks.Effects.{is_of_queues}
-use Rattle.krs_model.proofs.Sound.Queues.{ended_set}
+use Rattle.krs_types.specs.declared.ask.{Answer.Answer, Op.{Op, TheVariants.Leave}}
+use Rattle.krs_model.specs.{Notes.Telling.{ended_by, named}, Orderly.Each, Queues.Watch, Sound.IsSound}
+use Rattle.krs_model.specs.{State.{Key, State}, Sweep.{IsSwept, live_watches}, Table.{at, Table}}
+use Rattle.krs_model.proofs.Asks.Effects.{Closes, Effect, Filters, is_of_queues, Leaves, OfKeys, Opens, Reads}
+use Rattle.krs_model.proofs.Asks.Effects.{Unwatches, Watches}
+use Rattle.krs_model.proofs.{Notes.Fitting.each_filter, Sound.{Queues.ended_set, Watches.{each_with, each_without}}}
 
 -- the key of a watch is there
 abbrev pub IsLive : Table Key → Watch → Type 0

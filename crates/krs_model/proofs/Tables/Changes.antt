@@ -1,17 +1,10 @@
 -- Laws of tables: what is at a number after a change there.
-use Rattle.std.proofs.Common.{◌≡◌, ℕ, [], ◌∷◌, Some, None, Bool, true, false, cond, filter, arith, ◌+◌, ◌<◌, ◌⊎◌, inl}
-use Rattle.std.proofs.Common.{inr, refl, ap, ◌∙◌, sym, subst}
-use Rattle.std.specs.Option.{option_map}
-use Rattle.std.proofs.lemmas.Map.Entries.{lookup-filter-keys}
-use Rattle.std.proofs.lemmas.Bool.Decides.{nat_tests}
-use Rattle.std.specs.Cmp.{unsigned_tied, ranked}
-use Rattle.std.specs.Ordering.{match_ordering, is_eq}
-use Rattle.std.specs.declared.cmp.Ordering.TheVariants.{Less, Equal, Greater}
-use Rattle.std.specs.Ordering.{nat_cmp}
-use Rattle.std.specs.BTreeMap.{is_at}
-use Rattle.std.specs.Map.{set_value}
-use Rattle.krs_model.specs.Table.{IsBelow}
-use Rattle.krs_model.specs.Table.{Table, at, alter, put, without, map_values}
+use Rattle.std.proofs.Common.{[], ◌+◌, ◌<◌, ◌∙◌, ◌∷◌, ◌≡◌, ◌⊎◌, ap, arith, Bool, cond, false, filter, inl, inr, is_eq}
+use Rattle.std.proofs.Common.{nat_cmp, None, option_map, refl, Some, subst, sym, true, ℕ}
+use Rattle.std.specs.{BTreeMap.is_at, Cmp.{ranked, unsigned_tied}, Map.set_value, Ordering.match_ordering}
+use Rattle.std.specs.declared.cmp.Ordering.TheVariants.{Equal, Greater, Less}
+use Rattle.std.proofs.lemmas.{Bool.Decides.nat_tests, Map.Entries.lookup-filter-keys}
+use Rattle.krs_model.specs.Table.{alter, at, IsBelow, map_values, put, Table, without}
 
 -- a value that is written back changed
 pub alter_some : {X : Type 0} (es : Table X) (k : ℕ) (f : X → X) (v : X) → at es k ≡ Some v

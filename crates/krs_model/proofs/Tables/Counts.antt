@@ -1,13 +1,9 @@
 -- How many elements of a list pass a test.
-use Rattle.std.proofs.Common.{◌≡◌, ℕ, ◌+◌, ◌≤◌, ◌==◌, ◌||◌, List, [], ◌∷◌, Bool, true, false, cond, filter, refl}
-use Rattle.std.proofs.Common.{ap, ◌∙◌, sym, arith, ◌⊎◌, inl, inr, ⊎_elim}
-use Rattle.std.specs.List.{count_by}
-use Rattle.std.proofs.lemmas.List.Sums.{sum_by-cons}
-use Rattle.std.proofs.lemmas.Bool.{true≢false}
-use Rattle.std.proofs.lemmas.Bool.Decides.{nat_tests}
-use Rattle.krs_model.specs.Levels.{is_in}
-use Rattle.krs_model.specs.Linking.{with_link}
-use Rattle.krs_model.proofs.Reach.Levels.{or_true, true_or, same_is}
+use Rattle.std.proofs.Common.{[], ⊎_elim, ◌+◌, ◌==◌, ◌||◌, ◌∙◌, ◌∷◌, ◌≡◌, ◌≤◌, ◌⊎◌, ap, arith, Bool, cond, count_by}
+use Rattle.std.proofs.Common.{false, filter, inl, inr, List, refl, sym, true, true≢false, ℕ}
+use Rattle.std.proofs.lemmas.{Bool.Decides.nat_tests, List.Sums.sum_by-cons}
+use Rattle.krs_model.specs.{Levels.is_in, Linking.with_link}
+use Rattle.krs_model.proofs.Reach.Levels.{or_true, same_is, true_or}
 
 -- a count of a list with a first element
 pub count_cons : (p : ℕ → Bool) (x : ℕ) (xs : List ℕ) → count_by p (x ∷ xs) ≡ cond (p x) 1 0 + count_by p xs

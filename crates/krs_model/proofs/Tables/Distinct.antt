@@ -1,18 +1,12 @@
 -- Tables in which no number stands twice.
-use Rattle.std.proofs.Common.{◌≡◌, ℕ, [], ◌∷◌, ◌||◌, ◌==◌, Some, None, Bool, true, false, cond, filter, refl, ap, ◌∙◌}
-use Rattle.std.proofs.Common.{sym, subst, arith, ⊎_elim}
-use Rattle.std.specs.Option.{is_some, option_map}
-use Rattle.std.specs.List.{list_any}
-use Rattle.std.specs.Cmp.{unsigned_tied}
-use Rattle.std.specs.Ordering.{nat_cmp, match_ordering}
-use Rattle.std.specs.declared.cmp.Ordering.TheVariants.{Less, Equal, Greater}
-use Rattle.std.specs.BTreeMap.{is_at}
-use Rattle.std.proofs.lemmas.Bool.Decides.{nat_tests}
-use Rattle.std.proofs.lemmas.Option.{none-some}
-use Rattle.krs_model.specs.Table.{Table, at, put, without, alter, IsDistinct}
-use Rattle.krs_model.proofs.Tables.Changes.{same_at, at_alter_none, at_alter_same, at_alter_other, at_filter_none}
-use Rattle.krs_model.proofs.Tables.Changes.{at_without_none}
-use Rattle.krs_model.proofs.Tables.Changes.{at_put_other, at_or_apart}
+use Rattle.std.proofs.Common.{[], ⊎_elim, ◌==◌, ◌||◌, ◌∙◌, ◌∷◌, ◌≡◌, ap, arith, Bool, cond, false, filter, is_some}
+use Rattle.std.proofs.Common.{nat_cmp, None, option_map, refl, Some, subst, sym, true, ℕ}
+use Rattle.std.specs.{BTreeMap.is_at, Cmp.unsigned_tied, List.list_any, Ordering.match_ordering}
+use Rattle.std.specs.declared.cmp.Ordering.TheVariants.{Equal, Greater, Less}
+use Rattle.std.proofs.lemmas.{Bool.Decides.nat_tests, Option.none-some}
+use Rattle.krs_model.specs.Table.{alter, at, IsDistinct, put, Table, without}
+use Rattle.krs_model.proofs.Tables.Changes.{at_alter_none, at_alter_other, at_alter_same, at_filter_none, at_or_apart}
+use Rattle.krs_model.proofs.Tables.Changes.{at_put_other, at_without_none, same_at}
 
 -- the two tests of one number agree
 pub same_test : (q k : ℕ) → is_at (nat_cmp q) k ≡ (k == q)

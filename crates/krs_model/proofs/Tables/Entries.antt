@@ -1,18 +1,12 @@
 -- Entries of tables in which no number stands twice: where they are found, and where they stay.
-use Rattle.std.proofs.Common.{◌≡◌, ℕ, ◌||◌, [], ◌∷◌, Option, Some, None, Bool, true, false, cond, filter, refl, ap, ◌∙◌}
-use Rattle.std.proofs.Common.{sym, subst, ⊎_elim}
-use Rattle.std.specs.Option.{IsSome}
-use Rattle.std.specs.Ordering.{nat_cmp}
+use Rattle.std.proofs.Common.{[], ⊎_elim, ◌||◌, ◌∙◌, ◌∷◌, ◌≡◌, ap, Bool, cond, false, filter, IsSome, nat_cmp, None}
+use Rattle.std.proofs.Common.{Option, refl, Some, subst, sym, true, true≢false, ℕ}
 use Rattle.std.specs.BTreeMap.{is_at}
-use Rattle.std.specs.List.{list_any, AllByRecursion}
-use Rattle.std.specs.List.Sorted.{IsStrictlySortedBy}
-use Rattle.std.specs.Map.{values_of, keys_of}
-use Rattle.std.proofs.lemmas.Bool.{true≢false}
+use Rattle.std.specs.{List.{AllByRecursion, list_any, Sorted.IsStrictlySortedBy}, Map.{keys_of, values_of}}
 use Rattle.std.proofs.lemmas.Option.{none-some, same_Some}
-use Rattle.krs_model.specs.Table.{Table, at, without, Rises, IsDistinct}
-use Rattle.krs_model.proofs.Tables.Changes.{is_at_same, same_at, at_or_apart, at_without_other}
-use Rattle.krs_model.proofs.Tables.Distinct.{at_without_same}
-use Rattle.krs_model.proofs.Tables.Rising.{Above}
+use Rattle.krs_model.specs.Table.{at, IsDistinct, Rises, Table, without}
+use Rattle.krs_model.proofs.Tables.Changes.{at_or_apart, at_without_other, is_at_same, same_at}
+use Rattle.krs_model.proofs.Tables.{Distinct.at_without_same, Rising.Above}
 
 none_above :
     {X : Type 0} (es : Table X) (n : ℕ) → AllByRecursion (Above n) (keys_of es) → at es n ≡ None

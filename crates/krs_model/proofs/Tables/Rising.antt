@@ -1,14 +1,9 @@
 -- Tables in which numbers rise.
-use Rattle.std.proofs.Common.{◌≡◌, ℕ, ◌<◌, List, [], ◌∷◌, Bool, true, false, cond, filter, refl, ap, sym, subst}
-use Rattle.std.proofs.Common.{arith}
-use Rattle.std.specs.List.{AllByRecursion}
-use Rattle.std.specs.Cmp.{ranked, nat_cmp_is}
-use Rattle.std.specs.Ordering.{nat_cmp, match_ordering}
-use Rattle.std.specs.declared.cmp.Ordering.TheVariants.{Less, Equal, Greater}
-use Rattle.std.specs.BTreeMap.{is_at}
-use Rattle.std.specs.List.Sorted.{IsStrictlySortedBy}
-use Rattle.std.specs.Map.{keys_of}
-use Rattle.krs_model.specs.Table.{Table, put, without, alter, map_values, Rises}
+use Rattle.std.proofs.Common.{[], ◌<◌, ◌∷◌, ◌≡◌, ap, arith, Bool, cond, false, filter, List, nat_cmp, refl, subst, sym}
+use Rattle.std.proofs.Common.{true, ℕ}
+use Rattle.std.specs.{BTreeMap.is_at, Cmp.{nat_cmp_is, ranked}, List.{AllByRecursion, Sorted.IsStrictlySortedBy}}
+use Rattle.std.specs.{Map.keys_of, Ordering.match_ordering, declared.cmp.Ordering.TheVariants.{Equal, Greater, Less}}
+use Rattle.krs_model.specs.Table.{alter, map_values, put, Rises, Table, without}
 
 keys_alter : {X : Type 0} (es : Table X) (k : ℕ) (f : X → X) → keys_of (alter es k f) ≡ keys_of es
 keys_alter [] k f = refl

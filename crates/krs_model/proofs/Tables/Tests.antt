@@ -1,7 +1,7 @@
 -- Laws of tests that agree on a list.
-use Rattle.std.proofs.Common.{◌≡◌, ℕ, ◌==◌, ◌||◌, List, [], ◌∷◌, Option, Some, Bool, true, cond, filter}
-use Rattle.std.proofs.Common.{refl, ap, ◌∙◌}
-use Rattle.std.specs.List.{find, list_any}
+use Rattle.std.proofs.Common.{[], ◌==◌, ◌||◌, ◌∙◌, ◌∷◌, ◌≡◌, ap, Bool, cond, filter, find, List, Option, refl, Some}
+use Rattle.std.proofs.Common.{true, ℕ}
+use Rattle.std.specs.List.{list_any}
 use Rattle.krs_model.specs.Levels.{is_in}
 use Rattle.krs_model.proofs.Reach.Levels.{or_true, same_is}
 

@@ -1,28 +1,15 @@
 -- ADD: a new key in a keyring, or a new payload for the key that stands there. add_key(2).
-use Rattle.std.specs.Prelude.{◌≡◌, ℕ, ℤ, ◌+◌, ◌&&◌, List, [], nat_lt, if◌then◌else◌, Option, None, Some, false}
-use Rattle.std.specs.Prelude.{Result, Ok, Err}
-use Rattle.krs_types.specs.declared.errno.Errno.{Errno}
-use Rattle.krs_types.specs.declared.errno.Errno.TheVariants.{EPERM, EACCES, ENOSPC}
-use Rattle.krs_types.specs.declared.kind.Kind.{Kind}
-use Rattle.krs_types.specs.declared.kind.Kind.TheVariants.{User, Logon, Keyring}
-use Rattle.krs_types.specs.declared.name.Name.{Name}
-use Rattle.krs_types.specs.declared.context.Context.{Context}
-use Rattle.krs_types.specs.declared.ask.Answer.TheVariants.{Number}
-use Rattle.krs_types.specs.declared.rights.Want.TheVariants.{Granted}
-use Rattle.krs_types.specs.Rights.{has_all, WRITE}
-use Rattle.krs_types.specs.Kind.{kind_named, checked}
-use Rattle.krs_types.specs.Refusing.{◌>>=◌}
-use Rattle.krs_types.specs.Perm.{key_mask, logon_mask}
-use Rattle.krs_model.specs.Table.{at, put, alter}
-use Rattle.krs_model.specs.State.{State, Key, Content, Payload, Links}
-use Rattle.krs_model.specs.Access.{is_alive, rights_on}
-use Rattle.krs_model.specs.Possession.{possessed}
-use Rattle.krs_model.specs.Lookup.{context_of, look_up}
-use Rattle.krs_model.specs.Making.{made_for}
-use Rattle.krs_model.specs.Linking.{ring_links, link_named, linking, has_room}
-use Rattle.krs_model.specs.Asks.Changing.{changed, is_updatable, updated}
-use Rattle.krs_model.specs.Asks.Linked.{unless}
-use Rattle.krs_model.specs.Outcome.{Outcome}
+use Rattle.std.specs.Prelude.{[], ◌&&◌, ◌+◌, ◌≡◌, Err, false, if◌then◌else◌, List, nat_lt, None, Ok, Option, Result}
+use Rattle.std.specs.Prelude.{Some, ℕ, ℤ}
+use Rattle.krs_types.specs.{Kind.{checked, kind_named}, Perm.{key_mask, logon_mask}, Refusing.◌>>=◌}
+use Rattle.krs_types.specs.{Rights.{has_all, WRITE}, declared.ask.Answer.TheVariants.Number}
+use Rattle.krs_types.specs.declared.{context.Context.Context, errno.Errno.{Errno, TheVariants.{EACCES, ENOSPC, EPERM}}}
+use Rattle.krs_types.specs.declared.kind.Kind.{Kind, TheVariants.{Keyring, Logon, User}}
+use Rattle.krs_types.specs.declared.{name.Name.Name, rights.Want.TheVariants.Granted}
+use Rattle.krs_model.specs.{Access.{is_alive, rights_on}, Asks.Changing.{changed, is_updatable, updated}}
+use Rattle.krs_model.specs.{Asks.Linked.unless, Linking.{has_room, link_named, linking, ring_links}}
+use Rattle.krs_model.specs.{Lookup.{context_of, look_up}, Making.made_for, Outcome.Outcome, Possession.possessed}
+use Rattle.krs_model.specs.{State.{Content, Key, Links, Payload, State}, Table.{alter, at, put}}
 
 -- what is asked for is a key that may be made, and this is its name
 unfoldable pub admitted : List ℕ → List ℕ → List ℕ → Result Name Errno

@@ -1,22 +1,13 @@
 -- UPDATE, SETPERM, CHOWN, SET_TIMEOUT and REVOKE: a change of one key. keyctl(2).
-use Rattle.std.specs.Prelude.{ℕ, ℤ, ◌+◌, ◌==◌, ◌&&◌, ◌||◌, List, [], true, false, Bool, min, if◌then◌else◌, Option}
-use Rattle.std.specs.Prelude.{None, Some, Result, Ok, Err}
-use Rattle.krs_types.specs.declared.errno.Errno.{Errno}
-use Rattle.krs_types.specs.declared.errno.Errno.TheVariants.{EACCES, EOPNOTSUPP}
-use Rattle.krs_types.specs.declared.kind.Kind.{Kind}
-use Rattle.krs_types.specs.declared.kind.Kind.TheVariants.{User, Logon, Keyring}
-use Rattle.krs_types.specs.declared.caller.Caller.{Caller}
-use Rattle.krs_types.specs.declared.ask.Answer.TheVariants.{Nothing}
-use Rattle.krs_types.specs.declared.rights.Want.TheVariants.{Granted, Either}
-use Rattle.krs_types.specs.Rights.{WRITE, SETATTR}
-use Rattle.krs_types.specs.Caller.{is_of_group, unchanged}
-use Rattle.krs_types.specs.Kind.{paid}
-use Rattle.krs_types.specs.Perm.{perm_of}
-use Rattle.krs_types.specs.Refusing.{◌>>=◌}
-use Rattle.krs_model.specs.Table.{alter}
-use Rattle.krs_model.specs.State.{State, Key, Content, Payload, Links}
+use Rattle.std.specs.Prelude.{[], ◌&&◌, ◌+◌, ◌==◌, ◌||◌, Bool, Err, false, if◌then◌else◌, List, min, None, Ok, Option}
+use Rattle.std.specs.Prelude.{Result, Some, true, ℕ, ℤ}
+use Rattle.krs_types.specs.{Caller.{is_of_group, unchanged}, Kind.paid, Perm.perm_of, Refusing.◌>>=◌}
+use Rattle.krs_types.specs.{Rights.{SETATTR, WRITE}, declared.ask.Answer.TheVariants.Nothing}
+use Rattle.krs_types.specs.declared.{caller.Caller.Caller, errno.Errno.{Errno, TheVariants.{EACCES, EOPNOTSUPP}}}
+use Rattle.krs_types.specs.declared.kind.Kind.{Kind, TheVariants.{Keyring, Logon, User}}
+use Rattle.krs_types.specs.declared.rights.Want.TheVariants.{Either, Granted}
 use Rattle.krs_model.specs.Lookup.{context_of, look_up}
-use Rattle.krs_model.specs.Outcome.{Outcome}
+use Rattle.krs_model.specs.{Outcome.Outcome, State.{Content, Key, Links, Payload, State}, Table.alter}
 
 -- the key at a serial changed, and nothing else
 abbrev pub changed : State → ℕ → (Key → Key) → State

@@ -1,15 +1,9 @@
 -- THREAD, FORK and EXEC: the contexts of a process. clone(2), fork(2) and execve(2), as keyrings(7) tells of them.
-use Rattle.std.specs.Prelude.{ℕ, ◌+◌, ◌==◌, ◌||◌, not, filter, nat_lt, if◌then◌else◌, None, Result, Ok, Err}
-use Rattle.krs_types.specs.declared.errno.Errno.{Errno}
-use Rattle.krs_types.specs.declared.errno.Errno.TheVariants.{ENOSPC}
-use Rattle.krs_types.specs.declared.context.Context.{Context}
-use Rattle.krs_types.specs.declared.ask.Answer.TheVariants.{Number, Nothing}
-use Rattle.krs_types.specs.Refusing.{◌>>=◌}
-use Rattle.krs_model.specs.Table.{put, alter}
-use Rattle.krs_model.specs.State.{State}
-use Rattle.krs_model.specs.Lookup.{context_of}
+use Rattle.std.specs.Prelude.{◌+◌, ◌==◌, ◌||◌, Err, filter, if◌then◌else◌, nat_lt, None, not, Ok, Result, ℕ}
+use Rattle.krs_types.specs.{Refusing.◌>>=◌, declared.ask.Answer.TheVariants.{Nothing, Number}}
+use Rattle.krs_types.specs.declared.{context.Context.Context, errno.Errno.{Errno, TheVariants.ENOSPC}}
 use Rattle.krs_model.specs.Asks.Hello.{has_context_left, with_context}
-use Rattle.krs_model.specs.Outcome.{Outcome}
+use Rattle.krs_model.specs.{Lookup.context_of, Outcome.Outcome, State.State, Table.{alter, put}}
 
 -- a context number is left: profile, context numbers
 abbrev pub if_context_number : State → Result (Unit {0}) Errno

@@ -1,25 +1,12 @@
 -- GET_ID, SEARCH and REQUEST: keyctl(2), KEYCTL_GET_KEYRING_ID and KEYCTL_SEARCH; request_key(2).
-use Rattle.std.specs.Prelude.{ℕ, ℤ, List, Bool, true, false, if◌then◌else◌, Result, Ok, Err}
-use Rattle.krs_types.specs.declared.errno.Errno.{Errno}
-use Rattle.krs_types.specs.declared.errno.Errno.TheVariants.{ENOKEY, EACCES}
-use Rattle.krs_types.specs.declared.name.Name.{Name}
-use Rattle.krs_types.specs.declared.context.Context.{Context}
-use Rattle.krs_types.specs.declared.ask.Answer.TheVariants.{Number}
-use Rattle.krs_types.specs.declared.rights.Want.TheVariants.{Granted}
-use Rattle.krs_types.specs.Rights.{has_all, SEARCH, WRITE, LINK}
-use Rattle.krs_types.specs.Kind.{kind_named, described}
-use Rattle.krs_types.specs.Growth.{has_destination}
-use Rattle.krs_types.specs.Refusing.{◌>>=◌, or_refuse}
-use Rattle.krs_model.specs.Table.{at}
-use Rattle.krs_model.specs.State.{State, Key}
-use Rattle.krs_model.specs.Access.{rights_on}
-use Rattle.krs_model.specs.Possession.{possessed}
-use Rattle.krs_model.specs.Lookup.{context_of, look_up}
-use Rattle.krs_model.specs.Linking.{ring_links}
-use Rattle.krs_model.specs.Search.{found, requested}
-use Rattle.krs_model.specs.Making.{made_for, within_serials}
-use Rattle.krs_model.specs.Asks.Linked.{linked_into}
-use Rattle.krs_model.specs.Outcome.{Outcome}
+use Rattle.std.specs.Prelude.{Bool, Err, false, if◌then◌else◌, List, Ok, Result, true, ℕ, ℤ}
+use Rattle.krs_types.specs.{Growth.has_destination, Kind.{described, kind_named}, Refusing.{◌>>=◌, or_refuse}}
+use Rattle.krs_types.specs.{Rights.{has_all, LINK, SEARCH, WRITE}, declared.ask.Answer.TheVariants.Number}
+use Rattle.krs_types.specs.declared.{context.Context.Context, errno.Errno.{Errno, TheVariants.{EACCES, ENOKEY}}}
+use Rattle.krs_types.specs.declared.{name.Name.Name, rights.Want.TheVariants.Granted}
+use Rattle.krs_model.specs.{Access.rights_on, Asks.Linked.linked_into, Linking.ring_links, Lookup.{context_of, look_up}}
+use Rattle.krs_model.specs.{Making.{made_for, within_serials}, Outcome.Outcome, Possession.possessed}
+use Rattle.krs_model.specs.{Search.{found, requested}, State.{Key, State}, Table.at}
 
 -- the store and the context, with the keyring made that an id stands for, where that is asked
 abbrev pub made_where : Bool → State → ℕ → Context → ℤ → State × Context

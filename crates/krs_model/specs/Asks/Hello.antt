@@ -1,20 +1,10 @@
 -- HELLO: a new context of a client, and the keyrings of a uid that has none. user-keyring(7), user-session-keyring(7).
-use Rattle.std.specs.Prelude.{ℕ, ◌+◌, ◌==◌, ◌&&◌, ◌||◌, ◌++◌, ◌∷◌, List, [], false, nat_lt, nat_le, if◌then◌else◌}
-use Rattle.std.specs.Prelude.{Option, None, Some, Result, Ok, Err, codes, decimal, count_by, is_none}
-use Rattle.std.specs.Map.{values_of}
-use Rattle.krs_types.specs.declared.errno.Errno.{Errno}
-use Rattle.krs_types.specs.declared.errno.Errno.TheVariants.{EINVAL, ENOSPC}
-use Rattle.krs_types.specs.declared.kind.Kind.TheVariants.{Keyring}
-use Rattle.krs_types.specs.declared.context.Context.{Context}
-use Rattle.krs_types.specs.declared.context.UidRings.{UidRings}
-use Rattle.krs_types.specs.declared.caller.Caller.{Caller}
-use Rattle.krs_types.specs.declared.ask.Answer.TheVariants.{Number}
-use Rattle.krs_types.specs.Caller.{caller_check}
-use Rattle.krs_types.specs.Refusing.{◌>>=◌}
-use Rattle.krs_types.specs.Perm.{uid_mask}
-use Rattle.krs_model.specs.Table.{Table, at, put}
-use Rattle.krs_model.specs.State.{State, Key, Links}
-use Rattle.krs_model.specs.Outcome.{Outcome}
+use Rattle.std.specs.Prelude.{[], ◌&&◌, ◌++◌, ◌+◌, ◌==◌, ◌||◌, ◌∷◌, codes, count_by, decimal, Err, false, if◌then◌else◌}
+use Rattle.std.specs.{Prelude.{is_none, List, nat_le, nat_lt, None, Ok, Option, Result, Some, ℕ}, Map.values_of}
+use Rattle.krs_types.specs.{Caller.caller_check, Perm.uid_mask, Refusing.◌>>=◌, declared.ask.Answer.TheVariants.Number}
+use Rattle.krs_types.specs.declared.{caller.Caller.Caller, context.{Context.Context, UidRings.UidRings}}
+use Rattle.krs_types.specs.declared.{errno.Errno.{Errno, TheVariants.{EINVAL, ENOSPC}}, kind.Kind.TheVariants.Keyring}
+use Rattle.krs_model.specs.{Outcome.Outcome, State.{Key, Links, State}, Table.{at, put, Table}}
 
 -- how many contexts a client has
 abbrev pub context_count : ℕ → Table Context → ℕ

@@ -1,17 +1,10 @@
 -- INVALIDATE: a key goes out of every keyring and every attachment at once. keyctl(2), KEYCTL_INVALIDATE; profile,
 -- invalidated at once.
-use Rattle.std.specs.Prelude.{ℕ, ℤ, ◌==◌, if◌then◌else◌, Option, None, Some, Ok}
-use Rattle.krs_types.specs.declared.context.Context.{Context}
-use Rattle.krs_types.specs.declared.context.UidRings.{UidRings}
-use Rattle.krs_types.specs.declared.ask.Answer.TheVariants.{Nothing}
-use Rattle.krs_types.specs.declared.rights.Want.TheVariants.{Granted}
-use Rattle.krs_types.specs.Rights.{SEARCH}
-use Rattle.krs_types.specs.Refusing.{◌>>=◌}
-use Rattle.krs_model.specs.Table.{map_values}
-use Rattle.krs_model.specs.State.{State}
-use Rattle.krs_model.specs.Lookup.{context_of, look_up}
+use Rattle.std.specs.Prelude.{◌==◌, if◌then◌else◌, None, Ok, Option, Some, ℕ, ℤ}
+use Rattle.krs_types.specs.{Refusing.◌>>=◌, Rights.SEARCH, declared.ask.Answer.TheVariants.Nothing}
+use Rattle.krs_types.specs.declared.{context.{Context.Context, UidRings.UidRings}, rights.Want.TheVariants.Granted}
 use Rattle.krs_model.specs.Asks.Linked.{without_link}
-use Rattle.krs_model.specs.Outcome.{Outcome}
+use Rattle.krs_model.specs.{Lookup.{context_of, look_up}, Outcome.Outcome, State.State, Table.map_values}
 
 -- an attachment, where it is not of that key
 abbrev pub detached : ℕ → Option ℕ → Option ℕ

@@ -1,23 +1,13 @@
 -- JOIN: another session keyring. keyctl(2), KEYCTL_JOIN_SESSION_KEYRING; session-keyring(7).
-use Rattle.std.specs.Prelude.{ℕ, ◌==◌, ◌&&◌, ◌||◌, List, Bool, true, false, length, nat_lt, bytes_eq, find}
-use Rattle.std.specs.Prelude.{if◌then◌else◌, Option, None, Some, Result, Ok, Err, codes}
-use Rattle.std.specs.List.{list_any}
-use Rattle.krs_types.specs.declared.errno.Errno.{Errno}
-use Rattle.krs_types.specs.declared.errno.Errno.TheVariants.{EINVAL, EPERM}
-use Rattle.krs_types.specs.declared.kind.Kind.TheVariants.{Keyring}
-use Rattle.krs_types.specs.declared.context.Context.{Context}
-use Rattle.krs_types.specs.declared.caller.Caller.{Caller}
-use Rattle.krs_types.specs.declared.ask.Answer.TheVariants.{Number}
+use Rattle.std.specs.Prelude.{◌&&◌, ◌==◌, ◌||◌, Bool, bytes_eq, codes, Err, false, find, if◌then◌else◌, length, List}
+use Rattle.std.specs.{Prelude.{nat_lt, None, Ok, Option, Result, Some, true, ℕ}, List.list_any}
 use Rattle.krs_types.specs.Kind.{begins_with, same_kind}
-use Rattle.krs_types.specs.Rights.{has_all, SEARCH}
-use Rattle.krs_types.specs.Refusing.{◌>>=◌}
-use Rattle.krs_types.specs.Perm.{named_session_mask, session_mask}
-use Rattle.krs_model.specs.Table.{alter}
-use Rattle.krs_model.specs.State.{State, Key}
+use Rattle.krs_types.specs.{Perm.{named_session_mask, session_mask}, Refusing.◌>>=◌, Rights.{has_all, SEARCH}}
+use Rattle.krs_types.specs.declared.{ask.Answer.TheVariants.Number, caller.Caller.Caller, context.Context.Context}
+use Rattle.krs_types.specs.declared.{errno.Errno.{Errno, TheVariants.{EINVAL, EPERM}}, kind.Kind.TheVariants.Keyring}
 use Rattle.krs_model.specs.Access.{is_alive, rights_on}
-use Rattle.krs_model.specs.Lookup.{context_of}
-use Rattle.krs_model.specs.Making.{own_ring, with_new, within_serials}
-use Rattle.krs_model.specs.Outcome.{Outcome}
+use Rattle.krs_model.specs.{Lookup.context_of, Making.{own_ring, with_new, within_serials}, Outcome.Outcome}
+use Rattle.krs_model.specs.{State.{Key, State}, Table.alter}
 
 -- none, or a description that a keyring may have: keyctl(2), KEYCTL_JOIN_SESSION_KEYRING; profile, limits
 abbrev pub session_named : List ℕ → Result (Unit {0}) Errno

@@ -1,17 +1,9 @@
 -- EXIT: the end of a context: thread-keyring(7), process-keyring(7), user-keyring(7). LEAVE: the end of all that a
 -- client has, which is always accepted and is this project's own: profile, leaving.
-use Rattle.std.specs.Prelude.{ℕ, ◌==◌, Bool, not, filter, if◌then◌else◌, Ok}
-use Rattle.std.specs.List.{list_any}
-use Rattle.std.specs.Map.{values_of}
-use Rattle.krs_types.specs.declared.context.Context.{Context}
-use Rattle.krs_types.specs.declared.ask.Answer.TheVariants.{Nothing}
-use Rattle.krs_types.specs.Refusing.{◌>>=◌}
-use Rattle.krs_model.specs.Table.{Table, without}
-use Rattle.krs_model.specs.State.{State}
-use Rattle.krs_model.specs.Queues.{queues_of, with_queues}
-use Rattle.krs_model.specs.Lookup.{context_of}
-use Rattle.krs_model.specs.Asks.Watching.{without_client}
-use Rattle.krs_model.specs.Outcome.{Outcome}
+use Rattle.std.specs.{Prelude.{◌==◌, Bool, filter, if◌then◌else◌, not, Ok, ℕ}, List.list_any, Map.values_of}
+use Rattle.krs_types.specs.{Refusing.◌>>=◌, declared.{ask.Answer.TheVariants.Nothing, context.Context.Context}}
+use Rattle.krs_model.specs.{Asks.Watching.without_client, Lookup.context_of, Outcome.Outcome}
+use Rattle.krs_model.specs.{Queues.{queues_of, with_queues}, State.State, Table.{Table, without}}
 
 -- the contexts of the other clients
 abbrev pub contexts_without : ℕ → Table Context → Table Context

@@ -1,22 +1,13 @@
 -- LINK, UNLINK and CLEAR: what a keyring links. keyctl(2).
-use Rattle.std.specs.Prelude.{ℕ, ℤ, ◌==◌, not, Bool, List, [], filter, if◌then◌else◌, Result, Ok, Err}
-use Rattle.krs_types.specs.declared.errno.Errno.{Errno}
-use Rattle.krs_types.specs.declared.errno.Errno.TheVariants.{EPERM, ENOKEY, ENOENT, EDEADLK, ELOOP}
-use Rattle.krs_types.specs.declared.name.Name.{Name}
-use Rattle.krs_types.specs.declared.context.Context.{Context}
-use Rattle.krs_types.specs.declared.ask.Answer.TheVariants.{Nothing}
-use Rattle.krs_types.specs.declared.rights.Want.TheVariants.{Granted}
-use Rattle.krs_types.specs.Rights.{WRITE, LINK}
+use Rattle.std.specs.Prelude.{[], ◌==◌, Bool, Err, filter, if◌then◌else◌, List, not, Ok, Result, ℕ, ℤ}
 use Rattle.krs_types.specs.Refusing.{◌>>=◌, or_refuse}
-use Rattle.krs_model.specs.Table.{Table, at}
-use Rattle.krs_model.specs.State.{State, Key, Content, Payload, Links}
-use Rattle.krs_model.specs.Levels.{is_in}
-use Rattle.krs_model.specs.Lookup.{context_of, serial_of, look_up}
-use Rattle.krs_model.specs.Linking.{ring_links, link_named, linking, has_room}
+use Rattle.krs_types.specs.{Rights.{LINK, WRITE}, declared.{ask.Answer.TheVariants.Nothing, context.Context.Context}}
+use Rattle.krs_types.specs.declared.errno.Errno.{Errno, TheVariants.{EDEADLK, ELOOP, ENOENT, ENOKEY, EPERM}}
+use Rattle.krs_types.specs.declared.{name.Name.Name, rights.Want.TheVariants.Granted}
+use Rattle.krs_model.specs.{Asks.Changing.changed, Levels.is_in, Linking.{has_room, link_named, linking, ring_links}}
+use Rattle.krs_model.specs.{Lookup.{context_of, look_up, serial_of}, Making.{made_for, within_serials}, Outcome.Outcome}
 use Rattle.krs_model.specs.Reach.{closes, has_chain, nesting_depth}
-use Rattle.krs_model.specs.Making.{made_for, within_serials}
-use Rattle.krs_model.specs.Asks.Changing.{changed}
-use Rattle.krs_model.specs.Outcome.{Outcome}
+use Rattle.krs_model.specs.{State.{Content, Key, Links, Payload, State}, Table.{at, Table}}
 
 -- the name of a key: its type and its description
 abbrev pub name_of : Key → Name

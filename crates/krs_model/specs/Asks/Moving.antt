@@ -1,19 +1,11 @@
 -- MOVE: a link out of one keyring and into another, in one step. keyctl(2), KEYCTL_MOVE; keyctl_move(3).
-use Rattle.std.specs.Prelude.{ℕ, ℤ, ◌==◌, ◌&&◌, Bool, List, nat_lt, is_some, if◌then◌else◌, Result, Ok}
-use Rattle.krs_types.specs.declared.errno.Errno.{Errno}
-use Rattle.krs_types.specs.declared.errno.Errno.TheVariants.{EINVAL, EEXIST}
-use Rattle.krs_types.specs.declared.context.Context.{Context}
-use Rattle.krs_types.specs.declared.ask.Answer.TheVariants.{Nothing}
-use Rattle.krs_types.specs.declared.rights.Want.TheVariants.{Granted}
-use Rattle.krs_types.specs.Rights.{WRITE, LINK}
+use Rattle.std.specs.Prelude.{◌&&◌, ◌==◌, Bool, if◌then◌else◌, is_some, List, nat_lt, Ok, Result, ℕ, ℤ}
 use Rattle.krs_types.specs.Refusing.{◌>>=◌}
-use Rattle.krs_model.specs.State.{State, Key}
-use Rattle.krs_model.specs.Lookup.{context_of, look_up}
-use Rattle.krs_model.specs.Linking.{ring_links, link_named}
-use Rattle.krs_model.specs.Making.{made_for, within_serials}
-use Rattle.krs_model.specs.Asks.Changing.{changed}
-use Rattle.krs_model.specs.Asks.Linked.{unless, name_of, if_linked, linked_into, without_link}
-use Rattle.krs_model.specs.Outcome.{Outcome}
+use Rattle.krs_types.specs.{Rights.{LINK, WRITE}, declared.{ask.Answer.TheVariants.Nothing, context.Context.Context}}
+use Rattle.krs_types.specs.declared.{errno.Errno.{Errno, TheVariants.{EEXIST, EINVAL}}, rights.Want.TheVariants.Granted}
+use Rattle.krs_model.specs.Asks.{Changing.changed, Linked.{if_linked, linked_into, name_of, unless, without_link}}
+use Rattle.krs_model.specs.{Linking.{link_named, ring_links}, Lookup.{context_of, look_up}}
+use Rattle.krs_model.specs.{Making.{made_for, within_serials}, Outcome.Outcome, State.{Key, State}}
 
 -- From one keyring into another, which links the key as LINK does: its own link of equal type and description is
 -- displaced, or refused with EEXIST where the move is exclusive: KEYCTL_MOVE, "EEXIST"; uapi linux/keyctl.h,

@@ -1,20 +1,11 @@
 -- READ and DESCRIBE: keyctl(2), KEYCTL_READ and KEYCTL_DESCRIBE.
-use Rattle.std.specs.Prelude.{ℕ, ℤ, ◌+◌, ◌/◌, ◌%◌, nat_lt, if◌then◌else◌, List, [], ◌∷◌, ◌++◌, Result, Ok, Err}
-use Rattle.std.specs.Prelude.{decimal}
-use Rattle.std.specs.Prelude.{flat_map}
-use Rattle.std.specs.Int.{w32, to_le_bytes}
-use Rattle.krs_types.specs.declared.errno.Errno.{Errno}
-use Rattle.krs_types.specs.declared.errno.Errno.TheVariants.{EOPNOTSUPP}
-use Rattle.krs_types.specs.declared.kind.Kind.{Kind}
-use Rattle.krs_types.specs.declared.kind.Kind.TheVariants.{User, Logon, Keyring}
-use Rattle.krs_types.specs.declared.ask.Answer.TheVariants.{Bytes}
+use Rattle.std.specs.Prelude.{[], ◌%◌, ◌++◌, ◌+◌, ◌/◌, ◌∷◌, decimal, Err, flat_map, if◌then◌else◌, List, nat_lt, Ok}
+use Rattle.std.specs.{Prelude.{Result, ℕ, ℤ}, Int.{to_le_bytes, w32}}
+use Rattle.krs_types.specs.{Kind.kind_name, Refusing.◌>>=◌, Rights.VIEW, declared.ask.Answer.TheVariants.Bytes}
+use Rattle.krs_types.specs.declared.errno.Errno.{Errno, TheVariants.EOPNOTSUPP}
+use Rattle.krs_types.specs.declared.kind.Kind.{Kind, TheVariants.{Keyring, Logon, User}}
 use Rattle.krs_types.specs.declared.rights.Want.TheVariants.{Granted, ToRead}
-use Rattle.krs_types.specs.Rights.{VIEW}
-use Rattle.krs_types.specs.Kind.{kind_name}
-use Rattle.krs_types.specs.Refusing.{◌>>=◌}
-use Rattle.krs_model.specs.State.{State, Key, Content, Payload, Links}
-use Rattle.krs_model.specs.Lookup.{context_of, look_up}
-use Rattle.krs_model.specs.Outcome.{Outcome}
+use Rattle.krs_model.specs.{Lookup.{context_of, look_up}, Outcome.Outcome, State.{Content, Key, Links, Payload, State}}
 
 -- 4 bytes each, the lowest first: profile, reading a keyring
 abbrev pub serial_bytes : List ℕ → List ℕ

@@ -1,17 +1,9 @@
 -- RESTRICT_KEYRING without a type: a keyring is closed. keyctl(2), KEYCTL_RESTRICT_KEYRING.
-use Rattle.std.specs.Prelude.{ℕ, ℤ, List, [], ◌∷◌, true, Result, Ok, Err}
-use Rattle.krs_types.specs.declared.errno.Errno.{Errno}
-use Rattle.krs_types.specs.declared.errno.Errno.TheVariants.{EINVAL, EEXIST}
-use Rattle.krs_types.specs.declared.ask.Answer.TheVariants.{Nothing}
-use Rattle.krs_types.specs.declared.rights.Want.TheVariants.{Granted}
-use Rattle.krs_types.specs.Rights.{SETATTR}
-use Rattle.krs_types.specs.Refusing.{◌>>=◌}
-use Rattle.krs_model.specs.State.{State, Key}
-use Rattle.krs_model.specs.Lookup.{context_of, look_up}
-use Rattle.krs_model.specs.Linking.{ring_links}
-use Rattle.krs_model.specs.Asks.Changing.{changed}
-use Rattle.krs_model.specs.Asks.Linked.{unless}
-use Rattle.krs_model.specs.Outcome.{Outcome}
+use Rattle.std.specs.Prelude.{[], ◌∷◌, Err, List, Ok, Result, true, ℕ, ℤ}
+use Rattle.krs_types.specs.{Refusing.◌>>=◌, Rights.SETATTR, declared.ask.Answer.TheVariants.Nothing}
+use Rattle.krs_types.specs.declared.{errno.Errno.{Errno, TheVariants.{EEXIST, EINVAL}}, rights.Want.TheVariants.Granted}
+use Rattle.krs_model.specs.Asks.{Changing.changed, Linked.unless}
+use Rattle.krs_model.specs.{Linking.ring_links, Lookup.{context_of, look_up}, Outcome.Outcome, State.{Key, State}}
 
 -- no type restricts links here: profile, closed keyrings
 abbrev pub no_type : List ℕ → Result (Unit {0}) Errno

@@ -1,26 +1,16 @@
 -- OPEN_QUEUE, SET_FILTER, READ_QUEUE, CLOSE_QUEUE and WATCH: core-api/watch_queue.rst;
 -- uapi linux/keyctl.h, KEYCTL_WATCH_KEY; Documentation/security/keys/core.rst.
-use Rattle.std.specs.Prelude.{ℕ, ℤ, pos, negsuc, zero, suc, ◌+◌, ◌==◌, not, List, [], length, filter, nat_le, nat_lt}
-use Rattle.std.specs.Prelude.{is_some, if◌then◌else◌, Option, None, Some, Result, Ok, Err}
-use Rattle.std.specs.List.{list_any}
-use Rattle.krs_types.specs.declared.errno.Errno.{Errno}
-use Rattle.krs_types.specs.declared.errno.Errno.TheVariants.{EINVAL, ENFILE, ENOSPC, EBUSY, EBADSLT}
-use Rattle.krs_types.specs.declared.note.FilterEntry.{FilterEntry}
-use Rattle.krs_types.specs.declared.ask.Answer.TheVariants.{Nothing, Number, Bytes}
-use Rattle.krs_types.specs.declared.rights.Want.TheVariants.{Granted}
-use Rattle.krs_types.specs.Rights.{VIEW}
+use Rattle.std.specs.Prelude.{[], ◌+◌, ◌==◌, Err, filter, if◌then◌else◌, is_some, length, List, nat_le, nat_lt, negsuc}
+use Rattle.std.specs.{Prelude.{None, not, Ok, Option, pos, Result, Some, suc, zero, ℕ, ℤ}, List.list_any}
 use Rattle.krs_types.specs.Refusing.{◌>>=◌, or_refuse}
-use Rattle.krs_model.specs.Table.{Table, alter, put, without}
-use Rattle.krs_model.specs.State.{State, Queue}
-use Rattle.krs_model.specs.Queues.{Queues, Watch, queues_of, with_queues, queue_of, queues_without, watch_at}
-use Rattle.krs_model.specs.Queues.{with_watch, without_watch}
-use Rattle.krs_model.specs.Notes.Bytes.{bytes_of_all}
-use Rattle.krs_model.specs.Notes.Filter.{filter_of}
-use Rattle.krs_model.specs.Notes.Waiting.{is_capacity}
-use Rattle.krs_model.specs.Notes.Front.{behind, readable}
-use Rattle.krs_model.specs.Lookup.{context_of, look_up}
-use Rattle.krs_model.specs.Asks.Linked.{unless}
-use Rattle.krs_model.specs.Outcome.{Outcome}
+use Rattle.krs_types.specs.{Rights.VIEW, declared.ask.Answer.TheVariants.{Bytes, Nothing, Number}}
+use Rattle.krs_types.specs.declared.errno.Errno.{Errno, TheVariants.{EBADSLT, EBUSY, EINVAL, ENFILE, ENOSPC}}
+use Rattle.krs_types.specs.declared.{note.FilterEntry.FilterEntry, rights.Want.TheVariants.Granted}
+use Rattle.krs_model.specs.{Asks.Linked.unless, Lookup.{context_of, look_up}, Notes.Bytes.bytes_of_all}
+use Rattle.krs_model.specs.Notes.{Filter.filter_of, Front.{behind, readable}, Waiting.is_capacity}
+use Rattle.krs_model.specs.{Outcome.Outcome, Queues.{queue_of, Queues, queues_of, queues_without, Watch, watch_at}}
+use Rattle.krs_model.specs.Queues.{with_queues, with_watch, without_watch}
+use Rattle.krs_model.specs.{State.{Queue, State}, Table.{alter, put, Table, without}}
 
 -- what an ask makes of the queues and watches, and what it gives; or the refusal that comes first
 abbrev pub Change : Type 0 → Type 0

@@ -1,12 +1,10 @@
 -- The bytes of a record of a watch queue, all words little-endian: uapi linux/watch_queue.h, struct
 -- watch_notification, struct watch_notification_removal and struct key_notification.
-use Rattle.std.specs.Prelude.{ℕ, ◌+◌, ◌*◌, ◌^◌, ◌<◌, Bool, true, false, List, [], ◌∷◌, ◌++◌}
-use Rattle.std.specs.Int.{w32, w64, to_le_bytes}
-use Rattle.krs_types.specs.declared.note.Record.{Record}
-use Rattle.krs_types.specs.declared.note.Record.TheVariants.{Key, Removal, Loss}
-use Rattle.krs_types.specs.declared.note.KeyEvent.{KeyEvent}
-use Rattle.krs_types.specs.declared.note.KeyEvent.TheVariants.{Instantiated, Updated, Linked, Unlinked, Cleared}
-use Rattle.krs_types.specs.declared.note.KeyEvent.TheVariants.{Revoked, Invalidated, Setattr}
+use Rattle.std.specs.Prelude.{[], ◌*◌, ◌++◌, ◌+◌, ◌<◌, ◌^◌, ◌∷◌, Bool, false, List, true, ℕ}
+use Rattle.std.specs.Int.{to_le_bytes, w32, w64}
+use Rattle.krs_types.specs.declared.note.KeyEvent.{KeyEvent, TheVariants.{Cleared, Instantiated, Invalidated, Linked}}
+use Rattle.krs_types.specs.declared.note.KeyEvent.TheVariants.{Revoked, Setattr, Unlinked, Updated}
+use Rattle.krs_types.specs.declared.note.Record.{Record, TheVariants.{Key, Loss, Removal}}
 
 -- the record that tells of dropped ones
 abbrev pub is_loss : Record → Bool

@@ -1,16 +1,11 @@
 -- Which records the filter of a watch queue lets pass: core-api/watch_queue.rst, "Event Filtering"; uapi
 -- linux/watch_queue.h, struct watch_notification_filter.
-use Rattle.std.specs.Prelude.{ℕ, ◌/◌, ◌%◌, ◌^◌, ◌==◌, ◌&&◌, Bool, true, List, length, slice_index, nat_le}
-use Rattle.std.specs.Prelude.{if◌then◌else◌, Option, None, Some, Result, Ok, Err}
-use Rattle.std.specs.List.{list_all, list_any}
-use Rattle.std.specs.Int.{w32, bit_not}
-use Rattle.std.specs.Int.RustNames.{bit_and}
-use Rattle.krs_types.specs.declared.errno.Errno.{Errno}
-use Rattle.krs_types.specs.declared.errno.Errno.TheVariants.{EINVAL}
-use Rattle.krs_types.specs.declared.note.FilterEntry.{FilterEntry}
-use Rattle.krs_types.specs.declared.note.Record.{Record}
-use Rattle.krs_types.specs.declared.note.Record.TheVariants.{Key, Removal, Loss}
-use Rattle.krs_model.specs.Notes.Bytes.{type_of, subtype_of, info_of}
+use Rattle.std.specs.Prelude.{◌%◌, ◌&&◌, ◌/◌, ◌==◌, ◌^◌, bit_and, Bool, Err, if◌then◌else◌, length, List, nat_le, None}
+use Rattle.std.specs.Prelude.{Ok, Option, Result, slice_index, Some, true, ℕ}
+use Rattle.std.specs.{Int.{bit_not, w32}, List.{list_all, list_any}}
+use Rattle.krs_types.specs.declared.errno.Errno.{Errno, TheVariants.EINVAL}
+use Rattle.krs_types.specs.declared.note.{FilterEntry.FilterEntry, Record.{Record, TheVariants.{Key, Loss, Removal}}}
+use Rattle.krs_model.specs.Notes.Bytes.{info_of, subtype_of, type_of}
 
 -- it asks for no bit of info outside its mask, and the mask has none of the length's bits, WATCH_INFO_LENGTH
 abbrev pub is_good_entry : FilterEntry → Bool

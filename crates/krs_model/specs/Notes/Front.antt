@@ -1,9 +1,7 @@
 -- What a reader gets of a waiting list: the longest front whose bytes fit its room. core-api/watch_queue.rst, "Watch
 -- Queue (Notification Output) API"; whole records alone: profile, whole records.
-use Rattle.std.specs.Prelude.{◌≡◌, ℕ, ◌-◌, ◌≤◌, ◌++◌, List, [], ◌∷◌, length, nat_le, Result, Ok, Err, if◌then◌else◌}
-use Rattle.krs_types.specs.declared.errno.Errno.{Errno}
-use Rattle.krs_types.specs.declared.errno.Errno.TheVariants.{EAGAIN, ENOBUFS}
-use Rattle.krs_types.specs.declared.note.Record.{Record}
+use Rattle.std.specs.Prelude.{[], ◌++◌, ◌-◌, ◌∷◌, ◌≡◌, ◌≤◌, Err, if◌then◌else◌, length, List, nat_le, Ok, Result, ℕ}
+use Rattle.krs_types.specs.declared.{errno.Errno.{Errno, TheVariants.{EAGAIN, ENOBUFS}}, note.Record.Record}
 use Rattle.krs_model.specs.Notes.Bytes.{bytes_of, bytes_of_all}
 
 -- the longest front whose bytes fit the room, `IsLongestFront`, by the law a_read_takes_the_longest_front

@@ -1,17 +1,11 @@
 -- What an accepted ask posts, and where it goes: core-api/watch_queue.rst, "Watch Subscription API" and "Notification
 -- Posting API"; uapi linux/keyctl.h, KEYCTL_WATCH_KEY; Documentation/security/keys/core.rst.
-use Rattle.std.specs.Prelude.{ℕ, ◌==◌, ◌++◌, List, [], ◌∷◌, Bool, false, Option, None, Some, map, filter, flat_map}
-use Rattle.std.specs.Prelude.{is_some, not}
-use Rattle.std.specs.Option.{option_to_list}
-use Rattle.krs_types.specs.declared.note.Record.{Record}
-use Rattle.krs_types.specs.declared.note.Record.TheVariants.{Key, Removal}
-use Rattle.krs_types.specs.declared.note.KeyEvent.{KeyEvent}
-use Rattle.krs_model.specs.Table.{Table, at, alter}
+use Rattle.std.specs.Prelude.{[], ◌++◌, ◌==◌, ◌∷◌, Bool, false, filter, flat_map, is_some, List, map, None, not, Option}
+use Rattle.std.specs.Prelude.{option_to_list, Some, ℕ}
+use Rattle.krs_types.specs.declared.note.{KeyEvent.KeyEvent, Record.{Record, TheVariants.{Key, Removal}}}
+use Rattle.krs_model.specs.Notes.{Filter.passes_if_any, Waiting.after_post}
+use Rattle.krs_model.specs.{Queues.{Queues, Watch, watch_at}, State.{Queue, State}, Table.{alter, at, Table}}
 use Rattle.krs_model.specs.State as state
-use Rattle.krs_model.specs.State.{State, Queue}
-use Rattle.krs_model.specs.Queues.{Queues, Watch, watch_at}
-use Rattle.krs_model.specs.Notes.Filter.{passes_if_any}
-use Rattle.krs_model.specs.Notes.Waiting.{after_post}
 
 -- what happened to a key, and the other key of a link, else 0: uapi linux/watch_queue.h, struct key_notification
 pub record Note : Type 0 where

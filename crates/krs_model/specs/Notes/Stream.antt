@@ -1,8 +1,7 @@
 -- What a bounded queue gives to its reader, said over all that came for it and all that was taken of it:
 -- core-api/watch_queue.rst, "Watch Queue (Notification Output) API". It knows of nothing that waits.
-use Rattle.std.specs.Prelude.{ℕ, ◌+◌, ◌-◌, Bool, false, not, List, [], ◌∷◌, ◌++◌, nat_lt, if◌then◌else◌}
-use Rattle.krs_types.specs.declared.note.Record.{Record}
-use Rattle.krs_types.specs.declared.note.Record.TheVariants.{Loss}
+use Rattle.std.specs.Prelude.{[], ◌++◌, ◌+◌, ◌-◌, ◌∷◌, Bool, false, if◌then◌else◌, List, nat_lt, not, ℕ}
+use Rattle.krs_types.specs.declared.note.Record.{Record, TheVariants.Loss}
 use Rattle.krs_model.specs.Notes.Bytes.{is_loss}
 
 -- a record came for the queue, or its reader took one

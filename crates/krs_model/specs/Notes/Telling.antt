@@ -1,24 +1,16 @@
 -- What each accepted ask tells of, and which watch it ends: uapi linux/watch_queue.h, enum key_notification_subtype;
 -- their order: profile, order of notes; what is not told: profile, quiet unlinks.
-use Rattle.std.specs.Prelude.{ℕ, ℤ, ◌==◌, List, [], ◌∷◌, ◌++◌, Bool, true, false, is_some, if◌then◌else◌, Option, None, Some}
-use Rattle.std.specs.Prelude.{Result, Ok, Err}
-use Rattle.krs_types.specs.declared.errno.Errno.{Errno}
-use Rattle.krs_types.specs.declared.ask.Answer.{Answer}
-use Rattle.krs_types.specs.declared.ask.Answer.TheVariants.{Nothing, Number, Bytes}
-use Rattle.krs_types.specs.declared.ask.Op.{Op}
-use Rattle.krs_types.specs.declared.ask.Op.TheVariants.{Search, Request, Add, Update, Revoke, Invalidate, Chown, SetPerm}
-use Rattle.krs_types.specs.declared.ask.Op.TheVariants.{SetTimeout, Link, Unlink, Move, Clear, Watch}
-use Rattle.krs_types.specs.declared.note.KeyEvent.{KeyEvent}
-use Rattle.krs_types.specs.declared.note.KeyEvent.TheVariants.{Updated, Linked, Unlinked, Cleared, Revoked}
-use Rattle.krs_types.specs.declared.note.KeyEvent.TheVariants.{Invalidated, Setattr}
-use Rattle.krs_types.specs.Refusing.{◌>>=◌}
-use Rattle.krs_model.specs.Table.{Table, at}
-use Rattle.krs_model.specs.State.{State, Key}
-use Rattle.krs_model.specs.Queues as queues
-use Rattle.krs_model.specs.Lookup.{context_of, serial_of}
+use Rattle.std.specs.Prelude.{[], ◌++◌, ◌==◌, ◌∷◌, Bool, Err, false, if◌then◌else◌, is_some, List, None, Ok, Option}
+use Rattle.std.specs.Prelude.{Result, Some, true, ℕ, ℤ}
 use Rattle.krs_types.specs.Growth.{has_destination}
-use Rattle.krs_model.specs.Asks.Watching.{watch_id_of}
-use Rattle.krs_model.specs.Notes.Posting.{Note, watch_there}
+use Rattle.krs_types.specs.{Refusing.◌>>=◌, declared.ask.Answer.{Answer, TheVariants.{Bytes, Nothing, Number}}}
+use Rattle.krs_types.specs.declared.ask.Op.{Op, TheVariants.{Add, Chown, Clear, Invalidate, Link, Move, Request}}
+use Rattle.krs_types.specs.declared.ask.Op.TheVariants.{Revoke, Search, SetPerm, SetTimeout, Unlink, Update, Watch}
+use Rattle.krs_types.specs.declared.{errno.Errno.Errno, note.KeyEvent.{KeyEvent, TheVariants.Cleared}}
+use Rattle.krs_types.specs.declared.note.KeyEvent.TheVariants.{Invalidated, Linked, Revoked, Setattr, Unlinked, Updated}
+use Rattle.krs_model.specs.{Asks.Watching.watch_id_of, Lookup.{context_of, serial_of}}
+use Rattle.krs_model.specs.{Notes.Posting.{Note, watch_there}, State.{Key, State}, Table.{at, Table}}
+use Rattle.krs_model.specs.Queues as queues
 
 -- the serial that an id stands for in a context; a keyring that the ask makes has none yet, and nothing watches it
 abbrev pub named : State → ℕ → ℕ → ℤ → Result ℕ Errno

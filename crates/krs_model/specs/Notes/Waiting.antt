@@ -1,9 +1,7 @@
 -- The waiting list of a watch queue: core-api/watch_queue.rst, "Watch Queue (Notification Output) API".
-use Rattle.std.specs.Prelude.{◌≡◌, ℕ, ◌+◌, ◌&&◌, Bool, false, List, [], ◌∷◌, ◌++◌, nat_le, nat_lt, if◌then◌else◌}
-use Rattle.krs_types.specs.declared.note.Record.{Record}
-use Rattle.krs_types.specs.declared.note.Record.TheVariants.{Loss}
-use Rattle.krs_model.specs.Notes.Bytes.{is_loss}
-use Rattle.krs_model.specs.Notes.Stream.{Move, Posted, Took, room_of}
+use Rattle.std.specs.Prelude.{[], ◌&&◌, ◌++◌, ◌+◌, ◌∷◌, ◌≡◌, Bool, false, if◌then◌else◌, List, nat_le, nat_lt, ℕ}
+use Rattle.krs_types.specs.declared.note.Record.{Record, TheVariants.Loss}
+use Rattle.krs_model.specs.Notes.{Bytes.is_loss, Stream.{Move, Posted, room_of, Took}}
 
 -- how many records a queue may hold: profile, exact rings
 abbrev pub greatest_capacity : ℕ

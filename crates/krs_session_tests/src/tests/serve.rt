@@ -1,6 +1,6 @@
 //! Many sessions at once over memory. The daemon and its clients are tried by `tests/service`, on the built programs.
 ghost use Rattle.std.specs.Prelude.{◌≡◌, All, IfOk};
-ghost use Rattle.krs_session.specs.Over.{over_reads, over_empties, over_failures};
+ghost use Rattle.krs_session.specs.Over.{over_empties, over_failures, over_reads};
 
 use krs_desk::Desk;
 use krs_serve::{Entry, run_sessions};

@@ -1,4 +1,4 @@
-use Rattle.std.proofs.Common.{sym, subst}
+use Rattle.std.proofs.Common.{subst, sym}
 use Rattle.krs_admission.specs.Law.{IsLawful}
 use Rattle.krs_admission.proofs.Lawful.{lawful}
 use Rattle.krs_admission.proofs.admitting.admit.Goals as goal

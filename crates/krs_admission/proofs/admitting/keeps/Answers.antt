@@ -1,4 +1,4 @@
-use Rattle.std.proofs.Common.{sym, ◌∙◌}
+use Rattle.std.proofs.Common.{◌∙◌, sym}
 use Rattle.krs_admission.proofs.Lawful.{entered}
 use Rattle.krs_admission.proofs.admitting.keeps.Goals as goal
 

@@ -1,4 +1,4 @@
-use Rattle.std.proofs.Common.{sym, ◌∙◌}
+use Rattle.std.proofs.Common.{◌∙◌, sym}
 use Rattle.krs_admission.proofs.Lawful.{known_again}
 use Rattle.krs_admission.proofs.admitting.knows_again.Goals as goal
 

@@ -1,4 +1,4 @@
-use Rattle.std.proofs.Common.{sym, ◌∙◌}
+use Rattle.std.proofs.Common.{◌∙◌, sym}
 use Rattle.krs_admission.proofs.Lawful.{given}
 use Rattle.krs_admission.proofs.giving.may_be_given.Goals as goal
 

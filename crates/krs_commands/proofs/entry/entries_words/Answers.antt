@@ -1,7 +1,6 @@
-use Rattle.std.proofs.Common.{sym}
-use Rattle.std.proofs.lemmas.List.{take_all}
+use Rattle.std.proofs.Common.{sym, take_all}
+use Rattle.krs_words.proofs.EachLemmas.{all_more, each-refused, each-some, said_more}
 use Rattle.krs_commands.specs.Entry.{entry_of}
-use Rattle.krs_words.proofs.EachLemmas.{all_more, said_more, each-some, each-refused}
 use Rattle.krs_commands.proofs.entry.entries_words.Goals as goal
 
 pub loop-word-preserved : goal.loop-word-preserved

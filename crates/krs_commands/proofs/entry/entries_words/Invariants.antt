@@ -1,6 +1,5 @@
-use Rattle.std.proofs.Common.{◌≡◌, true, take}
-use Rattle.std.specs.List.{list_all, filter_map}
-use Rattle.std.specs.Option.{is_some}
+use Rattle.std.proofs.Common.{◌≡◌, filter_map, is_some, take, true}
+use Rattle.std.specs.List.{list_all}
 use Rattle.krs_commands.specs.Entry.{entry_of}
 use Rattle.krs_commands.proofs.entry.entries_words.Given as goal
 

@@ -1,5 +1,4 @@
-use Rattle.std.proofs.Common.{arith}
-use Rattle.std.proofs.lemmas.Grind.{common_steps}
+use Rattle.std.proofs.{Common.arith, lemmas.Grind.common_steps}
 use Rattle.krs_commands.proofs.keyrings.move_link.Goals as goal
 
 pub returns-in_err-key : goal.returns-in_err-key

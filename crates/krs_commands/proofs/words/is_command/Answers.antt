@@ -1,8 +1,7 @@
-use Rattle.std.proofs.Common.{◌≡◌, ◌||◌, ℕ, List, [], ◌∷◌, true, false, cond, Some, refl}
+use Rattle.std.proofs.Common.{[], ◌||◌, ◌∷◌, ◌≡◌, bytes_eq, cond, false, is_some, List, refl, Some, true, ℕ}
 use Rattle.std.specs.List.{list_any}
-use Rattle.std.specs.Prelude.{bytes_eq}
-use Rattle.std.specs.Option.{is_some}
-use Rattle.krs_commands.specs.Command.{Row, row_in, commands, context_commands, key_commands, change_commands, link_commands, queue_commands}
+use Rattle.krs_commands.specs.Command.{change_commands, commands, context_commands, key_commands, link_commands}
+use Rattle.krs_commands.specs.Command.{queue_commands, Row, row_in}
 use Rattle.krs_commands.proofs.words.is_command.Goals as goal
 
 -- there is a row of a word where the word is one of them

@@ -1,16 +1,12 @@
-use Rattle.std.proofs.Common.{◌≡◌, ◌==◌, ◌&&◌, ◌∙◌, ℕ, not, filter, Ok, ap, sym, subst}
-use Rattle.std.specs.Option.{option_to_list}
+use Rattle.std.proofs.Common.{◌&&◌, ◌==◌, ◌∙◌, ◌≡◌, ap, filter, not, Ok, option_to_list, subst, sym, ℕ}
 use Rattle.krs_types.specs.declared.context.Context.{Context}
-use Rattle.krs_model.specs.Table.{Table}
-use Rattle.krs_model.specs.State.{State}
 use Rattle.krs_model.specs.Lookup.{context_of}
-use Rattle.krs_model.specs.Possession.{process_ring}
-use Rattle.krs_model.specs.Sweep.{roots, context_roots}
-use Rattle.krs_keys.specs.Keys.{shown}
-use Rattle.krs_hold.specs.Tally.{AreExact, all_less}
+use Rattle.krs_model.specs.{Possession.process_ring, State.State, Sweep.{context_roots, roots}, Table.Table}
 use Rattle.krs_ctx.specs.Anchors.{anchored}
+use Rattle.krs_keys.specs.Keys.{shown}
+use Rattle.krs_hold.specs.Tally.{all_less, AreExact}
 use Rattle.krs_tables.specs.View.{state_of}
-use Rattle.krs_context_asks.proofs.EnteredHolders.{exec_tallied, exec_accepted}
+use Rattle.krs_context_asks.proofs.EnteredHolders.{exec_accepted, exec_tallied}
 use Rattle.krs_context_asks.proofs.entering.exec.Goals as goal
 
 pub invariant_of-tables : goal.invariant_of-tables

@@ -1,4 +1,4 @@
-use Rattle.std.proofs.Common.{◌≡◌, ◌==◌, ◌&&◌, filter, not}
+use Rattle.std.proofs.Common.{◌&&◌, ◌==◌, ◌≡◌, filter, not}
 use Rattle.krs_model.specs.Sweep.{context_roots}
 use Rattle.krs_hold.specs.Tally.{all_less}
 use Rattle.krs_context_asks.proofs.entering.let_go_others.Given as goal

@@ -1,16 +1,12 @@
-use Rattle.std.proofs.Common.{◌≡◌, ◌≤◌, ◌∙◌, ℕ, Ok, ap, refl, sym, subst, arith}
-use Rattle.krs_model.specs.Table.{Table}
-use Rattle.krs_model.specs.State.{State}
-use Rattle.krs_model.specs.Lookup.{context_of}
-use Rattle.krs_model.specs.Sweep.{roots}
+use Rattle.std.proofs.Common.{◌∙◌, ◌≡◌, ◌≤◌, ap, arith, Ok, refl, subst, sym, ℕ}
+use Rattle.krs_model.specs.{Lookup.context_of, State.State, Sweep.roots, Table.Table}
+use Rattle.krs_ctx.specs.{Anchors.anchored, Told.enterable}
+use Rattle.krs_ctx.proofs.ToldLemmas.{is_ok, thread_accepted, thread_refused}
 use Rattle.krs_keys.specs.Keys.{shown}
 use Rattle.krs_hold.specs.Tally.{AreExact}
-use Rattle.krs_ctx.specs.Anchors.{anchored}
-use Rattle.krs_ctx.specs.Told.{enterable}
-use Rattle.krs_ctx.proofs.ToldLemmas.{thread_refused, thread_accepted, is_ok}
 use Rattle.krs_tables.specs.View.{state_of}
-use Rattle.krs_context_asks.proofs.EnteredHolders.{thread_tallied, refused_as}
 use Rattle.krs_tables.proofs.Wanting.{wanting_as}
+use Rattle.krs_context_asks.proofs.EnteredHolders.{refused_as, thread_tallied}
 use Rattle.krs_context_asks.proofs.entering.thread.Goals as goal
 
 pub returns-in_err-can_enter : goal.returns-in_err-can_enter

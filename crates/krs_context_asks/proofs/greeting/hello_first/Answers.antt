@@ -1,11 +1,10 @@
-use Rattle.std.proofs.Common.{◌≡◌, ◌<◌, ◌≤◌, ◌∙◌, ap, sym, refl, arith}
-use Rattle.std.proofs.lemmas.Bool.Decides.{nat_tests}
+use Rattle.std.proofs.{Common.{◌<◌, ◌∙◌, ◌≡◌, ◌≤◌, ap, arith, refl, sym}, lemmas.Bool.Decides.nat_tests}
 use Rattle.krs_model.specs.State.{State}
 use Rattle.krs_ctx.specs.Told.{enterable}
-use Rattle.krs_ctx.proofs.HelloLemmas.{hello_full, hello_serials, hello_open, two_serials}
+use Rattle.krs_ctx.proofs.HelloLemmas.{hello_full, hello_open, hello_serials, two_serials}
 use Rattle.krs_tables.specs.View.{state_of}
-use Rattle.krs_context_asks.proofs.EnteredHolders.{refused_as}
 use Rattle.krs_tables.proofs.Wanting.{wanting_as}
+use Rattle.krs_context_asks.proofs.EnteredHolders.{refused_as}
 use Rattle.krs_context_asks.proofs.greeting.hello_first.Goals as goal
 
 pub returns-in_err-can_enter : goal.returns-in_err-can_enter

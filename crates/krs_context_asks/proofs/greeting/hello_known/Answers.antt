@@ -1,16 +1,12 @@
-use Rattle.std.proofs.Common.{◌≡◌, ◌≤◌, ◌∙◌, ℕ, Some, None, IsOk, ap, refl, sym, subst, arith}
-use Rattle.krs_model.specs.Table.{Table, at}
-use Rattle.krs_model.specs.State.{State}
-use Rattle.krs_model.specs.Sweep.{roots}
+use Rattle.std.proofs.Common.{◌∙◌, ◌≡◌, ◌≤◌, ap, arith, IsOk, None, refl, Some, subst, sym, ℕ}
+use Rattle.krs_model.specs.{Asks.Hello.hello, State.State, Sweep.roots, Table.{at, Table}}
+use Rattle.krs_ctx.specs.{Anchors.anchored, Told.enterable}
+use Rattle.krs_ctx.proofs.HelloLemmas.{hello_fails, hello_full, hello_known, hello_open, no_serials}
 use Rattle.krs_keys.specs.Keys.{shown}
 use Rattle.krs_hold.specs.Tally.{AreExact}
-use Rattle.krs_ctx.specs.Anchors.{anchored}
-use Rattle.krs_ctx.specs.Told.{enterable}
-use Rattle.krs_model.specs.Asks.Hello.{hello}
-use Rattle.krs_ctx.proofs.HelloLemmas.{hello_full, hello_known, hello_open, hello_fails, no_serials}
 use Rattle.krs_tables.specs.View.{state_of}
-use Rattle.krs_context_asks.proofs.EnteredHolders.{known_tallied, refused_as}
 use Rattle.krs_tables.proofs.Wanting.{wanting_as}
+use Rattle.krs_context_asks.proofs.EnteredHolders.{known_tallied, refused_as}
 use Rattle.krs_context_asks.proofs.greeting.hello_known.Goals as goal
 
 pub returns-in_err-can_enter : goal.returns-in_err-can_enter

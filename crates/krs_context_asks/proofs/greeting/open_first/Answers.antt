@@ -1,26 +1,16 @@
-use Rattle.std.proofs.Common.{◌≡◌, ◌≤◌, ◌+◌, ◌∙◌, ℕ, refl, Option, Some, None, Ok, IsOk, [], ◌∷◌, ap, sym, subst, arith}
-use Rattle.std.specs.Prelude.{codes}
-use Rattle.krs_types.specs.declared.ask.Answer.TheVariants.{Number}
-use Rattle.krs_types.specs.declared.context.UidRings.{UidRings}
-use Rattle.krs_model.specs.Asks.Hello.{hello}
-use Rattle.krs_model.specs.Table.{at, put, IsBelow}
-use Rattle.krs_model.specs.State.{State}
-use Rattle.krs_model.specs.Sweep.{roots}
+use Rattle.std.proofs.Common.{[], ◌+◌, ◌∙◌, ◌∷◌, ◌≡◌, ◌≤◌, ap, arith, codes, IsOk, None, Ok, Option, refl, Some, subst}
+use Rattle.std.proofs.Common.{sym, ℕ}
+use Rattle.krs_types.specs.declared.{ask.Answer.TheVariants.Number, context.UidRings.UidRings}
+use Rattle.krs_model.specs.{Asks.Hello.hello, State.State, Sweep.roots, Table.{at, IsBelow, put}}
 use Rattle.krs_model.proofs.Tables.Changes.{below_put}
+use Rattle.krs_ctx.specs.{Anchors.{anchored, Anchors}, Told.greeted}
+use Rattle.krs_ctx.proofs.HelloLemmas.{greeted_opens, hello_done, hello_fails}
 use Rattle.krs_links.specs.Links.{serials}
-use Rattle.krs_keys.specs.declared.key.Key.{Key}
-use Rattle.krs_keys.specs.Keys.{shown, named_links_of_content}
-use Rattle.krs_keys.specs.Table.{Keys}
-use Rattle.krs_hold.specs.Tally.{times, AreExact}
-use Rattle.krs_ctx.specs.Anchors.{Anchors, anchored}
-use Rattle.krs_ctx.specs.Told.{greeted}
+use Rattle.krs_keys.specs.{Keys.{IsOfKind, named_links_of_content, shown}, Table.Keys, declared.key.Key.Key}
+use Rattle.krs_hold.specs.Tally.{AreExact, times}
+use Rattle.krs_tables.specs.{Making.uid_key, View.{IsConsistent, state_of}}
+use Rattle.krs_tables.proofs.{Definitions.first_told, OwedHolders.{first_counted, first_tallied, first_times, room_on}}
 use Rattle.krs_context_asks.proofs.EnteredHolders.{refused_stays}
-use Rattle.krs_ctx.proofs.HelloLemmas.{hello_fails, hello_done, greeted_opens}
-use Rattle.krs_tables.specs.Making.{uid_key}
-use Rattle.krs_tables.specs.View.{state_of, IsConsistent}
-use Rattle.krs_tables.proofs.OwedHolders.{first_tallied, first_times, first_counted, room_on}
-use Rattle.krs_tables.proofs.Definitions.{first_told}
-use Rattle.krs_keys.specs.Keys.{IsOfKind}
 use Rattle.krs_context_asks.proofs.greeting.open_first.Goals as goal
 
 pub returns-in_err-number : goal.returns-in_err-number

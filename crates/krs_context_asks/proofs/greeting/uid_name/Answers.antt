@@ -1,6 +1,4 @@
-use Rattle.std.proofs.Common.{◌≤◌, length, arith, length-append}
-use Rattle.std.specs.Fmt.{decimal}
-use Rattle.std.proofs.lemmas.Fmt.{length-decimal-le}
+use Rattle.std.proofs.{Common.{◌≤◌, arith, decimal, length, length-append}, lemmas.Fmt.length-decimal-le}
 use Rattle.krs_context_asks.proofs.greeting.uid_name.Goals as goal
 
 pub new-requires-2 : goal.new-requires-2

@@ -1,13 +1,10 @@
-use Rattle.std.proofs.Common.{◌≡◌, ℕ, List, None, Some, ap, sym, ◌∙◌, subst}
-use Rattle.std.specs.Option.{option_map}
-use Rattle.krs_model.specs.State.{Key}
-use Rattle.krs_model.specs.Outcome.{Outcome, Leads}
-use Rattle.krs_model.specs.Asks.Joining.{joinable, session_named}
-use Rattle.krs_keys.specs.declared.key.Key as kept
+use Rattle.std.proofs.Common.{◌∙◌, ◌≡◌, ap, List, None, option_map, Some, subst, sym, ℕ}
+use Rattle.krs_model.specs.{Asks.Joining.{joinable, session_named}, Outcome.{Leads, Outcome}, State.Key}
 use Rattle.krs_keys.specs.Keys.{seen}
 use Rattle.krs_context_asks.specs.Joined.{joined_anew}
 use Rattle.krs_context_asks.proofs.JoinedHolders.{join_finds, join_makes, session_own}
 use Rattle.krs_context_asks.proofs.joining.join.Goals as goal
+use Rattle.krs_keys.specs.declared.key.Key as kept
 
 pub join_found-requires-clause-own : goal.join_found-requires-clause-own
 join_found-requires-clause-own c =

@@ -1,16 +1,11 @@
-use Rattle.std.proofs.Common.{◌≡◌, ◌<◌, ◌-◌, ◌^◌, ℕ, Some, ap, sym, ◌∙◌, subst, true≢false}
-use Rattle.std.specs.Option.{option_to_list, IsSome}
-use Rattle.krs_model.specs.Table.{Table, at}
-use Rattle.krs_model.specs.State.{State}
-use Rattle.krs_model.specs.Sweep.{roots}
-use Rattle.krs_model.specs.Asks.Joining.{joined_to}
+use Rattle.std.proofs.Common.{◌-◌, ◌<◌, ◌^◌, ◌∙◌, ◌≡◌, ap, IsSome, option_to_list, Some, subst, sym, true≢false, ℕ}
+use Rattle.krs_model.specs.{Asks.Joining.joined_to, State.State, Sweep.roots, Table.{at, Table}}
+use Rattle.krs_ctx.specs.Anchors.{anchored, Anchors}
 use Rattle.krs_keys.specs.Keys.{shown}
-use Rattle.krs_hold.specs.Tally.{AreExact, one_more, all_less}
-use Rattle.krs_ctx.specs.Anchors.{Anchors, anchored}
-use Rattle.krs_context_asks.specs.Joined.{session_in}
-use Rattle.krs_tables.specs.View.{state_of}
-use Rattle.krs_tables.specs.Holding.{holders_in}
+use Rattle.krs_hold.specs.Tally.{all_less, AreExact, one_more}
+use Rattle.krs_tables.specs.{Holding.holders_in, View.state_of}
 use Rattle.krs_tables.proofs.CountRoom.{room_told}
+use Rattle.krs_context_asks.specs.Joined.{session_in}
 use Rattle.krs_context_asks.proofs.JoinedHolders.{joined_tallied}
 use Rattle.krs_context_asks.proofs.joining.join_found.Goals as goal
 

@@ -1,19 +1,13 @@
-use Rattle.std.proofs.Common.{◌≡◌, ◌≤◌, ℕ, None, Some, refl, ap, sym, ◌∙◌, subst, arith}
-use Rattle.std.specs.Option.{option_to_list}
-use Rattle.krs_model.specs.Table.{Table, at, put}
-use Rattle.krs_model.specs.State.{State}
-use Rattle.krs_model.specs.Sweep.{roots}
-use Rattle.krs_model.specs.Asks.Joining.{joined_to, session_to}
+use Rattle.std.proofs.Common.{◌∙◌, ◌≡◌, ◌≤◌, ap, arith, None, option_to_list, refl, Some, subst, sym, ℕ}
+use Rattle.krs_model.specs.{Asks.Joining.{joined_to, session_to}, State.State, Sweep.roots, Table.{at, put, Table}}
 use Rattle.krs_model.proofs.Tables.Changes.{put_map}
-use Rattle.krs_keys.specs.Keys.{seen}
-use Rattle.krs_keys.specs.Table.{Keys}
-use Rattle.krs_hold.specs.Tally.{AreExact, with_number, one_more, all_less}
-use Rattle.krs_ctx.specs.Anchors.{Anchors, anchored}
-use Rattle.krs_ctx.specs.Told.{changed}
+use Rattle.krs_ctx.specs.{Anchors.{anchored, Anchors}, Told.changed}
+use Rattle.krs_keys.specs.{Keys.seen, Table.Keys}
+use Rattle.krs_hold.specs.Tally.{all_less, AreExact, one_more, with_number}
+use Rattle.krs_tables.specs.View.{IsConsistent, state_of}
 use Rattle.krs_context_asks.specs.Joined.{session_in}
-use Rattle.krs_tables.specs.View.{state_of, IsConsistent}
-use Rattle.krs_context_asks.proofs.JoinedHolders.{made_joined_tallied, empty_fit, empty_kinds, joined_anew_is}
-use Rattle.krs_context_asks.proofs.JoinedHolders.{empty_kind}
+use Rattle.krs_context_asks.proofs.JoinedHolders.{empty_fit, empty_kind, empty_kinds, joined_anew_is}
+use Rattle.krs_context_asks.proofs.JoinedHolders.{made_joined_tallied}
 use Rattle.krs_context_asks.proofs.joining.join_new.Goals as goal
 
 pub invariant_of-tables-in-Ok : goal.invariant_of-tables-in-Ok

@@ -1,7 +1,5 @@
-use Rattle.std.proofs.Common.{ℕ, Option, sym, subst}
-use Rattle.std.specs.Option.{IfSome, IsSome}
-use Rattle.krs_model.specs.Table.{at}
-use Rattle.krs_model.specs.Asks.Joining.{is_joinable}
+use Rattle.std.proofs.Common.{IfSome, IsSome, Option, subst, sym, ℕ}
+use Rattle.krs_model.specs.{Asks.Joining.is_joinable, Table.at}
 use Rattle.krs_keys.specs.Keys.{shown}
 use Rattle.krs_context_asks.proofs.JoinedHolders.{find_there}
 use Rattle.krs_context_asks.proofs.joining.joinable.Goals as goal

@@ -1,12 +1,9 @@
-use Rattle.std.proofs.Common.{◌≡◌, ◌∙◌, ℕ, filter, not, sym, ap, subst}
-use Rattle.krs_model.specs.Table.{Table}
-use Rattle.krs_model.specs.State.{State}
-use Rattle.krs_model.specs.Sweep.{roots, uid_roots}
+use Rattle.std.proofs.Common.{◌∙◌, ◌≡◌, ap, filter, not, subst, sym, ℕ}
 use Rattle.krs_model.specs.Asks.Leaving.{contexts_without, has_process, has_uid}
+use Rattle.krs_model.specs.{State.State, Sweep.{roots, uid_roots}, Table.Table}
+use Rattle.krs_ctx.specs.{Anchors.{anchored, Anchors}, Told.without_idle}
 use Rattle.krs_keys.specs.Keys.{shown}
-use Rattle.krs_hold.specs.Tally.{AreExact, all_less}
-use Rattle.krs_ctx.specs.Anchors.{Anchors, anchored}
-use Rattle.krs_ctx.specs.Told.{without_idle}
+use Rattle.krs_hold.specs.Tally.{all_less, AreExact}
 use Rattle.krs_tables.specs.View.{state_of}
 use Rattle.krs_context_asks.proofs.LeftStates.{idle_tallied, left_is_idle}
 use Rattle.krs_context_asks.proofs.leaving.end_idle.Goals as goal

@@ -1,18 +1,12 @@
-use Rattle.std.proofs.Common.{◌≡◌, ◌∙◌, ℕ, [], Option, cond, Ok, ap, sym, subst}
-use Rattle.std.specs.Option.{option_to_list}
+use Rattle.std.proofs.Common.{[], ◌∙◌, ◌≡◌, ap, cond, Ok, Option, option_to_list, subst, sym, ℕ}
 use Rattle.krs_types.specs.declared.context.UidRings.{UidRings}
-use Rattle.krs_model.specs.Table.{Table, at}
-use Rattle.krs_model.specs.State.{State}
-use Rattle.krs_model.specs.Lookup.{context_of}
-use Rattle.krs_model.specs.Possession.{process_ring}
-use Rattle.krs_model.specs.Sweep.{roots}
 use Rattle.krs_model.specs.Asks.Leaving.{has_process, has_uid}
-use Rattle.krs_keys.specs.Keys.{shown}
-use Rattle.krs_hold.specs.Tally.{AreExact, all_less}
+use Rattle.krs_model.specs.{Lookup.context_of, Possession.process_ring, State.State, Sweep.roots, Table.{at, Table}}
 use Rattle.krs_ctx.specs.Anchors.{anchored}
-use Rattle.krs_tables.specs.Holding.{rings_of}
-use Rattle.krs_tables.specs.View.{state_of}
-use Rattle.krs_context_asks.proofs.EndedHolders.{exit_tallied, ended_ring}
+use Rattle.krs_keys.specs.Keys.{shown}
+use Rattle.krs_hold.specs.Tally.{all_less, AreExact}
+use Rattle.krs_tables.specs.{Holding.rings_of, View.state_of}
+use Rattle.krs_context_asks.proofs.EndedHolders.{ended_ring, exit_tallied}
 use Rattle.krs_context_asks.proofs.leaving.exit.Goals as goal
 
 pub invariant_of-tables-2 : goal.invariant_of-tables-2

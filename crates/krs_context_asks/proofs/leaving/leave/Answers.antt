@@ -1,8 +1,6 @@
 use Rattle.std.proofs.Common.{◌∙◌, ap, refl, subst}
-use Rattle.krs_model.specs.State.{State}
-use Rattle.krs_model.specs.Asks.Leaving.{left}
-use Rattle.krs_ctx.specs.Anchors.{IsWhole, anchored, anchors_of}
-use Rattle.krs_ctx.specs.Told.{without_idle}
+use Rattle.krs_model.specs.{Asks.Leaving.left, State.State}
+use Rattle.krs_ctx.specs.{Anchors.{anchored, anchors_of, IsWhole}, Told.without_idle}
 use Rattle.krs_ctx.proofs.LeavingLemmas.{left_idle, whole_left}
 use Rattle.krs_tables.specs.View.{state_of}
 use Rattle.krs_context_asks.proofs.LeftStates.{left_state}

@@ -1,6 +1,5 @@
 use Rattle.std.proofs.Common.{◌≡◌, filter, not}
-use Rattle.krs_model.specs.Sweep.{process_roots}
-use Rattle.krs_model.specs.Asks.Leaving.{has_process}
+use Rattle.krs_model.specs.{Asks.Leaving.has_process, Sweep.process_roots}
 use Rattle.krs_hold.specs.Tally.{all_less}
 use Rattle.krs_context_asks.proofs.leaving.let_go_processes.Given as goal
 

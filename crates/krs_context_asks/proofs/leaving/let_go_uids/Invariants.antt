@@ -1,6 +1,5 @@
 use Rattle.std.proofs.Common.{◌≡◌, filter, not}
-use Rattle.krs_model.specs.Sweep.{uid_roots}
-use Rattle.krs_model.specs.Asks.Leaving.{has_uid}
+use Rattle.krs_model.specs.{Asks.Leaving.has_uid, Sweep.uid_roots}
 use Rattle.krs_hold.specs.Tally.{all_less}
 use Rattle.krs_context_asks.proofs.leaving.let_go_uids.Given as goal
 

@@ -1,5 +1,4 @@
-use Rattle.std.proofs.Common.{map, refl}
-use Rattle.std.specs.Prelude.{string_bytes}
+use Rattle.std.proofs.Common.{map, refl, string_bytes}
 use Rattle.clap.specs.Words.{fault_of}
 use Rattle.krs_ctl.specs.CommandLine.{client}
 use Rattle.krs_ctl.proofs.CommandLineLemmas.{leads_by_fault, leads_of_spelled}

@@ -1,9 +1,6 @@
-use Rattle.std.proofs.Common.{ap, map, refl}
-use Rattle.std.specs.Prelude.{string_bytes}
+use Rattle.std.proofs.Common.{ap, map, refl, string_bytes}
 use Rattle.std.specs.Vec.Iter.{into_iter_items}
-use Rattle.std.proofs.lemmas.Result.{IfOk-weaker}
-use Rattle.std.proofs.lemmas.Iterator.Adapters.{YieldsList-from_vec}
-use Rattle.std.proofs.lemmas.Iterator.{items_from_collect}
+use Rattle.std.proofs.lemmas.{Iterator.{items_from_collect, Adapters.YieldsList-from_vec}, Result.IfOk-weaker}
 use Rattle.krs_ctl.proofs.CommandLineLemmas.{leads_of_all}
 use Rattle.krs_ctl.proofs.choice.choose.Goals as goal
 

@@ -1,6 +1,4 @@
-use Rattle.std.proofs.Common.{◌≡◌, ◌∙◌, ℕ, List, [], ◌∷◌, Bor, ap, nat_eq}
-use Rattle.std.specs.Prelude.{codes}
-use Rattle.std.specs.Cmp.Lexicographic.{pointwise}
+use Rattle.std.proofs.Common.{[], ◌∷◌, codes, ℕ}
 use Rattle.krs_ctl.proofs.CommandLineLemmas.{word_alone}
 use Rattle.krs_ctl.proofs.choice.is_script.Goals as goal
 

@@ -1,4 +1,4 @@
-use Rattle.std.proofs.Common.{inl, inr, ap}
+use Rattle.std.proofs.Common.{ap, inl, inr}
 use Rattle.krs_words.specs.Saying.{heard}
 use Rattle.krs_ctl.specs.Telling.{no_place_text}
 use Rattle.krs_ctl.proofs.connecting.script_over.Goals as goal

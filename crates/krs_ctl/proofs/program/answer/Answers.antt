@@ -1,10 +1,8 @@
-use Rattle.std.proofs.Common.{◌≡◌, ℕ, List, refl, sym, ap, subst}
+use Rattle.std.proofs.Common.{ap, List, refl, subst, sym, ℕ}
 use Rattle.krs_model.specs.State.{State}
-use Rattle.krs_ctl.specs.declared.choice.Choice.{Choice as ChoiceIs}
-use Rattle.krs_ctl.specs.Running.{EndsScript}
 use Rattle.krs_words.specs.Saying.{heard}
 use Rattle.krs_ctl.specs.Program.{Answers}
-use Rattle.krs_ctl.specs.Telling.{TellsOver}
+use Rattle.krs_ctl.specs.{Running.EndsScript, Telling.TellsOver, declared.choice.Choice.Choice as ChoiceIs}
 use Rattle.krs_ctl.proofs.program.answer.Goals as goal
 
 -- a script on a new store: it ended as it is said, and told nothing where its status is 0

@@ -1,6 +1,4 @@
-use Rattle.std.proofs.Common.{◌∙◌, sym, rules}
-use Rattle.std.proofs.lemmas.Map.Made.{map_same_pairs}
-use Rattle.std.proofs.Common.{ℕ, Option}
+use Rattle.std.proofs.{Common.{◌∙◌, Option, rules, sym, ℕ}, lemmas.Map.Made.map_same_pairs}
 use Rattle.krs_model.specs.Asks.Invalidating.{detached}
 use Rattle.krs_ctx.proofs.EachLemmas.{mapped_is}
 use Rattle.krs_ctx.proofs.maps.detach_processes.Goals as goal

@@ -1,5 +1,4 @@
-use Rattle.std.proofs.Common.{◌∙◌, sym, rules}
-use Rattle.std.proofs.lemmas.Map.Made.{map_same_pairs}
+use Rattle.std.proofs.{Common.{◌∙◌, rules, sym}, lemmas.Map.Made.map_same_pairs}
 use Rattle.krs_types.specs.declared.context.UidRings.{UidRings}
 use Rattle.krs_model.specs.Asks.Invalidating.{rings_without}
 use Rattle.krs_ctx.proofs.EachLemmas.{mapped_is}

@@ -1,6 +1,5 @@
-use Rattle.std.proofs.Common.{rules}
+use Rattle.std.proofs.{Common.rules, lemmas.Map.Made.filter_same_pairs}
 use Rattle.krs_model.specs.Asks.Leaving.{has_process}
-use Rattle.std.proofs.lemmas.Map.Made.{filter_same_pairs}
 use Rattle.krs_ctx.proofs.maps.drop_processes.Goals as goal
 
 pub returns : goal.returns

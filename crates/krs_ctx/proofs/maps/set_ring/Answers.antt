@@ -1,5 +1,5 @@
-use Rattle.std.proofs.Common.{ℕ, Option, ap, sym, ◌∙◌}
-use Rattle.krs_model.proofs.Tables.Changes.{alter_some, alter_none}
+use Rattle.std.proofs.Common.{◌∙◌, ap, Option, sym, ℕ}
+use Rattle.krs_model.proofs.Tables.Changes.{alter_none, alter_some}
 use Rattle.krs_ctx.proofs.maps.set_ring.Goals as goal
 
 pub returns-in-Some : goal.returns-in-Some

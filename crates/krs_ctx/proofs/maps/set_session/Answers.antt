@@ -1,6 +1,6 @@
-use Rattle.std.proofs.Common.{ap, sym, ◌∙◌}
+use Rattle.std.proofs.Common.{◌∙◌, ap, sym}
 use Rattle.krs_types.specs.declared.context.Context.{Context}
-use Rattle.krs_model.proofs.Tables.Changes.{alter_some, alter_none}
+use Rattle.krs_model.proofs.Tables.Changes.{alter_none, alter_some}
 use Rattle.krs_ctx.proofs.maps.set_session.Goals as goal
 
 pub returns-in-Some : goal.returns-in-Some

@@ -1,4 +1,4 @@
-use Rattle.krs_guarded.proofs.Peers.{peers_act, peers_read, peers_seen, peers_change}
+use Rattle.krs_guarded.proofs.Peers.{peers_act, peers_change, peers_read, peers_seen}
 use Rattle.krs_guarded.proofs.guarded.no_peer_of_a_desk_reads_anothers_keys.Goals as goal
 
 pub returns : goal.returns

@@ -1,10 +1,7 @@
-use Rattle.std.proofs.Common.{ℕ, [], Option, refl, ◌∙◌, subst}
-use Rattle.krs_keys.specs.Keys.{shown}
+use Rattle.std.proofs.Common.{[], ◌∙◌, Option, refl, subst, ℕ}
+use Rattle.krs_keys.specs.{Hashed.by_serial, Keys.shown}
 use Rattle.krs_hold.specs.Chain.{IsChained}
-use Rattle.krs_hold.proofs.Exact.{counted_from}
-use Rattle.krs_hold.proofs.Anchoring.{spares_all, spares_on, keeps_anchored}
-use Rattle.krs_keys.specs.Hashed.{by_serial}
-use Rattle.krs_hold.proofs.WatchedKeys.{goes_on}
+use Rattle.krs_hold.proofs.{Anchoring.{keeps_anchored, spares_all, spares_on}, Exact.counted_from, WatchedKeys.goes_on}
 use Rattle.krs_hold.proofs.cascade.sweep.Goals as goal
 
 pub dropping-init : goal.dropping-init

@@ -1,8 +1,6 @@
-use Rattle.std.proofs.Common.{◌≡◌, ℕ, List, false}
-use Rattle.krs_keys.specs.Kept.{KeepsAll}
-use Rattle.krs_hold.specs.Tally.{AreExact}
-use Rattle.krs_hold.specs.Chain.{numbers_of, IsChained, Spares, total_weight}
-use Rattle.krs_keys.specs.Hashed.{by_serial}
+use Rattle.std.proofs.Common.{◌≡◌, false, List, ℕ}
+use Rattle.krs_keys.specs.{Hashed.by_serial, Kept.KeepsAll}
+use Rattle.krs_hold.specs.{Chain.{IsChained, numbers_of, Spares, total_weight}, Tally.AreExact}
 use Rattle.krs_hold.proofs.cascade.sweep.Given as goal
 
 -- the counts stay exact, each count of 0 waits, and no key has gone that was anchored by one that stays

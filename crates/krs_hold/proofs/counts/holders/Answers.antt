@@ -1,4 +1,4 @@
-use Rattle.std.proofs.Common.{ap, sym, ◌∙◌}
+use Rattle.std.proofs.Common.{◌∙◌, ap, sym}
 use Rattle.krs_keys.proofs.HashedLemmas.{at_by_serial}
 use Rattle.krs_hold.specs.Chain.{holders_at}
 use Rattle.krs_hold.proofs.counts.holders.Goals as goal

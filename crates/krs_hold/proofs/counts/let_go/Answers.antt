@@ -1,5 +1,5 @@
-use Rattle.std.proofs.Common.{Some, cond, ap, sym, ◌∙◌}
-use Rattle.krs_keys.proofs.HashedLemmas.{at_by_serial, by_serial_written, by_serial_absent}
+use Rattle.std.proofs.Common.{◌∙◌, ap, cond, Some, sym}
+use Rattle.krs_keys.proofs.HashedLemmas.{at_by_serial, by_serial_absent, by_serial_written}
 use Rattle.krs_hold.specs.Chain.{falls_at, lowered}
 use Rattle.krs_hold.proofs.counts.let_go.Goals as goal
 

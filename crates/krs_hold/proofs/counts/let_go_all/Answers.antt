@@ -1,16 +1,12 @@
-use Rattle.std.proofs.Common.{arith, ◌<◌, ◌≡◌, ℕ, ◌+◌, List, ◌∷◌, drop, length, Option, Some, refl, ap, ◌∙◌, sym}
-use Rattle.std.proofs.Common.{add-one}
-use Rattle.std.proofs.lemmas.Option.{slice_get_within, none-some, slice_get-get_or, get_or_from_slice_get}
-use Rattle.std.proofs.lemmas.List.{length-map}
-use Rattle.std.proofs.Math.Seq.{drop-cons}
-use Rattle.std.specs.List.{slice_get}
+use Rattle.std.proofs.Common.{◌+◌, ◌<◌, ◌∙◌, ◌∷◌, ◌≡◌, add-one, ap, arith, drop, length, List, Option, refl, slice_get}
+use Rattle.std.proofs.{Common.{Some, sym, ℕ}, Math.Seq.drop-cons, lemmas.List.length-map}
+use Rattle.std.proofs.lemmas.Option.{get_or_from_slice_get, none-some, slice_get-get_or, slice_get_within}
+use Rattle.krs_model.specs.Table.{Table}
 use Rattle.krs_links.specs.Links.{serials}
 use Rattle.krs_keys.specs.Hashed.{by_serial}
-use Rattle.krs_model.specs.Table.{Table}
-use Rattle.krs_hold.specs.declared.counts.Count.{Count}
-use Rattle.krs_hold.specs.Chain.{Chained, gone, gone_all}
-use Rattle.krs_hold.proofs.counts.let_go_all.Goals as goal
+use Rattle.krs_hold.specs.{Chain.{Chained, gone, gone_all}, declared.counts.Count.Count}
 use Rattle.krs_hold.proofs.counts.let_go_all.Goals.{in-Some, in_default}
+use Rattle.krs_hold.proofs.counts.let_go_all.Goals as goal
 
 -- what is left from a place on begins with what stands there
 next_left : (xs : List ℕ) (i x : ℕ) → slice_get xs i ≡ Some x → drop i xs ≡ x ∷ drop (i + 1) xs

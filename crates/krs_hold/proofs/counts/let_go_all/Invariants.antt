@@ -1,7 +1,7 @@
 use Rattle.std.proofs.Common.{◌≡◌, drop}
 use Rattle.krs_links.specs.Links.{serials}
-use Rattle.krs_hold.specs.Chain.{gone_all}
 use Rattle.krs_keys.specs.Hashed.{by_serial}
+use Rattle.krs_hold.specs.Chain.{gone_all}
 use Rattle.krs_hold.proofs.counts.let_go_all.Given as goal
 
 abbrev pub invariant-loop-place : goal.invariant-loop-place

@@ -1,9 +1,9 @@
-use Rattle.std.proofs.Common.{◌≡◌, replicate, Some, None, ap, sym, ◌∙◌, refl}
+use Rattle.std.proofs.Common.{◌∙◌, ◌≡◌, ap, None, refl, replicate, Some, sym}
+use Rattle.krs_model.specs.Table.{at}
 use Rattle.krs_keys.specs.Hashed.{by_serial}
 use Rattle.krs_keys.proofs.HashedLemmas.{at_by_serial, by_serial_written}
-use Rattle.krs_model.specs.Table.{at}
-use Rattle.krs_hold.specs.Chain.{holders_at, gone_all, emptied}
-use Rattle.krs_hold.proofs.Emptied.{chained, same_chain, emptied_whole}
+use Rattle.krs_hold.specs.Chain.{emptied, gone_all, holders_at}
+use Rattle.krs_hold.proofs.Emptied.{chained, emptied_whole, same_chain}
 use Rattle.krs_hold.proofs.counts.let_go_whole.Goals as goal
 
 pub returns-in-Some : goal.returns-in-Some

@@ -1,7 +1,7 @@
-use Rattle.std.proofs.Common.{◌≡◌, ap, sym, ◌∙◌, refl, arith}
-use Rattle.krs_keys.proofs.HashedLemmas.{at_by_serial, by_serial_written, by_serial_absent}
-use Rattle.krs_keys.specs.Hashed.{by_serial}
+use Rattle.std.proofs.Common.{◌∙◌, ◌≡◌, ap, arith, refl, sym}
 use Rattle.krs_model.specs.Table.{at}
+use Rattle.krs_keys.specs.Hashed.{by_serial}
+use Rattle.krs_keys.proofs.HashedLemmas.{at_by_serial, by_serial_absent, by_serial_written}
 use Rattle.krs_hold.specs.Chain.{holders_at, raised}
 use Rattle.krs_hold.proofs.counts.raise.Goals as goal
 

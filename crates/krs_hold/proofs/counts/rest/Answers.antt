@@ -1,5 +1,5 @@
-use Rattle.std.proofs.Common.{ap, sym, ◌∙◌, refl}
-use Rattle.krs_keys.proofs.HashedLemmas.{at_by_serial, by_serial_written, by_serial_absent}
+use Rattle.std.proofs.Common.{◌∙◌, ap, refl, sym}
+use Rattle.krs_keys.proofs.HashedLemmas.{at_by_serial, by_serial_absent, by_serial_written}
 use Rattle.krs_hold.specs.Chain.{next_at, rested}
 use Rattle.krs_hold.proofs.counts.rest.Goals as goal
 

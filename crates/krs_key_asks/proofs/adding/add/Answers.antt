@@ -1,11 +1,8 @@
-use Rattle.std.proofs.Common.{◌≡◌, ◌∙◌, ℕ, List, ap, subst, sym, Some, Ok}
-use Rattle.std.specs.Int.{w32}
-use Rattle.std.proofs.lemmas.Int.{to_z-of_z}
+use Rattle.std.proofs.{Common.{◌∙◌, ◌≡◌, ap, List, Ok, Some, subst, sym, w32, ℕ}, lemmas.Int.to_z-of_z}
 use Rattle.krs_types.specs.declared.name.Name.{Name}
-use Rattle.krs_model.specs.Outcome.{Leads}
-use Rattle.krs_model.specs.Asks.Adding.{admitted}
-use Rattle.krs_tables.specs.Specials.{Makes, adding_made}
-use Rattle.krs_tables.proofs.MadeFor.{is_new, add_made}
+use Rattle.krs_model.specs.{Asks.Adding.admitted, Outcome.Leads}
+use Rattle.krs_tables.specs.Specials.{adding_made, Makes}
+use Rattle.krs_tables.proofs.MadeFor.{add_made, is_new}
 use Rattle.krs_key_asks.proofs.adding.add.Goals as goal
 
 pub returns-in-Some : goal.returns-in-Some

@@ -1,6 +1,6 @@
 use Rattle.std.proofs.Common.{◌∙◌, ap, Ok}
-use Rattle.krs_key_asks.specs.Places.{meant}
 use Rattle.krs_model.proofs.Lookups.Laws.{made_in_ring}
+use Rattle.krs_key_asks.specs.Places.{meant}
 use Rattle.krs_key_asks.proofs.adding.add_in.Goals as goal
 
 pub make-requires-clause-ring : goal.make-requires-clause-ring

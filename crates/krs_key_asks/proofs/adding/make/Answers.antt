@@ -1,22 +1,12 @@
-use Rattle.std.proofs.Common.{◌≡◌, ◌≤◌, ◌+◌, [], Option, arith, ap, sym, ◌∙◌, subst, ℕ}
+use Rattle.std.proofs.Common.{[], ◌+◌, ◌∙◌, ◌≡◌, ◌≤◌, ap, arith, Option, option_to_list, subst, sym, ℕ}
 use Rattle.krs_types.specs.declared.name.Name.{Name}
-use Rattle.krs_model.specs.Table.{Table, put, alter}
-use Rattle.krs_model.specs.State.{State}
-use Rattle.krs_model.specs.Asks.Adding.{made, IsKeyringAt}
-use Rattle.krs_keys.specs.Keys.{with_entry, seen, shown, displaced_at}
-use Rattle.krs_keys.specs.declared.key.Key.{Key}
-use Rattle.krs_keys.specs.Table.{Keys}
-use Rattle.krs_tables.specs.Making.{maker_key}
-use Rattle.krs_tables.specs.View.{state_of, IsConsistent}
-use Rattle.krs_tables.proofs.Definitions.{made_told, seen-maker_key}
-use Rattle.krs_model.specs.Sweep.{roots}
-use Rattle.std.specs.Option.{option_to_list}
-use Rattle.krs_hold.specs.Tally.{AreExact, with_number, one_more, one_less, all_less}
-use Rattle.krs_hold.proofs.Tallies.{tallied_with, tallied_hold, tallied_let_go, some_with}
-use Rattle.krs_tables.proofs.OwedHolders.{made_tallied, first_links}
-use Rattle.krs_tables.specs.declared.tables.Tables.TheInside.{Inside}
-use Rattle.krs_keys.specs.Keys.{IsOfKind}
-use Rattle.krs_tables.proofs.Definitions.{first_kind}
+use Rattle.krs_model.specs.{Asks.Adding.{IsKeyringAt, made}, State.State, Sweep.roots, Table.{alter, put, Table}}
+use Rattle.krs_keys.specs.{Keys.{displaced_at, IsOfKind, seen, shown, with_entry}, Table.Keys, declared.key.Key.Key}
+use Rattle.krs_hold.specs.Tally.{all_less, AreExact, one_less, one_more, with_number}
+use Rattle.krs_hold.proofs.Tallies.{some_with, tallied_hold, tallied_let_go, tallied_with}
+use Rattle.krs_tables.specs.{Making.maker_key, View.{IsConsistent, state_of}, declared.tables.Tables.TheInside.Inside}
+use Rattle.krs_tables.proofs.Definitions.{first_kind, made_told, seen-maker_key}
+use Rattle.krs_tables.proofs.OwedHolders.{first_links, made_tallied}
 use Rattle.krs_key_asks.proofs.adding.make.Goals as goal
 
 -- a holder that was counted for a key that is not made lets go of it again

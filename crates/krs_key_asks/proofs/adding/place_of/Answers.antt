@@ -1,16 +1,12 @@
-use Rattle.std.proofs.Common.{◌≡◌, ℕ, ap, sym, ◌∙◌, subst, Ok}
-use Rattle.std.specs.Int.{w32}
-use Rattle.std.proofs.lemmas.Int.{to_z-of_z}
-use Rattle.krs_types.specs.declared.rights.Want.TheVariants.{Granted}
-use Rattle.krs_types.specs.Rights.{WRITE}
-use Rattle.krs_model.specs.Lookup.{look_up}
-use Rattle.krs_model.specs.Outcome.{Is}
-use Rattle.krs_model.specs.Asks.Adding as model
-use Rattle.krs_links.specs.Links.{serials, serial_named}
+use Rattle.std.proofs.{Common.{◌∙◌, ◌≡◌, ap, Ok, subst, sym, w32, ℕ}, lemmas.Int.to_z-of_z}
+use Rattle.krs_types.specs.{Rights.WRITE, declared.rights.Want.TheVariants.Granted}
+use Rattle.krs_model.specs.{Lookup.look_up, Outcome.Is}
+use Rattle.krs_links.specs.Links.{serial_named, serials}
 use Rattle.krs_keys.specs.Keys.{seen}
-use Rattle.krs_key_asks.specs.Places.{meant}
 use Rattle.krs_tables.proofs.Definitions.{place_told}
+use Rattle.krs_key_asks.specs.Places.{meant}
 use Rattle.krs_key_asks.proofs.adding.place_of.Goals as goal
+use Rattle.krs_model.specs.Asks.Adding as model
 
 pub returns-in-Links-clause-place : goal.returns-in-Links-clause-place
 returns-in-Links-clause-place c =

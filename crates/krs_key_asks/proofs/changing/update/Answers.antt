@@ -1,5 +1,4 @@
-use Rattle.std.proofs.Common.{rules}
-use Rattle.std.proofs.lemmas.Int.{ints}
+use Rattle.std.proofs.{Common.rules, lemmas.Int.ints}
 use Rattle.krs_model.specs.Asks.Changing.{update}
 use Rattle.krs_key_asks.proofs.changing.update.Goals as goal
 

@@ -1,6 +1,4 @@
-use Rattle.std.proofs.Common.{◌≤◌, ◌≡◌, length, length-append, arith, ap, refl}
-use Rattle.std.specs.Fmt.{decimal}
-use Rattle.std.proofs.lemmas.Fmt.{length-decimal-le}
+use Rattle.std.proofs.{Common.{◌≡◌, ◌≤◌, ap, arith, decimal, length, length-append, refl}, lemmas.Fmt.length-decimal-le}
 use Rattle.krs_types.specs.Kind.{kind_name}
 use Rattle.krs_tables.proofs.Definitions.{kind_short}
 use Rattle.krs_key_asks.proofs.reading.description.Goals as goal

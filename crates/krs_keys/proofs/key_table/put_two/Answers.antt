@@ -1,8 +1,7 @@
-use Rattle.std.proofs.Common.{◌+◌, ap, ◌∙◌, arith}
-use Rattle.krs_model.specs.Table.{Table, at, put, without}
+use Rattle.std.proofs.Common.{◌+◌, ◌∙◌, ap, arith}
+use Rattle.krs_model.specs.Table.{at, put, Table, without}
 use Rattle.krs_model.proofs.Tables.Changes.{at_put_none, without_put}
-use Rattle.krs_keys.specs.declared.key.Key.{Key}
-use Rattle.krs_keys.specs.Places.{by_place}
+use Rattle.krs_keys.specs.{Places.by_place, declared.key.Key.Key}
 use Rattle.krs_keys.proofs.key_table.put_two.Goals as goal
 
 pub put_in-requires-2-clause-absent : goal.put_in-requires-2-clause-absent

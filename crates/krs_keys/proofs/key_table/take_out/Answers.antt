@@ -1,8 +1,6 @@
-use Rattle.std.proofs.Common.{◌∙◌, sym, subst}
-use Rattle.krs_keys.specs.Places.{by_place}
-use Rattle.krs_keys.specs.Sessions.{AreSessions}
-use Rattle.krs_keys.proofs.PlacesLemmas.{rises_in_slots}
-use Rattle.krs_keys.proofs.RisingTables.{without_absent}
+use Rattle.std.proofs.Common.{◌∙◌, subst, sym}
+use Rattle.krs_keys.specs.{Places.by_place, Sessions.AreSessions}
+use Rattle.krs_keys.proofs.{PlacesLemmas.rises_in_slots, RisingTables.without_absent}
 use Rattle.krs_keys.proofs.key_table.take_out.Goals as goal
 
 pub returns-in_err-key-clause-sessions : goal.returns-in_err-key-clause-sessions

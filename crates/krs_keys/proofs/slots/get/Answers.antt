@@ -1,5 +1,5 @@
 use Rattle.std.proofs.Common.{◌∙◌, ap, sym}
-use Rattle.krs_keys.proofs.PlacesLemmas.{found, at_in_slots}
+use Rattle.krs_keys.proofs.PlacesLemmas.{at_in_slots, found}
 use Rattle.krs_keys.proofs.slots.get.Goals as goal
 
 pub returns-in-Some : goal.returns-in-Some

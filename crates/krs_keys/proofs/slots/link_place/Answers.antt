@@ -1,11 +1,7 @@
-use Rattle.std.proofs.Common.{◌≢◌, Option, Some, ◌∙◌, ap, sym, subst}
-use Rattle.std.specs.Option.{option_map}
+use Rattle.std.proofs.Common.{◌∙◌, ◌≢◌, ap, Option, option_map, Some, subst, sym}
 use Rattle.krs_links.specs.Links.{serial_named}
-use Rattle.krs_keys.specs.declared.key.Key.{Key}
-use Rattle.krs_keys.specs.Keys.{name_at, named_links_of_key}
-use Rattle.krs_keys.specs.Places.{held, in_slots}
-use Rattle.krs_keys.proofs.LinkNames.{missing_linked, other_linked}
-use Rattle.krs_keys.proofs.LinkPlaces.{none_so}
+use Rattle.krs_keys.specs.{Keys.{name_at, named_links_of_key}, Places.{held, in_slots}, declared.key.Key.Key}
+use Rattle.krs_keys.proofs.{LinkNames.{missing_linked, other_linked}, LinkPlaces.none_so}
 use Rattle.krs_keys.proofs.slots.link_place.Goals as goal
 
 pub returns-in_default-clause-none : goal.returns-in_default-clause-none

@@ -1,6 +1,5 @@
 use Rattle.std.proofs.Common.{sym}
-use Rattle.krs_keys.specs.Keys.{named_links_of_key}
-use Rattle.krs_keys.specs.Places.{held}
+use Rattle.krs_keys.specs.{Keys.named_links_of_key, Places.held}
 use Rattle.krs_keys.proofs.LinkNames.{linked_at}
 use Rattle.krs_keys.proofs.slots.links_at.Goals as goal
 

@@ -1,10 +1,7 @@
-use Rattle.std.proofs.Common.{Option, ◌∙◌, ap, sym, subst}
+use Rattle.std.proofs.Common.{◌∙◌, ap, Option, subst, sym}
 use Rattle.krs_links.specs.Links.{has_link}
-use Rattle.krs_keys.specs.declared.key.Key.{Key}
-use Rattle.krs_keys.specs.Keys.{name_at, named_links_of_key, AreNamed}
-use Rattle.krs_keys.specs.Places.{in_slots}
-use Rattle.krs_keys.proofs.LinkNames.{ring_named}
-use Rattle.krs_keys.proofs.PlacesLemmas.{placed}
+use Rattle.krs_keys.specs.{Keys.{AreNamed, name_at, named_links_of_key}, Places.in_slots, declared.key.Key.Key}
+use Rattle.krs_keys.proofs.{LinkNames.ring_named, PlacesLemmas.placed}
 use Rattle.krs_keys.proofs.slots.links_key.Goals as goal
 
 pub links_at-requires : goal.links_at-requires

@@ -1,8 +1,6 @@
 use Rattle.std.proofs.Common.{sym}
-use Rattle.krs_keys.specs.Keys.{name_at, without_key, without_link_at, named_links_of_key}
-use Rattle.krs_keys.specs.Places.{held, in_slots}
-use Rattle.krs_keys.proofs.LinkNames.{linked_at}
-use Rattle.krs_keys.proofs.LinkPlaces.{without_none, without_at, changed_alike, unchanged_at}
+use Rattle.krs_keys.specs.{Keys.{name_at, named_links_of_key, without_key, without_link_at}, Places.{held, in_slots}}
+use Rattle.krs_keys.proofs.{LinkNames.linked_at, LinkPlaces.{changed_alike, unchanged_at, without_at, without_none}}
 use Rattle.krs_keys.proofs.slots.unlink.Goals as goal
 
 pub returns-in_default-clause-changed : goal.returns-in_default-clause-changed

@@ -1,11 +1,7 @@
-use Rattle.std.proofs.Common.{subst, sym}
-use Rattle.std.proofs.lemmas.List.{take_all}
-use Rattle.krs_keys.specs.Keys.{without_key, AreFit}
-use Rattle.krs_keys.proofs.Unlinking.{fit-keyless}
-use Rattle.krs_keys.specs.Places.{in_slots}
-use Rattle.krs_keys.proofs.PlacesLemmas.{rises_in_slots}
-use Rattle.krs_keys.proofs.RisingTables.{rises_map}
-use Rattle.krs_keys.proofs.RingsLemmas.{AreUnlinked, one_unlinked, all_unlinked}
+use Rattle.std.proofs.Common.{subst, sym, take_all}
+use Rattle.krs_keys.specs.{Keys.{AreFit, without_key}, Places.in_slots}
+use Rattle.krs_keys.proofs.{PlacesLemmas.rises_in_slots, RingsLemmas.{all_unlinked, AreUnlinked, one_unlinked}}
+use Rattle.krs_keys.proofs.{RisingTables.rises_map, Unlinking.fit-keyless}
 use Rattle.krs_keys.proofs.slots.unlink_all.Goals as goal
 
 pub loop-ring-preserved : goal.loop-ring-preserved

@@ -1,6 +1,5 @@
 use Rattle.std.proofs.Common.{take}
-use Rattle.krs_keys.specs.Keys.{AreFit}
-use Rattle.krs_keys.specs.Places.{in_slots, HavePlaces}
+use Rattle.krs_keys.specs.{Keys.AreFit, Places.{HavePlaces, in_slots}}
 use Rattle.krs_keys.proofs.RingsLemmas.{AreUnlinked}
 use Rattle.krs_keys.proofs.slots.unlink_all.Given as goal
 

@@ -1,11 +1,9 @@
-use Rattle.std.proofs.Common.{Option, ◌∙◌, ap, sym, subst}
-use Rattle.krs_links.specs.Links.{has_link}
+use Rattle.std.proofs.Common.{◌∙◌, ap, Option, subst, sym}
 use Rattle.krs_model.proofs.Tables.Changes.{alter_none}
-use Rattle.krs_keys.specs.declared.key.Key.{Key}
-use Rattle.krs_keys.specs.Keys.{name_at, named_links_of_key, AreNamed, without_key}
-use Rattle.krs_keys.specs.Places.{in_slots}
-use Rattle.krs_keys.proofs.LinkNames.{ring_named}
-use Rattle.krs_keys.proofs.PlacesLemmas.{placed, in_slots_alter}
+use Rattle.krs_links.specs.Links.{has_link}
+use Rattle.krs_keys.specs.Keys.{AreNamed, name_at, named_links_of_key, without_key}
+use Rattle.krs_keys.specs.{Places.in_slots, declared.key.Key.Key}
+use Rattle.krs_keys.proofs.{LinkNames.ring_named, PlacesLemmas.{in_slots_alter, placed}}
 use Rattle.krs_keys.proofs.slots.unlink_in.Goals as goal
 
 pub unlink-requires : goal.unlink-requires

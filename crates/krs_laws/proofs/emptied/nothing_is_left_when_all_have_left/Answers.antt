@@ -1,5 +1,4 @@
-use Rattle.krs_laws.proofs.Leftovers.{emptied}
-use Rattle.krs_laws.proofs.Opened.{emptied_by_leaving}
+use Rattle.krs_laws.proofs.{Leftovers.emptied, Opened.emptied_by_leaving}
 use Rattle.krs_laws.proofs.emptied.nothing_is_left_when_all_have_left.Goals as goal
 
 pub returns-clause-emptied : goal.returns-clause-emptied

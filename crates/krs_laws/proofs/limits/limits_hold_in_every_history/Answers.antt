@@ -1,4 +1,4 @@
-use Rattle.krs_laws.proofs.WithinLimits.{stays_within, empty_within}
+use Rattle.krs_laws.proofs.WithinLimits.{empty_within, stays_within}
 use Rattle.krs_laws.proofs.limits.limits_hold_in_every_history.Goals as goal
 
 pub returns-clause-always : goal.returns-clause-always

@@ -1,4 +1,4 @@
-use Rattle.std.proofs.Common.{sym, ◌∙◌, arith}
+use Rattle.std.proofs.Common.{◌∙◌, arith, sym}
 use Rattle.krs_links.proofs.FreeLemmas.{taken_further}
 use Rattle.krs_links.proofs.index.free_steps.Goals as goal
 

@@ -1,4 +1,4 @@
-use Rattle.std.proofs.Common.{◌≤◌, ◌-◌, length}
+use Rattle.std.proofs.Common.{◌-◌, ◌≤◌, length}
 use Rattle.krs_links.proofs.FreeLemmas.{AreTaken}
 use Rattle.krs_links.proofs.index.free_steps.Given as goal
 

@@ -1,4 +1,4 @@
-use Rattle.std.proofs.Common.{sym, ◌∙◌}
+use Rattle.std.proofs.Common.{◌∙◌, sym}
 use Rattle.krs_links.proofs.IndexedLemmas.{place_is}
 use Rattle.krs_links.proofs.index.place_under.Goals as goal
 

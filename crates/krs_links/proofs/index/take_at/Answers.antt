@@ -1,4 +1,4 @@
-use Rattle.std.proofs.Common.{◌∙◌, ◌-◌, ap}
+use Rattle.std.proofs.Common.{◌-◌, ◌∙◌, ap}
 use Rattle.krs_links.proofs.IndexedLemmas.{last_taken}
 use Rattle.krs_links.proofs.index.take_at.Goals as goal
 

@@ -1,7 +1,6 @@
-use Rattle.std.proofs.Common.{◌≡◌, [], ◌∷◌, ◌++◌, sym, ◌∙◌, rules}
+use Rattle.std.proofs.Common.{[], ◌++◌, ◌∙◌, ◌∷◌, ◌≡◌, rules, sym}
 use Rattle.krs_links.specs.Indexed.{linked}
-use Rattle.krs_links.proofs.LinksLemmas.{linked_last}
-use Rattle.krs_links.proofs.PlacesLemmas.{AreLists-last_ring, AreLists-last_other}
+use Rattle.krs_links.proofs.{LinksLemmas.linked_last, PlacesLemmas.{AreLists-last_other, AreLists-last_ring}}
 use Rattle.krs_links.proofs.lists.append.Goals as goal
 
 pub returns-then-not-is-clause-links : goal.returns-then-not-is-clause-links

@@ -1,11 +1,8 @@
-use Rattle.std.proofs.Common.{◌∙◌, ◌&&◌, ℕ, ap}
-use Rattle.std.specs.Option.{is_none}
+use Rattle.std.proofs.Common.{◌&&◌, ◌∙◌, ap, is_none, ℕ}
 use Rattle.krs_types.specs.declared.name.Name.{Name}
-use Rattle.krs_links.specs.Links.{is_full}
-use Rattle.krs_links.specs.Indexed.{linked}
-use Rattle.krs_links.proofs.PlacesLemmas.{linked_as_at, serial_at_named, AreLists-displaced}
-use Rattle.krs_links.proofs.IndexLemmas.{never_both}
-use Rattle.krs_links.proofs.IndexedLemmas.{linked_in-set}
+use Rattle.krs_links.specs.{Indexed.linked, Links.is_full}
+use Rattle.krs_links.proofs.{IndexLemmas.never_both, IndexedLemmas.linked_in-set}
+use Rattle.krs_links.proofs.PlacesLemmas.{AreLists-displaced, linked_as_at, serial_at_named}
 use Rattle.krs_links.proofs.lists.displace.Goals as goal
 
 pub set_serial-requires : goal.set_serial-requires

@@ -1,4 +1,4 @@
-use Rattle.std.proofs.Common.{◌∙◌, length, sym, ap, arith}
+use Rattle.std.proofs.Common.{◌∙◌, ap, arith, length, sym}
 use Rattle.krs_links.specs.Indexed.{linked}
 use Rattle.krs_links.proofs.PlacesLemmas.{ring_within, rings_displaced, rings_stay_displaced}
 use Rattle.krs_links.proofs.lists.displace_ring.Goals as goal

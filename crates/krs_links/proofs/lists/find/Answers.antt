@@ -1,6 +1,6 @@
 use Rattle.std.proofs.Common.{◌∙◌, sym}
 use Rattle.krs_links.specs.Indexed.{linked}
-use Rattle.krs_links.proofs.PlacesLemmas.{serial_at_named, none_at}
+use Rattle.krs_links.proofs.PlacesLemmas.{none_at, serial_at_named}
 use Rattle.krs_links.proofs.lists.find.Goals as goal
 
 pub returns-in-Some : goal.returns-in-Some

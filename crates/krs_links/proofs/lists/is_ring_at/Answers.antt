@@ -1,6 +1,6 @@
 use Rattle.std.proofs.Common.{sym}
 use Rattle.krs_links.specs.Indexed.{linked}
-use Rattle.krs_links.proofs.IndexLemmas.{rings_one_more, link_named_at, names_within}
+use Rattle.krs_links.proofs.IndexLemmas.{link_named_at, names_within, rings_one_more}
 use Rattle.krs_links.proofs.lists.is_ring_at.Goals as goal
 
 pub returns-in-Some : goal.returns-in-Some

@@ -1,8 +1,7 @@
-use Rattle.std.proofs.Common.{◌∙◌, length, sym, ap, arith}
-use Rattle.krs_links.specs.Links.{LinkList, nested, serials}
-use Rattle.krs_links.specs.Indexed.{linked}
+use Rattle.std.proofs.Common.{◌∙◌, ap, arith, length, sym}
+use Rattle.krs_links.specs.{Indexed.linked, Links.{LinkList, nested, serials}}
 use Rattle.krs_links.proofs.IndexLemmas.{link_named_at, no_link_at}
-use Rattle.krs_links.proofs.PlacesLemmas.{ring_within_at, rings_removed_at, rings_stay_removed_at, removed_past}
+use Rattle.krs_links.proofs.PlacesLemmas.{removed_past, ring_within_at, rings_removed_at, rings_stay_removed_at}
 use Rattle.krs_links.proofs.lists.remove_ring_at.Goals as goal
 
 pub remove-requires : goal.remove-requires

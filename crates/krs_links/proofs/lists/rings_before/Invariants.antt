@@ -1,6 +1,5 @@
 use Rattle.std.proofs.Common.{◌≡◌, ◌≤◌, length, take}
-use Rattle.krs_links.specs.Links.{nested}
-use Rattle.krs_links.specs.Indexed.{linked}
+use Rattle.krs_links.specs.{Indexed.linked, Links.nested}
 use Rattle.krs_links.proofs.lists.rings_before.Given as goal
 
 -- the keyrings so far are counted, and they are no more than the links so far

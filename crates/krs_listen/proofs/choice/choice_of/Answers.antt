@@ -1,4 +1,4 @@
-use Rattle.std.specs.Prelude.{option_map, string_bytes}
+use Rattle.std.proofs.Common.{option_map, string_bytes}
 use Rattle.krs_listen.proofs.choice.choice_of.Goals as goal
 
 pub returns-in-Err-clause-told : goal.returns-in-Err-clause-told

@@ -1,5 +1,4 @@
-use Rattle.std.proofs.Common.{◌≡◌, map, rules}
-use Rattle.std.specs.Prelude.{string_bytes}
+use Rattle.std.proofs.Common.{◌≡◌, map, rules, string_bytes}
 use Rattle.krs_listen.proofs.CommandLineLemmas.{leads_of_read}
 use Rattle.krs_listen.proofs.choice.choice_of_all.Goals as goal
 

@@ -1,9 +1,8 @@
-use Rattle.std.proofs.Common.{◌≡◌, ◌∙◌, rules, ap, sym, Some, codes}
-use Rattle.std.specs.Prelude.{string_bytes}
-use Rattle.std.specs.Str.Parse.{ParsesUnsigned, ExplainsUnsignedError, HasUnsignedDigitsIfOk}
+use Rattle.std.proofs.Common.{◌∙◌, ◌≡◌, ap, codes, rules, Some, string_bytes, sym}
 use Rattle.clap.specs.Words.{first_value, found_of, one_text}
+use Rattle.std.specs.Str.Parse.{ExplainsUnsignedError, HasUnsignedDigitsIfOk, ParsesUnsigned}
 use Rattle.krs_listen.specs.CommandLine.{IsGiven}
-use Rattle.krs_listen.proofs.CommandLineLemmas.{is_given, some_weaker, gives_made}
+use Rattle.krs_listen.proofs.CommandLineLemmas.{gives_made, is_given, some_weaker}
 use Rattle.krs_listen.proofs.choice.options_of.Goals as goal
 
 pub returns : goal.returns

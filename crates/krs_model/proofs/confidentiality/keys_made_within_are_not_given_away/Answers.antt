@@ -1,5 +1,4 @@
-use Rattle.krs_model.proofs.Isolation.Births.{step_births}
-use Rattle.krs_model.proofs.Isolation.Steps.{alone_not_given}
+use Rattle.krs_model.proofs.Isolation.{Births.step_births, Steps.alone_not_given}
 use Rattle.krs_model.proofs.confidentiality.keys_made_within_are_not_given_away.Goals as goal
 
 pub returns-clause-made : goal.returns-clause-made

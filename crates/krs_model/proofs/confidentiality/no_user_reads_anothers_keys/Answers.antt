@@ -1,4 +1,4 @@
-use Rattle.krs_model.proofs.Isolation.Histories.{keeps_to_itself, keeps_from_nothing, end_alone}
+use Rattle.krs_model.proofs.Isolation.Histories.{end_alone, keeps_from_nothing, keeps_to_itself}
 use Rattle.krs_model.proofs.confidentiality.no_user_reads_anothers_keys.Goals as goal
 
 pub returns-clause-sound : goal.returns-clause-sound

@@ -1,4 +1,4 @@
-use Rattle.krs_model.proofs.History.Determined.{one_step, one_reply, one_history}
+use Rattle.krs_model.proofs.History.Determined.{one_history, one_reply, one_step}
 use Rattle.krs_model.proofs.laws.a_reply_leads_to_one_state.Goals as goal
 
 pub returns-clause-step : goal.returns-clause-step

@@ -1,5 +1,5 @@
 use Rattle.krs_model.specs.State.{starting_at}
-use Rattle.krs_model.proofs.Sound.Steps.{start_sound, legal_sound}
+use Rattle.krs_model.proofs.Sound.Steps.{legal_sound, start_sound}
 use Rattle.krs_model.proofs.laws.histories_end_sound.Goals as goal
 
 pub returns : goal.returns

@@ -1,4 +1,4 @@
-use Rattle.krs_model.proofs.History.Determined.{legal_moves, one_moves, moves_legal}
+use Rattle.krs_model.proofs.History.Determined.{legal_moves, moves_legal, one_moves}
 use Rattle.krs_model.proofs.laws.histories_move_queues.Goals as goal
 
 pub returns-clause-some : goal.returns-clause-some

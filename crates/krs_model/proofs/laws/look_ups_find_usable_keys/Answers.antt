@@ -1,5 +1,4 @@
-use Rattle.krs_model.proofs.Lookups.Laws.{look_up_usable}
-use Rattle.krs_model.proofs.Lookups.Serials.{found_serial}
+use Rattle.krs_model.proofs.Lookups.{Laws.look_up_usable, Serials.found_serial}
 use Rattle.krs_model.proofs.laws.look_ups_find_usable_keys.Goals as goal
 
 pub returns-clause-named : goal.returns-clause-named

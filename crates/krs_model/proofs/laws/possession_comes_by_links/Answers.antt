@@ -1,7 +1,6 @@
-use Rattle.std.proofs.Common.{suc, arith}
-use Rattle.krs_model.specs.Levels.{search_depth}
-use Rattle.krs_model.specs.Possession.{followed_in, attached, possessed}
-use Rattle.krs_model.proofs.Reach.Levels.{levels_linked, in_level, of_level}
+use Rattle.std.proofs.Common.{arith, suc}
+use Rattle.krs_model.specs.{Levels.search_depth, Possession.{attached, followed_in, possessed}}
+use Rattle.krs_model.proofs.Reach.Levels.{in_level, levels_linked, of_level}
 use Rattle.krs_model.proofs.laws.possession_comes_by_links.Goals as goal
 
 pub returns-clause-links : goal.returns-clause-links

@@ -1,5 +1,4 @@
-use Rattle.krs_model.proofs.Asks.Effects.{effect_of}
-use Rattle.krs_model.proofs.Notes.Order.{notes_by_queue, ended_rising}
+use Rattle.krs_model.proofs.{Asks.Effects.effect_of, Notes.Order.{ended_rising, notes_by_queue}}
 use Rattle.krs_model.proofs.laws.records_go_out_in_order.Goals as goal
 
 pub returns-clause-notes : goal.returns-clause-notes

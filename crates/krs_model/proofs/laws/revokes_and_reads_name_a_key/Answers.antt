@@ -1,4 +1,4 @@
-use Rattle.krs_model.proofs.History.Revocations.{revoke_of_key, read_of_key}
+use Rattle.krs_model.proofs.History.Revocations.{read_of_key, revoke_of_key}
 use Rattle.krs_model.proofs.laws.revokes_and_reads_name_a_key.Goals as goal
 
 pub returns-clause-revokes : goal.returns-clause-revokes

@@ -1,4 +1,4 @@
-use Rattle.krs_model.proofs.Reach.Searches.{found_is_first, refused_has_none, refused_faults}
+use Rattle.krs_model.proofs.Reach.Searches.{found_is_first, refused_faults, refused_has_none}
 use Rattle.krs_model.proofs.laws.searches_go_by_levels.Goals as goal
 
 pub returns-clause-found : goal.returns-clause-found

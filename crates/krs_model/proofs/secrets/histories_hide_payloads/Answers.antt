@@ -1,4 +1,4 @@
-use Rattle.krs_model.proofs.Hiding.Steps.{history_blinded, blinded_legal}
+use Rattle.krs_model.proofs.Hiding.Steps.{blinded_legal, history_blinded}
 use Rattle.krs_model.proofs.secrets.histories_hide_payloads.Goals as goal
 
 pub returns : goal.returns

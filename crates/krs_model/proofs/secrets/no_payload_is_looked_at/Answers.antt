@@ -1,6 +1,4 @@
-use Rattle.krs_model.proofs.Hiding.Lookups.{same_possessed}
-use Rattle.krs_model.proofs.Hiding.Searches.{same_found, same_requested}
-use Rattle.krs_model.proofs.Hiding.Sweeps.{sweep_blind}
+use Rattle.krs_model.proofs.Hiding.{Lookups.same_possessed, Searches.{same_found, same_requested}, Sweeps.sweep_blind}
 use Rattle.krs_model.proofs.secrets.no_payload_is_looked_at.Goals as goal
 
 pub returns : goal.returns

@@ -1,5 +1,4 @@
-use Rattle.krs_model.proofs.Hiding.Gone.{tells_nobody, revoked_gone, stays_gone}
-use Rattle.krs_model.proofs.Hiding.Invalidated.{invalidated_gone}
+use Rattle.krs_model.proofs.Hiding.{Gone.{revoked_gone, stays_gone, tells_nobody}, Invalidated.invalidated_gone}
 use Rattle.krs_model.proofs.secrets.payloads_of_gone_keys_are_told_to_nobody.Goals as goal
 
 pub returns : goal.returns

@@ -1,8 +1,5 @@
-use Rattle.std.proofs.Common.{◌≡◌, ℕ, List, ◌++◌, length, drop, Some, true, false, refl, sym, ap, ◌∙◌}
-use Rattle.std.proofs.lemmas.Bool.{true≢false}
-use Rattle.std.proofs.lemmas.Option.{none-some}
-use Rattle.std.proofs.lemmas.Bool.Decides.{Decides-eqb}
-use Rattle.std.proofs.lemmas.Slice.Eq.{starts_is}
+use Rattle.std.proofs.Common.{◌++◌, ◌∙◌, ◌≡◌, ap, drop, false, length, List, refl, Some, sym, true, true≢false, ℕ}
+use Rattle.std.proofs.lemmas.{Bool.Decides.Decides-eqb, Option.none-some, Slice.Eq.starts_is}
 use Rattle.krs_model.specs.Notes.Bytes.{bytes_of}
 use Rattle.krs_notes.proofs.Guessing.{guess-begins}
 use Rattle.krs_notes.proofs.codec.decode.Goals as goal

@@ -1,4 +1,4 @@
-use Rattle.std.proofs.Common.{refl, arith}
+use Rattle.std.proofs.Common.{arith, refl}
 use Rattle.krs_model.proofs.Notes.Bytes.{bytes_of-Removal}
 use Rattle.krs_notes.proofs.codec.removal_bytes.Goals as goal
 

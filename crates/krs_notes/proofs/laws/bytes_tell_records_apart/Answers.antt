@@ -1,5 +1,5 @@
 use Rattle.krs_model.proofs.Notes.Bytes.{spelled_once}
-use Rattle.krs_notes.proofs.SpellingLemmas.{each_is_spelled, one_spelling, none_begins_another}
+use Rattle.krs_notes.proofs.SpellingLemmas.{each_is_spelled, none_begins_another, one_spelling}
 use Rattle.krs_notes.proofs.laws.bytes_tell_records_apart.Goals as goal
 
 pub returns-clause-spelled : goal.returns-clause-spelled

@@ -1,4 +1,4 @@
-use Rattle.std.proofs.Common.{rules, ◌≡◌, length}
+use Rattle.std.proofs.Common.{◌≡◌, length, rules}
 use Rattle.krs_wire.specs.Reply.{shape_of}
 use Rattle.krs_remote.proofs.HeadLemmas.{bad_head, good_told, not_memory}
 use Rattle.krs_remote.proofs.asking.announced.Goals as goal

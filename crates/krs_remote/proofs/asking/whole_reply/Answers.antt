@@ -1,6 +1,5 @@
 use Rattle.krs_wire.specs.Reply.{shape_of}
-use Rattle.krs_remote.proofs.HeadLemmas.{not_memory}
-use Rattle.krs_remote.proofs.WholeLemmas.{not_none, only_memory, no_other}
+use Rattle.krs_remote.proofs.{HeadLemmas.not_memory, WholeLemmas.{no_other, not_none, only_memory}}
 use Rattle.krs_remote.proofs.asking.whole_reply.Goals as goal
 
 pub returns-in-Ok-None-clause-none : goal.returns-in-Ok-None-clause-none

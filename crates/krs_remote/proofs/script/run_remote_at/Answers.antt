@@ -1,4 +1,4 @@
-use Rattle.std.proofs.Common.{rules, ap}
+use Rattle.std.proofs.Common.{ap, rules}
 use Rattle.krs_remote.specs.Remote.{talk_of}
 use Rattle.krs_remote.proofs.EndingLemmas.{ends_remote}
 use Rattle.krs_remote.proofs.script.run_remote_at.Goals as goal

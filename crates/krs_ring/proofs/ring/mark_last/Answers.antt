@@ -1,5 +1,5 @@
 use Rattle.std.proofs.Common.{arith}
-use Rattle.krs_ring.proofs.SlotsLemmas.{last-marked, has_last}
+use Rattle.krs_ring.proofs.SlotsLemmas.{has_last, last-marked}
 use Rattle.krs_ring.proofs.ring.mark_last.Goals as goal
 
 pub returns-in-Some : goal.returns-in-Some

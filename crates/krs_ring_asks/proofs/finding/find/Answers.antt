@@ -1,8 +1,5 @@
-use Rattle.std.proofs.Common.{◌≡◌, ap, sym, ◌∙◌, subst}
-use Rattle.krs_model.specs.State.{State}
-use Rattle.krs_model.specs.Possession.{process_ring}
-use Rattle.krs_model.specs.Search.{found_with, found}
-use Rattle.krs_model.specs.Outcome.{Is}
+use Rattle.std.proofs.Common.{◌∙◌, ◌≡◌, ap, subst, sym}
+use Rattle.krs_model.specs.{Outcome.Is, Possession.process_ring, Search.{found, found_with}, State.State}
 use Rattle.krs_walk.proofs.FindingLemmas.{found_is}
 use Rattle.krs_tables.specs.View.{state_of}
 use Rattle.krs_ring_asks.proofs.finding.find.Goals as goal

@@ -1,8 +1,5 @@
-use Rattle.std.proofs.Common.{◌≡◌, ap, sym, ◌∙◌, subst}
-use Rattle.krs_model.specs.State.{State}
-use Rattle.krs_model.specs.Possession.{process_ring}
-use Rattle.krs_model.specs.Search.{requested_with, requested}
-use Rattle.krs_model.specs.Outcome.{Is}
+use Rattle.std.proofs.Common.{◌∙◌, ◌≡◌, ap, subst, sym}
+use Rattle.krs_model.specs.{Outcome.Is, Possession.process_ring, Search.{requested, requested_with}, State.State}
 use Rattle.krs_walk.proofs.FindingLemmas.{requested_is}
 use Rattle.krs_tables.specs.View.{state_of}
 use Rattle.krs_ring_asks.proofs.finding.find_attached.Goals as goal

@@ -1,10 +1,6 @@
-use Rattle.std.proofs.Common.{Result, sym, subst}
-use Rattle.std.specs.Int.{w32}
-use Rattle.std.proofs.lemmas.Int.{to_z-of_z}
-use Rattle.krs_types.specs.declared.errno.Errno.{Errno}
-use Rattle.krs_types.specs.declared.name.Name.{Name}
-use Rattle.krs_model.specs.Outcome.{Leads}
-use Rattle.krs_model.specs.Asks.Finding.{request}
+use Rattle.std.proofs.{Common.{Result, subst, sym, w32}, lemmas.Int.to_z-of_z}
+use Rattle.krs_types.specs.declared.{errno.Errno.Errno, name.Name.Name}
+use Rattle.krs_model.specs.{Asks.Finding.request, Outcome.Leads}
 use Rattle.krs_ring_asks.specs.Found.{request_named}
 use Rattle.krs_ring_asks.proofs.SearchAndRequest.{as_sought}
 use Rattle.krs_ring_asks.proofs.finding.request.Goals as goal

@@ -1,16 +1,11 @@
-use Rattle.std.proofs.Common.{◌≡◌, ap, sym, ◌∙◌, subst, ℕ, Ok, Err}
-use Rattle.std.specs.Int.{w32}
-use Rattle.std.proofs.lemmas.Int.{to_z-of_z}
-use Rattle.std.proofs.lemmas.Result.{err_from_is_err_and}
-use Rattle.krs_model.specs.State.{Key}
-use Rattle.krs_model.specs.Lookup.{look_up}
-use Rattle.krs_model.specs.Outcome.{Leads}
-use Rattle.krs_types.specs.declared.rights.Want.TheVariants.{Granted}
-use Rattle.krs_types.specs.Rights.{WRITE}
+use Rattle.std.proofs.Common.{◌∙◌, ◌≡◌, ap, Err, Ok, subst, sym, w32, ℕ}
+use Rattle.std.proofs.lemmas.{Int.to_z-of_z, Result.err_from_is_err_and}
+use Rattle.krs_types.specs.{Rights.WRITE, declared.rights.Want.TheVariants.Granted}
+use Rattle.krs_model.specs.{Lookup.look_up, Outcome.Leads, State.Key}
 use Rattle.krs_keys.specs.Keys.{seen}
-use Rattle.krs_ring_asks.proofs.LinkAndUnlink.{found_ring, found_is_ring}
-use Rattle.krs_ring_asks.proofs.SearchAndRequest.{seeks, search_links, search_unlooked, search_no_ring, wanted_of}
-use Rattle.krs_ring_asks.proofs.SearchWithMade.{seeks_new, search_new_refused, search_new_links}
+use Rattle.krs_ring_asks.proofs.LinkAndUnlink.{found_is_ring, found_ring}
+use Rattle.krs_ring_asks.proofs.SearchAndRequest.{search_links, search_no_ring, search_unlooked, seeks, wanted_of}
+use Rattle.krs_ring_asks.proofs.SearchWithMade.{search_new_links, search_new_refused, seeks_new}
 use Rattle.krs_ring_asks.proofs.finding.search_named.Goals as goal
 
 pub link_found-requires : goal.link_found-requires

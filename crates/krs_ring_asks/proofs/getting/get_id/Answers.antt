@@ -1,10 +1,7 @@
-use Rattle.std.proofs.Common.{ap, ◌∙◌, subst, sym, Some}
-use Rattle.std.specs.Int.{w32}
-use Rattle.std.proofs.lemmas.Int.{to_z-of_z}
-use Rattle.krs_model.specs.Outcome.{Leads}
-use Rattle.krs_model.specs.Asks.Finding.{get_id}
+use Rattle.std.proofs.{Common.{◌∙◌, ap, Some, subst, sym, w32}, lemmas.Int.to_z-of_z}
+use Rattle.krs_model.specs.{Asks.Finding.get_id, Outcome.Leads}
 use Rattle.krs_tables.specs.Specials.{Makes}
-use Rattle.krs_tables.proofs.MadeFor.{is_new, got_made}
+use Rattle.krs_tables.proofs.MadeFor.{got_made, is_new}
 use Rattle.krs_ring_asks.proofs.getting.get_id.Goals as goal
 
 pub returns-in-Some-clause-step : goal.returns-in-Some-clause-step

@@ -1,8 +1,7 @@
 use Rattle.std.proofs.Common.{◌∙◌, ap}
-use Rattle.krs_model.specs.State.{State}
-use Rattle.krs_model.specs.Asks.Invalidating.{invalidated}
+use Rattle.krs_model.specs.{Asks.Invalidating.invalidated, State.State}
 use Rattle.krs_tables.specs.View.{state_of}
-use Rattle.krs_ring_asks.proofs.Detaching.{unattached_told, unattached_once}
+use Rattle.krs_ring_asks.proofs.Detaching.{unattached_once, unattached_told}
 use Rattle.krs_ring_asks.proofs.invalidating.detach_attached.Goals as goal
 
 pub invariant_of-tables : goal.invariant_of-tables

@@ -1,6 +1,5 @@
 use Rattle.std.proofs.Common.{◌∙◌, ap}
-use Rattle.krs_model.specs.State.{State}
-use Rattle.krs_model.specs.Asks.Invalidating.{invalidated}
+use Rattle.krs_model.specs.{Asks.Invalidating.invalidated, State.State}
 use Rattle.krs_ring_asks.proofs.KeyDetached.{detached_told}
 use Rattle.krs_ring_asks.proofs.invalidating.detach_whole.Goals as goal
 

@@ -1,7 +1,5 @@
-use Rattle.std.proofs.Common.{◌≡◌, ℕ, nat_lt, false, ◌∙◌, sym, subst, arith}
-use Rattle.std.proofs.lemmas.Bool.Decides.{nat_tests}
-use Rattle.krs_model.specs.State.{State}
-use Rattle.krs_model.specs.Asks.Invalidating.{invalidated}
+use Rattle.std.proofs.{Common.{◌∙◌, ◌≡◌, arith, false, nat_lt, subst, sym, ℕ}, lemmas.Bool.Decides.nat_tests}
+use Rattle.krs_model.specs.{Asks.Invalidating.invalidated, State.State}
 use Rattle.krs_tables.specs.View.{state_of}
 use Rattle.krs_ring_asks.proofs.Detaching.{unheld_is_out}
 use Rattle.krs_ring_asks.proofs.invalidating.is_held.Goals as goal

@@ -1,8 +1,6 @@
-use Rattle.std.proofs.Common.{◌∙◌, ap, ℕ, Option}
-use Rattle.krs_types.specs.declared.context.Context.{Context}
-use Rattle.krs_types.specs.declared.context.UidRings.{UidRings}
-use Rattle.krs_model.specs.Table.{Table}
-use Rattle.krs_model.specs.Sweep.{context_roots, process_roots, uid_roots}
+use Rattle.std.proofs.Common.{◌∙◌, ap, Option, ℕ}
+use Rattle.krs_types.specs.declared.context.{Context.Context, UidRings.UidRings}
+use Rattle.krs_model.specs.{Sweep.{context_roots, process_roots, uid_roots}, Table.Table}
 use Rattle.krs_hold.specs.Tally.{all_less}
 use Rattle.krs_ring_asks.specs.Detached.{those}
 use Rattle.krs_ring_asks.proofs.Detaching.{less_attached}

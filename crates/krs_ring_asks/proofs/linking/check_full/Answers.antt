@@ -1,4 +1,4 @@
-use Rattle.std.proofs.Common.{◌≡◌, ap, sym, ◌∙◌, subst, Ok, Err, Bool, cond}
+use Rattle.std.proofs.Common.{◌∙◌, ◌≡◌, ap, Bool, cond, Err, Ok, subst, sym}
 use Rattle.krs_types.specs.declared.errno.Errno.TheVariants.{ENFILE}
 use Rattle.krs_model.specs.State.{State}
 use Rattle.krs_tables.specs.Linked.{room_in}

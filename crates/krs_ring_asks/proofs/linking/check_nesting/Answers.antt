@@ -1,9 +1,6 @@
-use Rattle.std.proofs.Common.{◌≡◌, ap, sym, ◌∙◌, subst, refl, false, Ok}
-use Rattle.krs_model.specs.Reach.{closes}
+use Rattle.std.proofs.Common.{◌∙◌, ◌≡◌, ap, false, Ok, refl, subst, sym}
+use Rattle.krs_model.specs.{Asks.{Adding.IsKeyringAt, Linked.nestable}, Reach.closes, State.State}
 use Rattle.krs_keys.specs.Keys.{seen, seen_content, shown}
-use Rattle.krs_model.specs.State.{State}
-use Rattle.krs_model.specs.Asks.Adding.{IsKeyringAt}
-use Rattle.krs_model.specs.Asks.Linked.{nestable}
 use Rattle.krs_tables.proofs.Links.{is_keyring}
 use Rattle.krs_ring_asks.proofs.PayloadLinks.{payload_nests}
 use Rattle.krs_ring_asks.proofs.linking.check_nesting.Goals as goal

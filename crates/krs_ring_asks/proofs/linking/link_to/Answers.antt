@@ -1,11 +1,10 @@
-use Rattle.std.proofs.Common.{◌≡◌, sym, refl, ℕ, None, Ok, Err}
-use Rattle.std.proofs.lemmas.Result.{err_from_is_err_and}
-use Rattle.krs_model.specs.State.{Key}
-use Rattle.krs_model.specs.Asks.Linked.{name_of, nestable}
+use Rattle.std.proofs.{Common.{◌≡◌, Err, None, Ok, refl, sym, ℕ}, lemmas.Result.err_from_is_err_and}
+use Rattle.krs_model.specs.{Asks.Linked.{name_of, nestable}, State.Key}
 use Rattle.krs_keys.specs.Keys.{seen}
 use Rattle.krs_tables.specs.Linked.{Puts}
-use Rattle.krs_ring_asks.proofs.LinkAndUnlink.{looks_up, ring_looked_up, key_looked_up, put_under, link_done, link_failed}
 use Rattle.krs_tables.proofs.MadeFor.{makes_own}
+use Rattle.krs_ring_asks.proofs.LinkAndUnlink.{key_looked_up, link_done, link_failed, looks_up, put_under}
+use Rattle.krs_ring_asks.proofs.LinkAndUnlink.{ring_looked_up}
 use Rattle.krs_ring_asks.proofs.linking.link_to.Goals as goal
 
 pub check_nesting-requires-clause-ring : goal.check_nesting-requires-clause-ring

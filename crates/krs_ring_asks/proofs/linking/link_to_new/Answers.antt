@@ -1,16 +1,10 @@
-use Rattle.std.proofs.Common.{◌≡◌, ap, refl, subst, sym, ◌∙◌, ℕ, true, false, Some, Ok, Err}
-use Rattle.std.specs.Int.{w32}
-use Rattle.std.proofs.lemmas.Int.{to_z-of_z}
-use Rattle.std.proofs.lemmas.Result.{err_from_is_err_and}
-use Rattle.krs_types.specs.declared.ask.Answer.TheVariants.{Nothing}
-use Rattle.krs_types.specs.declared.rights.Want.TheVariants.{Granted}
-use Rattle.krs_types.specs.Rights.{LINK}
-use Rattle.krs_model.specs.State.{Key}
-use Rattle.krs_model.specs.Lookup.{look_up}
-use Rattle.krs_model.specs.Outcome.{Leads}
+use Rattle.std.proofs.Common.{◌∙◌, ◌≡◌, ap, Err, false, Ok, refl, Some, subst, sym, true, w32, ℕ}
+use Rattle.std.proofs.lemmas.{Int.to_z-of_z, Result.err_from_is_err_and}
+use Rattle.krs_types.specs.{Rights.LINK, declared.{ask.Answer.TheVariants.Nothing, rights.Want.TheVariants.Granted}}
+use Rattle.krs_model.specs.{Lookup.look_up, Outcome.Leads, State.Key}
 use Rattle.krs_keys.specs.Keys.{seen}
 use Rattle.krs_tables.specs.Specials.{is_coming, linking_made}
-use Rattle.krs_tables.proofs.MadeFor.{makes_own, is_new, link_to_itself, link_unlooked, link_linking}
+use Rattle.krs_tables.proofs.MadeFor.{is_new, link_linking, link_to_itself, link_unlooked, makes_own}
 use Rattle.krs_ring_asks.proofs.linking.link_to_new.Goals as goal
 
 pub returns-then-is_coming : goal.returns-then-is_coming

@@ -1,21 +1,13 @@
-use Rattle.std.proofs.Common.{◌≡◌, ◌<◌, ◌-◌, ◌^◌, ℕ, ap, sym, ◌∙◌, subst, true≢false, Option, Some}
-use Rattle.std.specs.Option.{IsSome}
-use Rattle.krs_model.specs.State.{State}
-use Rattle.krs_model.specs.Linking.{linking}
-use Rattle.krs_model.specs.Asks.Changing.{changed}
+use Rattle.std.proofs.Common.{◌-◌, ◌<◌, ◌^◌, ◌∙◌, ◌≡◌, ap, IsSome, Option, option_to_list, Some, subst, sym, true≢false}
+use Rattle.std.proofs.Common.{ℕ}
+use Rattle.krs_model.specs.Asks.Adding.{IsKeyringAt}
+use Rattle.krs_model.specs.{Asks.Changing.changed, Linking.linking, State.State, Sweep.roots, Table.Table}
 use Rattle.krs_keys.specs.Keys.{shown}
 use Rattle.krs_keys.proofs.KindsLemmas.{kinds_alter, linked_kind}
-use Rattle.krs_tables.specs.View.{state_of}
-use Rattle.krs_tables.specs.Linked.{name_in, displaced_in}
-use Rattle.krs_tables.specs.Holding.{holders_in}
+use Rattle.krs_hold.specs.Tally.{all_less, AreExact}
+use Rattle.krs_tables.specs.{Holding.holders_in, Linked.{displaced_in, name_in}, View.state_of}
 use Rattle.krs_tables.proofs.CountRoom.{room_told}
-use Rattle.std.specs.Option.{option_to_list}
-use Rattle.krs_model.specs.Table.{Table}
-use Rattle.krs_model.specs.Sweep.{roots}
-use Rattle.krs_model.specs.Asks.Adding.{IsKeyringAt}
-use Rattle.krs_hold.specs.Tally.{AreExact, all_less}
-use Rattle.krs_tables.proofs.OwedHolders.{linked_tallied}
-use Rattle.krs_tables.proofs.Links.{name_kept, fit_linked, shown_linked, displaced_told}
+use Rattle.krs_tables.proofs.{Links.{displaced_told, fit_linked, name_kept, shown_linked}, OwedHolders.linked_tallied}
 use Rattle.krs_ring_asks.proofs.linking.put_named.Goals as goal
 
 pub invariant_of-tables : goal.invariant_of-tables

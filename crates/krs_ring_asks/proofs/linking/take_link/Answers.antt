@@ -1,19 +1,11 @@
-use Rattle.std.proofs.Common.{◌≡◌, ℕ, ap, sym, ◌∙◌, subst, refl, true, false}
-use Rattle.krs_model.specs.Table.{Table}
-use Rattle.krs_model.specs.State.{State}
-use Rattle.krs_model.specs.Levels.{is_in}
-use Rattle.krs_model.specs.Reach.{links_of_key_at}
-use Rattle.krs_model.specs.Sweep.{roots}
-use Rattle.krs_model.specs.Asks.Changing.{changed}
-use Rattle.krs_model.specs.Asks.Linked.{without_link}
-use Rattle.krs_keys.specs.Keys.{shown}
-use Rattle.krs_keys.specs.Table.{Keys}
-use Rattle.krs_keys.proofs.KindsLemmas.{kinds_alter, keyless_kind}
-use Rattle.krs_keys.proofs.Unlinking.{fit-keyless, shown-keyless}
+use Rattle.std.proofs.Common.{◌∙◌, ◌≡◌, ap, false, refl, subst, sym, true, ℕ}
+use Rattle.krs_model.specs.Asks.{Changing.changed, Linked.without_link}
+use Rattle.krs_model.specs.{Levels.is_in, Reach.links_of_key_at, State.State, Sweep.roots, Table.Table}
+use Rattle.krs_keys.specs.{Keys.shown, Table.Keys}
+use Rattle.krs_keys.proofs.{KindsLemmas.{keyless_kind, kinds_alter}, Unlinking.{fit-keyless, shown-keyless}}
 use Rattle.krs_hold.specs.Tally.{AreExact}
 use Rattle.krs_tables.specs.View.{state_of}
-use Rattle.krs_tables.proofs.OwedHolders.{unlinked_tallied}
-use Rattle.krs_tables.proofs.Links.{linked_told}
+use Rattle.krs_tables.proofs.{Links.linked_told, OwedHolders.unlinked_tallied}
 use Rattle.krs_ring_asks.proofs.linking.take_link.Goals as goal
 
 pub returns-then-not-unlink : goal.returns-then-not-unlink

@@ -1,8 +1,5 @@
-use Rattle.std.proofs.Common.{sym, rules, ℕ, Ok, Err}
-use Rattle.std.specs.Option.{IsSome}
-use Rattle.std.proofs.lemmas.Result.{err_from_is_err_and}
-use Rattle.krs_model.specs.Table.{at}
-use Rattle.krs_model.specs.State.{Key}
+use Rattle.std.proofs.{Common.{Err, IsSome, Ok, rules, sym, ℕ}, lemmas.Result.err_from_is_err_and}
+use Rattle.krs_model.specs.{State.Key, Table.at}
 use Rattle.krs_keys.specs.Keys.{seen}
 use Rattle.krs_tables.specs.Linked.{Takes}
 use Rattle.krs_ring_asks.proofs.LinkAndUnlink.{looks_for, unlink_done, unlink_failed}

@@ -1,8 +1,6 @@
-use Rattle.std.proofs.Common.{◌≡◌, ap, sym, ◌∙◌, subst, Bool, cond, Ok, Err}
+use Rattle.std.proofs.Common.{◌∙◌, ◌≡◌, ap, Bool, cond, Err, Ok, subst, sym}
 use Rattle.krs_types.specs.declared.errno.Errno.TheVariants.{ENOENT}
-use Rattle.krs_model.specs.State.{State}
-use Rattle.krs_model.specs.Reach.{links_of_key_at}
-use Rattle.krs_model.specs.Asks.Linked.{if_linked}
+use Rattle.krs_model.specs.{Asks.Linked.if_linked, Reach.links_of_key_at, State.State}
 use Rattle.krs_tables.proofs.Links.{linked_told}
 use Rattle.krs_ring_asks.proofs.moving.check_linked.Goals as goal
 

@@ -1,9 +1,5 @@
-use Rattle.std.proofs.Common.{◌≡◌, ap, sym, ◌∙◌, subst, ℕ, Some}
-use Rattle.std.specs.Int.{w32}
-use Rattle.std.proofs.lemmas.Int.{to_z-of_z}
-use Rattle.krs_model.specs.State.{Key}
-use Rattle.krs_model.specs.Making.{made_for}
-use Rattle.krs_model.specs.Outcome.{Leads}
+use Rattle.std.proofs.{Common.{◌∙◌, ◌≡◌, ap, Some, subst, sym, w32, ℕ}, lemmas.Int.to_z-of_z}
+use Rattle.krs_model.specs.{Making.made_for, Outcome.Leads, State.Key}
 use Rattle.krs_keys.specs.Keys.{seen}
 use Rattle.krs_tables.specs.Specials.{Makes}
 use Rattle.krs_tables.proofs.MadeFor.{is_new}

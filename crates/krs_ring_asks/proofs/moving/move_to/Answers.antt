@@ -1,18 +1,10 @@
-use Rattle.std.proofs.Common.{◌≡◌, ◌==◌, ap, sym, ◌∙◌, ℕ, rules, false, Some, Ok}
-use Rattle.std.specs.Int.{w32}
-use Rattle.std.proofs.lemmas.Int.{to_z-of_z}
-use Rattle.std.proofs.lemmas.Result.{err_from_is_err_and}
-use Rattle.krs_types.specs.declared.errno.Errno.TheVariants.{EEXIST}
-use Rattle.krs_types.specs.declared.rights.Want.TheVariants.{Granted}
-use Rattle.krs_types.specs.Rights.{WRITE}
-use Rattle.krs_model.specs.Table.{at}
-use Rattle.krs_model.specs.State.{Key}
-use Rattle.krs_model.specs.Lookup.{look_up}
-use Rattle.krs_model.specs.Reach.{links_of_key_at}
-use Rattle.krs_model.specs.Asks.Linked.{nestable}
+use Rattle.std.proofs.Common.{◌==◌, ◌∙◌, ◌≡◌, ap, false, Ok, rules, Some, sym, w32, ℕ}
+use Rattle.std.proofs.lemmas.{Int.to_z-of_z, Result.err_from_is_err_and}
+use Rattle.krs_types.specs.{Rights.WRITE, declared.{errno.Errno.TheVariants.EEXIST, rights.Want.TheVariants.Granted}}
+use Rattle.krs_model.specs.{Asks.Linked.nestable, Lookup.look_up, Reach.links_of_key_at, State.Key, Table.at}
 use Rattle.krs_keys.specs.Keys.{seen}
-use Rattle.krs_ring_asks.proofs.LinkAndUnlink.{found_ring, found_is_ring, ring_at_hand, open_ring, not_refused}
-use Rattle.krs_ring_asks.proofs.MovedLinks.{linked_is, free_told, MayMove, move_done, move_failed}
+use Rattle.krs_ring_asks.proofs.LinkAndUnlink.{found_is_ring, found_ring, not_refused, open_ring, ring_at_hand}
+use Rattle.krs_ring_asks.proofs.MovedLinks.{free_told, linked_is, MayMove, move_done, move_failed}
 use Rattle.krs_ring_asks.proofs.moving.move_to.Goals as goal
 
 pub check_nesting-requires-clause-ring : goal.check_nesting-requires-clause-ring

@@ -1,6 +1,5 @@
-use Rattle.std.proofs.Common.{Result, Ok, Err, OnErr}
-use Rattle.std.proofs.lemmas.Result.{err_from_is_err_and}
-use Rattle.krs_words.proofs.WritingLemmas.{WritesFront-before, WritesFront-after}
+use Rattle.std.proofs.{Common.{Err, Ok, OnErr, Result}, lemmas.Result.err_from_is_err_and}
+use Rattle.krs_words.proofs.WritingLemmas.{WritesFront-after, WritesFront-before}
 use Rattle.krs_script.proofs.ending.write_last.Goals as goal
 
 on_err : {A E : Type 0} (r : Result A E) (P Q : Type 0) → (P → Q) → OnErr r P → OnErr r Q

@@ -1,10 +1,9 @@
-use Rattle.std.proofs.Common.{◌≡◌, [], false, Some}
-use Rattle.std.proofs.lemmas.Result.{err_from_is_err_and}
-use Rattle.krs_words.proofs.WritingLemmas.{Prints-nil}
+use Rattle.std.proofs.{Common.{[], ◌≡◌, false, Some}, lemmas.Result.err_from_is_err_and}
 use Rattle.krs_words.specs.Words.{words_of}
+use Rattle.krs_words.proofs.WritingLemmas.{Prints-nil}
 use Rattle.krs_commands.specs.Command.{command_of}
 use Rattle.krs_script.specs.Running.{is_skipped}
-use Rattle.krs_script.proofs.RunningLemmas.{ObeysLine-broken, ObeysLine-command, TakesLine-empty, is_skipped-kept}
+use Rattle.krs_script.proofs.RunningLemmas.{is_skipped-kept, ObeysLine-broken, ObeysLine-command, TakesLine-empty}
 use Rattle.krs_script.proofs.running.obey.Goals as goal
 
 pub returns-then-is_empty-clause-obeyed : goal.returns-then-is_empty-clause-obeyed

@@ -1,5 +1,5 @@
 -- Without a buffer no line is read.
-use Rattle.std.proofs.Common.{inl, refl, arith}
+use Rattle.std.proofs.Common.{arith, inl, refl}
 use Rattle.krs_script.proofs.Going.{going_start, runs_unread}
 use Rattle.krs_script.proofs.running.run.Goals as goal
 

@@ -1,7 +1,6 @@
-use Rattle.std.proofs.Common.{Ok, ap, arith, refl, ◌∙◌}
-use Rattle.std.proofs.lemmas.Result.{err_from_is_err_and}
-use Rattle.krs_script.proofs.Going.{going_start, going_same, going_more, runs_at_line, runs_to_end, runs_unread}
-use Rattle.krs_script.proofs.Going.{runs_too_long, runs_unwritten}
+use Rattle.std.proofs.{Common.{◌∙◌, ap, arith, Ok, refl}, lemmas.Result.err_from_is_err_and}
+use Rattle.krs_script.proofs.Going.{going_more, going_same, going_start, runs_at_line, runs_to_end, runs_too_long}
+use Rattle.krs_script.proofs.Going.{runs_unread, runs_unwritten}
 use Rattle.krs_script.proofs.running.run_lines.Goals as goal
 
 pub loop-init : goal.loop-init

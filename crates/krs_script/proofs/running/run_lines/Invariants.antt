@@ -1,4 +1,4 @@
-use Rattle.std.specs.Prelude.{◌≡◌, ◌*◌, ◌≤◌}
+use Rattle.std.proofs.Common.{◌*◌, ◌≡◌, ◌≤◌}
 use Rattle.std.specs.Io.Buffered.{reader_remaining}
 use Rattle.krs_script.proofs.Going.{Going}
 use Rattle.krs_script.proofs.running.run_lines.Given as goal

@@ -1,5 +1,4 @@
-use Rattle.std.proofs.Common.{◌∙◌, ap, map}
-use Rattle.std.proofs.lemmas.Result.{IfOk-weaker}
+use Rattle.std.proofs.{Common.{◌∙◌, ap, map}, lemmas.Result.IfOk-weaker}
 use Rattle.krs_script.specs.Telling.{hinted_refusal}
 use Rattle.krs_script.proofs.telling.no_command.Goals as goal
 

@@ -1,6 +1,5 @@
-use Rattle.std.proofs.Common.{◌≡◌, ◌++◌, take}
+use Rattle.std.proofs.Common.{◌++◌, ◌≡◌, flat_map, take}
 use Rattle.std.specs.Char.Escape.{escape_ascii}
-use Rattle.std.specs.List.{flat_map}
 use Rattle.krs_script.proofs.telling.push_all_escaped.Given as goal
 
 -- the bytes so far are escaped

@@ -1,6 +1,5 @@
-use Rattle.std.proofs.Common.{◌≡◌, ◌++◌}
-use Rattle.std.specs.Char.Escape.{escape_ascii}
-use Rattle.std.specs.Char.Iter.{escape_byte_rest}
+use Rattle.std.proofs.Common.{◌++◌, ◌≡◌}
+use Rattle.std.specs.Char.{Escape.escape_ascii, Iter.escape_byte_rest}
 use Rattle.krs_script.proofs.telling.push_escaped.Given as goal
 
 -- with what is still to come of the byte the text is the whole

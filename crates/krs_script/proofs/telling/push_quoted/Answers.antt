@@ -1,5 +1,4 @@
-use Rattle.std.proofs.Common.{arith}
-use Rattle.std.proofs.lemmas.List.{length-take}
+use Rattle.std.proofs.Common.{arith, length-take}
 use Rattle.krs_script.proofs.telling.push_quoted.Goals as goal
 
 pub slice_bounds-front-end : goal.slice_bounds-front-end

@@ -1,5 +1,4 @@
-use Rattle.std.proofs.Common.{◌∙◌, ap}
-use Rattle.std.proofs.lemmas.Result.{IfOk-weaker}
+use Rattle.std.proofs.{Common.{◌∙◌, ap}, lemmas.Result.IfOk-weaker}
 use Rattle.krs_script.specs.Telling.{hint_text, hinted_text}
 use Rattle.krs_script.proofs.telling.text_of.Goals as goal
 

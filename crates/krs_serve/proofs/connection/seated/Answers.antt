@@ -1,10 +1,8 @@
-use Rattle.std.proofs.Common.{◌≡◌, [], ap, ◌∙◌, rules}
-use Rattle.std.proofs.lemmas.List.Elements.{All-pop, All-push}
+use Rattle.std.proofs.{Common.{[], ◌∙◌, ◌≡◌, ap, rules}, lemmas.List.Elements.{All-pop, All-push}}
 use Rattle.krs_model.specs.State.{starting_at}
-use Rattle.krs_desk.specs.Sitting.{Sitting, IsIdleAt}
+use Rattle.krs_desk.specs.Sitting.{IsIdleAt, Sitting}
 use Rattle.krs_serve.specs.Visits.{IsNew}
-use Rattle.krs_serve.proofs.OneDeskLemmas.{visited_none, just_none}
-use Rattle.krs_serve.proofs.connection.seated.Goals.{in-Some, in_default}
+use Rattle.krs_serve.proofs.{OneDeskLemmas.{just_none, visited_none}, connection.seated.Goals.{in-Some, in_default}}
 use Rattle.krs_serve.proofs.connection.seated.Goals as goal
 
 pub sitting_of-requires-clause-own : goal.sitting_of-requires-clause-own

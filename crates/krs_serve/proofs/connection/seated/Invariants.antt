@@ -1,4 +1,4 @@
-use Rattle.std.proofs.Common.{◌≡◌, ◌+◌, ◌≤◌, All, [], vec_len, vec_capacity}
+use Rattle.std.proofs.Common.{[], ◌+◌, ◌≡◌, ◌≤◌, All, vec_capacity, vec_len}
 use Rattle.krs_model.specs.State.{starting_at}
 use Rattle.krs_desk.specs.Sitting.{IsIdleAt}
 use Rattle.krs_serve.specs.Visits.{IsNew}

@@ -1,7 +1,6 @@
-use Rattle.std.specs.Prelude.{[], ◌∷◌, ◌++◌}
-use Rattle.std.proofs.Common.{◌∙◌}
+use Rattle.std.proofs.Common.{[], ◌++◌, ◌∙◌, ◌∷◌}
 use mathlib.Core.Logic.{∥∥₁_map}
-use Rattle.krs_serve.proofs.OneDeskLemmas.{visited_next, visit_of, not_none}
+use Rattle.krs_serve.proofs.OneDeskLemmas.{not_none, visit_of, visited_next}
 use Rattle.krs_serve.proofs.connection.serve_connection.Goals as goal
 
 pub returns-clause-session : goal.returns-clause-session

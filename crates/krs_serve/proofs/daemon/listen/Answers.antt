@@ -1,5 +1,5 @@
 -- Where no desk was opened.
-use Rattle.std.proofs.Common.{refl, inl}
+use Rattle.std.proofs.Common.{inl, refl}
 use Rattle.krs_serve.proofs.daemon.listen.Goals as goal
 
 pub returns-in_default : goal.returns-in_default

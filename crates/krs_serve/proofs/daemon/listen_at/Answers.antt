@@ -1,5 +1,5 @@
 -- Which of its ends it came to.
-use Rattle.std.proofs.Common.{rules, refl, inl, inr}
+use Rattle.std.proofs.Common.{inl, inr, refl, rules}
 use Rattle.std.specs.IoError.{raw_os_error}
 use Rattle.krs_listen.specs.Saying.{heard}
 use Rattle.krs_listen.proofs.EndLemmas.{ends_as}

@@ -1,6 +1,5 @@
-use Rattle.std.proofs.Common.{◌∙◌, ap}
-use Rattle.std.proofs.lemmas.Result.{IfOk-weaker}
-use Rattle.krs_model.specs.State.{State, starting_at}
+use Rattle.std.proofs.{Common.{◌∙◌, ap}, lemmas.Result.IfOk-weaker}
+use Rattle.krs_model.specs.State.{starting_at, State}
 use Rattle.krs_desk.specs.Sitting.{fresh_seats}
 use Rattle.krs_serve.proofs.DaemonLemmas.{all_opened, all_unasked}
 use Rattle.krs_serve.proofs.daemon.opened.Goals as goal

@@ -1,4 +1,4 @@
-use Rattle.std.proofs.Common.{rules, refl, inl}
+use Rattle.std.proofs.Common.{inl, refl, rules}
 use Rattle.krs_serve.proofs.daemon.serve_all.Goals as goal
 
 pub returns-in-All : goal.returns-in-All

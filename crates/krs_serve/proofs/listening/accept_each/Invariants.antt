@@ -1,4 +1,4 @@
-use Rattle.std.proofs.Common.{◌≡◌, ◌+◌}
+use Rattle.std.proofs.Common.{◌+◌, ◌≡◌}
 use Rattle.krs_listen.specs.Saying.{heard}
 use Rattle.krs_serve.proofs.listening.accept_each.Given as goal
 

@@ -1,11 +1,9 @@
-use Rattle.std.proofs.Common.{◌∷◌, ◌∙◌, map, sym, ap, subst, arith, slice_index_or}
-use Rattle.std.proofs.lemmas.List.{length-map}
-use Rattle.std.proofs.lemmas.List.Elements.{All-map}
+use Rattle.std.proofs.Common.{◌∙◌, ◌∷◌, ap, arith, map, slice_index_or, subst, sym}
+use Rattle.std.proofs.lemmas.List.{length-map, Elements.All-map}
 use Rattle.krs_model.specs.State.{State}
 use Rattle.krs_desk.specs.Sitting.{Sitting}
-use Rattle.krs_serve.specs.OneDesk.{HaveOneHistory}
-use Rattle.krs_serve.specs.Visits.{IsVisited}
-use Rattle.krs_serve.proofs.OneDeskLemmas.{no_seats, two_rounds, serve_in_one_history}
+use Rattle.krs_serve.specs.{OneDesk.HaveOneHistory, Visits.IsVisited}
+use Rattle.krs_serve.proofs.OneDeskLemmas.{no_seats, serve_in_one_history, two_rounds}
 use Rattle.krs_serve.proofs.meeting.meet_all.Goals as goal
 
 pub returns-in_default-clause-met : goal.returns-in_default-clause-met

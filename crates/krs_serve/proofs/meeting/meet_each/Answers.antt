@@ -1,6 +1,5 @@
-use Rattle.std.proofs.Common.{◌∙◌, map, arith, refl, sym, ap}
-use Rattle.std.proofs.lemmas.List.{length-map, map-append}
-use Rattle.krs_serve.proofs.OneDeskLemmas.{met_none, met_next, met_all}
+use Rattle.std.proofs.{Common.{◌∙◌, ap, arith, map, refl, sym}, lemmas.List.{length-map, map-append}}
+use Rattle.krs_serve.proofs.OneDeskLemmas.{met_all, met_next, met_none}
 use Rattle.krs_serve.proofs.meeting.meet_each.Goals as goal
 
 pub others-init : goal.others-init

@@ -1,5 +1,4 @@
-use Rattle.std.specs.Prelude.{◌≡◌, map}
-use Rattle.std.proofs.Common.{deque_len, deque_capacity}
+use Rattle.std.proofs.Common.{◌≡◌, deque_capacity, deque_len, map}
 use Rattle.krs_serve.proofs.OneDeskLemmas.{MetSome}
 use Rattle.krs_serve.proofs.meeting.meet_each.Given as goal
 

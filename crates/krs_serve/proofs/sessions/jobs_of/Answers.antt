@@ -1,4 +1,4 @@
-use Rattle.std.proofs.Common.{◌≡◌, length, rules, arith, vec_len}
+use Rattle.std.proofs.Common.{◌≡◌, arith, length, rules, vec_len}
 use Rattle.krs_serve.proofs.SessionsLemmas.{pair_taken}
 use Rattle.krs_serve.proofs.sessions.jobs_of.Goals as goal
 

@@ -1,5 +1,4 @@
-use Rattle.std.proofs.Common.{◌≡◌, ◌+◌, ◌≤◌, ◌++◌, vec_len, vec_capacity, reverse}
-use Rattle.std.specs.List.{zip}
+use Rattle.std.proofs.Common.{◌++◌, ◌+◌, ◌≡◌, ◌≤◌, reverse, vec_capacity, vec_len, zip}
 use Rattle.krs_serve.proofs.sessions.jobs_of.Given as goal
 
 -- those that are left come before those that were taken, which stand from the back

@@ -1,6 +1,5 @@
-use Rattle.std.proofs.Common.{◌≡◌, length, arith, map, ap, ◌∙◌}
-use Rattle.std.proofs.lemmas.List.{length-map}
-use Rattle.krs_serve.specs.Sessions.{ServesEntry, EndsSession}
+use Rattle.std.proofs.{Common.{◌∙◌, ◌≡◌, ap, arith, length, map}, lemmas.List.length-map}
+use Rattle.krs_serve.specs.Sessions.{EndsSession, ServesEntry}
 use Rattle.krs_serve.proofs.SessionsLemmas.{each_second}
 use Rattle.krs_serve.proofs.sessions.run_sessions.Goals as goal
 

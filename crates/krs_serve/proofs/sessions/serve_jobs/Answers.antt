@@ -1,5 +1,4 @@
-use Rattle.std.proofs.Common.{◌≡◌, ◌<◌, ℕ, length, rules, arith, vec_len, slice_index_or}
-use Rattle.std.proofs.lemmas.Result.{IfOk-weaker}
+use Rattle.std.proofs.{Common.{◌<◌, arith, length, rules, slice_index_or, ℕ}, lemmas.Result.IfOk-weaker}
 use Rattle.krs_serve.specs.Sessions.{ServesEntry}
 use Rattle.krs_serve.proofs.sessions.serve_jobs.Goals as goal
 

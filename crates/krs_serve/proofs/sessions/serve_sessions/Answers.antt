@@ -1,6 +1,4 @@
-use Rattle.std.proofs.Common.{◌≡◌, ◌<◌, length, arith}
-use Rattle.std.specs.List.{zip}
-use Rattle.std.proofs.lemmas.Slice.Zip.{length-zip, get_or-zip}
+use Rattle.std.proofs.{Common.{◌<◌, ◌≡◌, arith, length, zip}, lemmas.Slice.Zip.{get_or-zip, length-zip}}
 use Rattle.krs_serve.specs.Sessions.{ServesEntry}
 use Rattle.krs_serve.proofs.SessionsLemmas.{all_zip_at, as_many}
 use Rattle.krs_serve.proofs.sessions.serve_sessions.Goals as goal

@@ -1,10 +1,10 @@
-use Rattle.std.proofs.Common.{List, [], ◌∷◌, ◌++◌, ◌∙◌, subst, refl, sym, ap, append_assoc, ℕ}
+use Rattle.std.proofs.Common.{[], ◌++◌, ◌∙◌, ◌∷◌, ap, append_assoc, List, refl, subst, sym, ℕ}
 use Rattle.krs_types.specs.declared.event.Event.{Event}
 use Rattle.krs_model.specs.History.{event_of}
+use Rattle.krs_store.specs.Told.{reply_of}
 use Rattle.krs_wire.specs.declared.framed.Framed.{Framed}
 use Rattle.krs_session.specs.Serving.{Asked}
-use Rattle.krs_store.specs.Told.{reply_of}
-use Rattle.krs_session.proofs.JoinLemmas.{holds_none, holds_told, stops_next, anew_next, anew_all}
+use Rattle.krs_session.proofs.JoinLemmas.{anew_all, anew_next, holds_none, holds_told, stops_next}
 use Rattle.krs_session.proofs.asking.ask_all.Goals as goal
 
 pub frames-init : goal.frames-init

@@ -1,4 +1,4 @@
-use Rattle.std.proofs.Common.{◌≡◌, ◌++◌, true, false, List, length}
+use Rattle.std.proofs.Common.{◌++◌, ◌≡◌, false, length, List, true}
 use Rattle.krs_wire.specs.declared.framed.Framed.{Framed}
 use Rattle.krs_session.specs.Serving.{Holds, IsAskedAnew, StopsBy}
 use Rattle.krs_session.proofs.asking.ask_all.Given as goal

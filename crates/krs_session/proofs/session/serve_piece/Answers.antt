@@ -1,8 +1,7 @@
-use Rattle.std.proofs.Common.{[], refl, sym, inr, subst}
-use Rattle.krs_wire.specs.Frame.{End}
-use Rattle.krs_wire.specs.Feeding.{Feeds}
-use Rattle.krs_session.proofs.PieceLemmas.{refused_fault, refused_more, faulty_feeds}
-use Rattle.krs_session.proofs.PieceLemmas.{stopped_serves, stopped_ends, stopped_unwired}
+use Rattle.std.proofs.Common.{[], inr, refl, subst, sym}
+use Rattle.krs_wire.specs.{Feeding.Feeds, Frame.End}
+use Rattle.krs_session.proofs.PieceLemmas.{faulty_feeds, refused_fault, refused_more, stopped_ends, stopped_serves}
+use Rattle.krs_session.proofs.PieceLemmas.{stopped_unwired}
 use Rattle.krs_session.proofs.session.serve_piece.Goals as goal
 
 pub returns-in-Memory-clause-served : goal.returns-in-Memory-clause-served

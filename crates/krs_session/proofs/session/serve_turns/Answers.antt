@@ -1,7 +1,7 @@
-use Rattle.std.proofs.Common.{ap, ◌∙◌, refl, arith}
+use Rattle.std.proofs.Common.{◌∙◌, ap, arith, refl}
 use Rattle.krs_wire.specs.Feeding.{fault_of}
 use Rattle.krs_session.specs.Session.{Counts}
-use Rattle.krs_session.proofs.PieceLemmas.{so_far_none, so_far_more, so_far_ends, turn_ends}
+use Rattle.krs_session.proofs.PieceLemmas.{so_far_ends, so_far_more, so_far_none, turn_ends}
 use Rattle.krs_session.proofs.session.serve_turns.Goals as goal
 
 pub loop-made-init : goal.loop-made-init

@@ -1,5 +1,4 @@
-use Rattle.std.proofs.Common.{◌≡◌, ◌+◌}
-use Rattle.std.specs.Prelude.{None}
+use Rattle.std.proofs.Common.{◌+◌, ◌≡◌, None}
 use Rattle.krs_wire.specs.Feeding.{fault_of}
 use Rattle.krs_session.proofs.PieceLemmas.{SoFar}
 use Rattle.krs_session.proofs.session.serve_turns.Given as goal

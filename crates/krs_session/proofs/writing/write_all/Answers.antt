@@ -1,4 +1,4 @@
-use Rattle.std.proofs.Common.{rules, ◌≡◌, List, [], take, sym, ◌∙◌, subst, refl, arith, ℕ}
+use Rattle.std.proofs.Common.{[], ◌∙◌, ◌≡◌, arith, List, refl, rules, subst, sym, take, ℕ}
 use Rattle.krs_session.proofs.JoinLemmas.{Taken, taken_more, taken_part}
 use Rattle.krs_session.proofs.writing.write_all.Goals as goal
 

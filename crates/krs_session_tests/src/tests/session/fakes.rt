@@ -135,7 +135,7 @@ pub(super) struct Rising {
 }
 
 impl Clock for Rising {
-    ghost use Rattle.krs_session_tests.specs.Ticks.{Ticks, ticks_none, ticks_both};
+    ghost use Rattle.krs_session_tests.specs.Ticks.{Ticks, ticks_both, ticks_none};
 
     ghost ticked = { λ a moments b. Ticks a.at moments b.at };
 

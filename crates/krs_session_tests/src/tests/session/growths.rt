@@ -2,7 +2,7 @@
 //! these with its first growth refused, then with its second, and so on.
 ghost use Rattle.std.specs.Prelude.{◌≡◌, All, IfOk};
 ghost use Rattle.krs_desk.specs.Sitting.{IsIdleAt};
-ghost use Rattle.krs_session.specs.Over.{over_reads, over_empties, over_failures};
+ghost use Rattle.krs_session.specs.Over.{over_empties, over_failures, over_reads};
 
 use super::fakes::{Pieces, Rising, Then, reader_of, watches, writer_of};
 use super::memory::{converse, with_room};

@@ -1,10 +1,10 @@
 //! Sessions over bytes in memory, each on a seat of a desk.
-ghost use Rattle.std.specs.Prelude.{◌≡◌, [], List};
+ghost use Rattle.std.specs.Prelude.{[], ◌≡◌, List};
 ghost use Rattle.krs_types.specs.declared.event.Event.{Event};
+ghost use Rattle.krs_desk.specs.Sitting.{IsIdleAt};
 ghost use Rattle.krs_wire.specs.declared.framed.Framed.{Framed};
 ghost use Rattle.krs_session.specs.Leads.{GainsSession};
 ghost use Rattle.krs_session_tests.specs.Conversing.{Conversed};
-ghost use Rattle.krs_desk.specs.Sitting.{IsIdleAt};
 
 use super::fakes::{Rising, Watching, watches};
 use super::{ADD, ASKS, HELLO, READ, REPLIES, tagged};

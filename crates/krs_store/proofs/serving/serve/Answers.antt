@@ -1,11 +1,9 @@
-use Rattle.std.proofs.Common.{ap, refl, sym, subst, ◌∙◌, ℤ, SFits, w32, rules}
-use Rattle.std.proofs.lemmas.Int.{to_z-of_z}
-use Rattle.krs_types.specs.declared.ask.Op.{Op}
-use Rattle.krs_types.specs.declared.ask.Op.TheVariants.{Read}
-use Rattle.krs_tables.specs.Serving.{LeadsTold}
+use Rattle.std.proofs.{Common.{◌∙◌, ap, refl, rules, SFits, subst, sym, w32, ℤ}, lemmas.Int.to_z-of_z}
+use Rattle.krs_types.specs.declared.ask.Op.{Op, TheVariants.Read}
 use Rattle.krs_model.specs.State.{State}
+use Rattle.krs_tables.specs.Serving.{LeadsTold}
 use Rattle.krs_store.specs.Telling.{Runs}
-use Rattle.krs_store.proofs.Noting.{unwatched_told, quiet_told}
+use Rattle.krs_store.proofs.Noting.{quiet_told, unwatched_told}
 use Rattle.krs_store.proofs.serving.serve.Goals as goal
 
 pub returns-then-not-has_watches-clause-told : goal.returns-then-not-has_watches-clause-told

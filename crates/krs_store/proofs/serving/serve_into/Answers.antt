@@ -1,7 +1,5 @@
-use Rattle.std.proofs.Common.{refl, sym, subst, ℤ, SFits, w32, rules}
-use Rattle.std.proofs.lemmas.Int.{to_z-of_z}
-use Rattle.krs_types.specs.declared.ask.Op.{Op}
-use Rattle.krs_types.specs.declared.ask.Op.TheVariants.{Read}
+use Rattle.std.proofs.{Common.{refl, rules, SFits, subst, sym, w32, ℤ}, lemmas.Int.to_z-of_z}
+use Rattle.krs_types.specs.declared.ask.Op.{Op, TheVariants.Read}
 use Rattle.krs_tables.specs.Serving.{LeadsTold}
 use Rattle.krs_key_asks.specs.Taking.{answered}
 use Rattle.krs_store.specs.Telling.{Runs}

@@ -1,11 +1,7 @@
-use Rattle.std.proofs.Common.{◌≡◌, ℕ, List, [], ◌++◌, Bool, cond, Result, ap, sym, ◌∙◌}
-use Rattle.std.specs.Int.{w32}
-use Rattle.std.specs.Option.{option_to_list}
+use Rattle.std.proofs.Common.{[], ◌++◌, ◌∙◌, ◌≡◌, ap, Bool, cond, List, option_to_list, Result, sym, w32, ℕ}
 use Rattle.std.proofs.lemmas.Int.{to_z-of_z}
-use Rattle.krs_types.specs.declared.errno.Errno.{Errno}
-use Rattle.krs_types.specs.declared.note.KeyEvent.TheVariants.{Linked, Unlinked}
-use Rattle.krs_model.specs.Notes.Posting.{Note}
-use Rattle.krs_model.specs.Notes.Telling.{named, about_link, about_moved}
+use Rattle.krs_types.specs.declared.{errno.Errno.Errno, note.KeyEvent.TheVariants.{Linked, Unlinked}}
+use Rattle.krs_model.specs.Notes.{Posting.Note, Telling.{about_link, about_moved, named}}
 use Rattle.krs_store.specs.Telling.{told_of}
 use Rattle.krs_store.proofs.Noting.{same_named}
 use Rattle.krs_store.proofs.telling.about_moved.Goals as goal

@@ -1,6 +1,4 @@
-use Rattle.std.proofs.Common.{rules, FitsSigned}
-use Rattle.std.specs.Int.{w32}
-use Rattle.std.proofs.lemmas.Int.{to_z-of_z}
+use Rattle.std.proofs.{Common.{FitsSigned, rules, w32}, lemmas.Int.to_z-of_z}
 use Rattle.krs_store.proofs.Noting.{add_foretold}
 use Rattle.krs_store.proofs.telling.foretell.Goals as goal
 

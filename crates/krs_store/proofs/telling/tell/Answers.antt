@@ -1,7 +1,6 @@
-use Rattle.std.proofs.Common.{Option, ap, ◌∙◌}
-use Rattle.krs_model.specs.Queues.{queues_of}
-use Rattle.krs_model.specs.Notes.Posting.{Note, posted_in}
-use Rattle.krs_store.specs.Telling.{told_of, posts_told}
+use Rattle.std.proofs.Common.{◌∙◌, ap, Option}
+use Rattle.krs_model.specs.{Notes.Posting.{Note, posted_in}, Queues.queues_of}
+use Rattle.krs_store.specs.Telling.{posts_told, told_of}
 use Rattle.krs_store.proofs.Noting.{told_twice}
 use Rattle.krs_store.proofs.telling.tell.Goals as goal
 

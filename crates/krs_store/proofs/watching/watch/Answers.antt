@@ -1,15 +1,11 @@
-use Rattle.std.proofs.Common.{◌≡◌, ℕ, Option, Ok, ap, ◌∙◌, sym, subst}
-use Rattle.krs_types.specs.declared.ask.Answer.TheVariants.{Nothing}
-use Rattle.krs_types.specs.declared.ask.Op.TheVariants.{Watch}
-use Rattle.krs_model.specs.State.{State, Key}
-use Rattle.krs_model.specs.Queues.{Queues, queues_of, with_queues}
-use Rattle.krs_tables.specs.Serving.{Tells}
-use Rattle.krs_model.specs.Asks.Watching.{watched}
-use Rattle.krs_watch.specs.Changes.{watch_ended}
+use Rattle.std.proofs.Common.{◌∙◌, ◌≡◌, ap, Ok, Option, subst, sym, ℕ}
+use Rattle.krs_types.specs.declared.ask.{Answer.TheVariants.Nothing, Op.TheVariants.Watch}
+use Rattle.krs_model.specs.{Asks.Watching.watched, Queues.{Queues, queues_of, with_queues}, State.{Key, State}}
 use Rattle.krs_keys.specs.Keys.{seen}
-use Rattle.krs_tables.specs.View.{state_of}
-use Rattle.krs_store.proofs.Watched.{LooksAt, looks_at, watch_set, watch_ends}
-use Rattle.krs_store.proofs.watching.watch.Goals.{in-Some+in_ok-watch-in-Some, in-None+in_ok-unwatch-in-None}
+use Rattle.krs_watch.specs.Changes.{watch_ended}
+use Rattle.krs_tables.specs.{Serving.Tells, View.state_of}
+use Rattle.krs_store.proofs.Watched.{looks_at, LooksAt, watch_ends, watch_set}
+use Rattle.krs_store.proofs.watching.watch.Goals.{in-None+in_ok-unwatch-in-None, in-Some+in_ok-watch-in-Some}
 use Rattle.krs_store.proofs.watching.watch.Goals as goal
 
 pub returns-clause-step : goal.returns-clause-step

@@ -1,5 +1,4 @@
-use Rattle.std.proofs.Common.{◌≡◌, ap, sym, ◌∙◌, cond, arith}
-use Rattle.std.specs.Option.{option_to_list}
+use Rattle.std.proofs.Common.{◌∙◌, ◌≡◌, ap, arith, cond, option_to_list, sym}
 use Rattle.krs_hold.specs.Tally.{times}
 use Rattle.krs_tables.proofs.OutOfReach.{attached_once}
 use Rattle.krs_tables.proofs.apart.less_one.Goals as goal

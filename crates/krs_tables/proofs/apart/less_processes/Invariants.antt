@@ -1,4 +1,4 @@
-use Rattle.std.proofs.Common.{◌≡◌, ◌-◌}
+use Rattle.std.proofs.Common.{◌-◌, ◌≡◌}
 use Rattle.krs_model.specs.Sweep.{process_roots}
 use Rattle.krs_hold.specs.Tally.{times}
 use Rattle.krs_tables.proofs.apart.less_processes.Given as goal

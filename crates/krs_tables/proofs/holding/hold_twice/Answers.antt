@@ -1,4 +1,4 @@
-use Rattle.std.proofs.Common.{◌≤◌, ◌+◌, ℕ, arith, sym, subst}
+use Rattle.std.proofs.Common.{◌+◌, ◌≤◌, arith, subst, sym, ℕ}
 use Rattle.krs_model.specs.Table.{Table}
 use Rattle.krs_hold.specs.Tally.{number_at}
 use Rattle.krs_hold.proofs.Tallies.{number_more}

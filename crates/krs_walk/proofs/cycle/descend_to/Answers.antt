@@ -1,6 +1,6 @@
-use Rattle.std.proofs.Common.{◌≡◌, ◌∙◌, sym, length}
+use Rattle.std.proofs.Common.{◌∙◌, ◌≡◌, length, sym}
 use Rattle.krs_keys.specs.Keys.{shown}
-use Rattle.krs_walk.proofs.CycleLemmas.{within_closes, within_reaches, shown_length}
+use Rattle.krs_walk.proofs.CycleLemmas.{shown_length, within_closes, within_reaches}
 use Rattle.krs_walk.proofs.cycle.descend_to.Goals as goal
 
 pub returns-clause-closes : goal.returns-clause-closes

@@ -1,10 +1,9 @@
-use Rattle.std.proofs.Common.{ap, sym, ◌∙◌, [], ◌∷◌, arith, ℕ, get_or, refl}
-use Rattle.std.proofs.lemmas.Bool.{true≢false}
+use Rattle.std.proofs.Common.{[], ◌∙◌, ◌∷◌, ap, arith, get_or, refl, sym, true≢false, ℕ}
 use Rattle.krs_model.specs.Reach.{nested_in}
 use Rattle.krs_keys.specs.Keys.{shown}
 use Rattle.krs_walk.specs.Lists.{join}
-use Rattle.krs_walk.proofs.CycleLemmas.{walk_starts, walk_goes_on, found_closes, found_reached, missed_closes}
-use Rattle.krs_walk.proofs.CycleLemmas.{missed_reached, apart_of, same_of}
+use Rattle.krs_walk.proofs.CycleLemmas.{apart_of, found_closes, found_reached, missed_closes, missed_reached, same_of}
+use Rattle.krs_walk.proofs.CycleLemmas.{walk_goes_on, walk_starts}
 use Rattle.krs_walk.proofs.cycle.walk_to.Goals as goal
 
 pub walk-init : goal.walk-init

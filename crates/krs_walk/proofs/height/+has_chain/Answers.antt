@@ -1,6 +1,6 @@
 use Rattle.std.proofs.Common.{sym}
 use Rattle.krs_keys.specs.Keys.{shown}
-use Rattle.krs_walk.proofs.DepthLemmas.{no_chain, chain_below}
+use Rattle.krs_walk.proofs.DepthLemmas.{chain_below, no_chain}
 use Rattle.krs_walk.proofs.height.+has_chain.Goals as goal
 
 pub returns-then-count-eq0 : goal.returns-then-count-eq0

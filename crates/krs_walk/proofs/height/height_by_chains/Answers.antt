@@ -1,8 +1,7 @@
-use Rattle.std.proofs.Common.{◌+◌, refl, sym, ◌∙◌, arith}
+use Rattle.std.proofs.Common.{◌+◌, ◌∙◌, arith, refl, sym}
 use Rattle.krs_model.specs.Reach.{nesting_depth}
 use Rattle.krs_keys.specs.Keys.{shown}
-use Rattle.krs_walk.proofs.DepthLemmas.{no_chain}
-use Rattle.krs_walk.proofs.HeightLemmas.{none_longer}
+use Rattle.krs_walk.proofs.{DepthLemmas.no_chain, HeightLemmas.none_longer}
 use Rattle.krs_walk.proofs.height.height_by_chains.Goals as goal
 
 pub loop-height-init : goal.loop-height-init

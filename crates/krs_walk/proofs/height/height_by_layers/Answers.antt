@@ -1,8 +1,8 @@
-use Rattle.std.proofs.Common.{◌≡◌, ◌==◌, ◌+◌, [], ◌∷◌, true, length, refl, ap, ◌∙◌, arith, subst, sym}
-use Rattle.krs_model.specs.Reach.{nested_in, has_chain, nesting_depth}
+use Rattle.std.proofs.Common.{[], ◌+◌, ◌==◌, ◌∙◌, ◌∷◌, ◌≡◌, ap, arith, length, refl, subst, sym, true}
+use Rattle.krs_model.specs.Reach.{has_chain, nested_in, nesting_depth}
 use Rattle.krs_keys.specs.Keys.{shown}
 use Rattle.krs_walk.specs.Lists.{join}
-use Rattle.krs_walk.proofs.HeightLemmas.{layer_starts, layer_next, layer_chain, layer_ends, none_longer}
+use Rattle.krs_walk.proofs.HeightLemmas.{layer_chain, layer_ends, layer_next, layer_starts, none_longer}
 use Rattle.krs_walk.proofs.height.height_by_layers.Goals as goal
 
 pub loop-height-init : goal.loop-height-init

@@ -1,4 +1,4 @@
-use Rattle.std.proofs.Common.{◌≡◌, [], ◌∷◌, false, length, ◌==◌}
+use Rattle.std.proofs.Common.{[], ◌==◌, ◌∷◌, ◌≡◌, false, length}
 use Rattle.krs_model.specs.Reach.{nested_in}
 use Rattle.krs_keys.specs.Keys.{shown}
 use Rattle.krs_walk.proofs.HeightLemmas.{IsLayer}

@@ -1,5 +1,4 @@
-use Rattle.std.proofs.Common.{◌≡◌, [], take}
-use Rattle.std.specs.List.{flat_map}
+use Rattle.std.proofs.Common.{[], ◌≡◌, flat_map, take}
 use Rattle.krs_model.specs.Reach.{nested_in}
 use Rattle.krs_keys.specs.Keys.{shown}
 use Rattle.krs_walk.specs.Lists.{join}

@@ -1,5 +1,5 @@
-use Rattle.std.proofs.Common.{sym, ◌∙◌}
-use Rattle.krs_walk.proofs.KeyringsLemmas.{rings_there, no_rings_there}
+use Rattle.std.proofs.Common.{◌∙◌, sym}
+use Rattle.krs_walk.proofs.KeyringsLemmas.{no_rings_there, rings_there}
 use Rattle.krs_walk.proofs.keyrings.rings_of.Goals as goal
 
 pub returns-in-Some : goal.returns-in-Some

@@ -1,12 +1,10 @@
-use Rattle.std.proofs.Common.{ap, sym, ◌∙◌, filter}
-use Rattle.std.specs.Option.{option_copied}
-use Rattle.krs_model.specs.Table.{at}
-use Rattle.krs_model.specs.Reach.{is_ring}
+use Rattle.std.proofs.Common.{◌∙◌, ap, filter, option_copied, sym}
+use Rattle.krs_model.specs.{Reach.is_ring, Table.at}
 use Rattle.krs_keys.specs.Keys.{shown}
-use Rattle.krs_walk.proofs.PossessionLemmas.{followed_nested, followed_absent, unfollowed}
-use Rattle.krs_walk.proofs.possession.followed_rings.Goals as goal
+use Rattle.krs_walk.proofs.PossessionLemmas.{followed_absent, followed_nested, unfollowed}
 use Rattle.krs_walk.proofs.possession.followed_rings.Goals.{in_default-via-in-Some+else-is_followed}
 use Rattle.krs_walk.proofs.possession.followed_rings.Goals.{in_default-via-in_default}
+use Rattle.krs_walk.proofs.possession.followed_rings.Goals as goal
 
 pub returns-in-Some : goal.returns-in-Some
 returns-in-Some c =

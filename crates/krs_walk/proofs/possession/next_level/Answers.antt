@@ -1,7 +1,6 @@
-use Rattle.std.proofs.Common.{ap, ◌∙◌, arith}
+use Rattle.std.proofs.Common.{◌∙◌, ap, arith}
 use Rattle.krs_keys.specs.Keys.{shown}
-use Rattle.krs_walk.specs.Lists.{join}
-use Rattle.krs_walk.specs.Walks.{followed_rings}
+use Rattle.krs_walk.specs.{Lists.join, Walks.followed_rings}
 use Rattle.krs_walk.proofs.RoundsLemmas.{round_more}
 use Rattle.krs_walk.proofs.possession.next_level.Goals as goal
 

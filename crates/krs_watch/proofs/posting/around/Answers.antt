@@ -1,8 +1,6 @@
-use Rattle.std.proofs.Common.{◌≡◌, ℕ, ◌+◌, List, filter, ap, subst, sym, ◌∙◌}
-use Rattle.std.specs.declared.ops.Bound.TheVariants.{Included, Excluded}
-use Rattle.std.specs.BTreeMap.Range.{range_contains}
-use Rattle.krs_model.specs.Queues.{Watch, place_cmp}
-use Rattle.krs_model.specs.Notes.Posting.{watches_at}
+use Rattle.std.proofs.Common.{◌+◌, ◌∙◌, ◌≡◌, ap, filter, List, subst, sym, ℕ}
+use Rattle.std.specs.{BTreeMap.Range.range_contains, declared.ops.Bound.TheVariants.{Excluded, Included}}
+use Rattle.krs_model.specs.{Notes.Posting.watches_at, Queues.{place_cmp, Watch}}
 use Rattle.krs_watch.proofs.PlacesLemmas.{between_keys, from_key}
 use Rattle.krs_watch.proofs.posting.around.Goals as goal
 

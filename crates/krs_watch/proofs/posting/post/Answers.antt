@@ -1,9 +1,7 @@
-use Rattle.std.proofs.Common.{ap, sym, ◌∙◌}
-use Rattle.std.specs.Ordering.{nat_cmp}
-use Rattle.std.specs.BTreeMap.{is_at}
-use Rattle.std.specs.Map.{set_value}
-use Rattle.krs_model.proofs.Tables.Changes.{alter_some, alter_none}
+use Rattle.std.proofs.Common.{◌∙◌, ap, nat_cmp, sym}
+use Rattle.std.specs.{BTreeMap.is_at, Map.set_value}
 use Rattle.krs_model.specs.Notes.Posting.{after_note}
+use Rattle.krs_model.proofs.Tables.Changes.{alter_none, alter_some}
 use Rattle.krs_watch.proofs.posting.post.Goals as goal
 
 pub returns-in-Some : goal.returns-in-Some

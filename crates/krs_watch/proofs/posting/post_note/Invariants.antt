@@ -1,5 +1,5 @@
 use Rattle.std.proofs.Common.{◌≡◌, map}
-use Rattle.krs_model.specs.Notes.Posting.{watches_at, note_for}
+use Rattle.krs_model.specs.Notes.Posting.{note_for, watches_at}
 use Rattle.krs_watch.specs.Offers.{offer_all}
 use Rattle.krs_watch.proofs.posting.post_note.Given as goal
 

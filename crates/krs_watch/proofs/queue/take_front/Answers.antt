@@ -1,14 +1,11 @@
-use Rattle.std.proofs.Common.{◌≡◌, ◌≤◌, ◌+◌, ◌-◌, ℕ, List, ◌++◌, drop, length, vec_len, leb, true, arith, refl, sym, ap, ◌∙◌}
-use Rattle.std.proofs.Common.{length-append}
-use Rattle.std.proofs.lemmas.Bool.{true≢false, leb-true}
-use Rattle.std.proofs.lemmas.List.{append-nil}
+use Rattle.std.proofs.Common.{◌++◌, ◌+◌, ◌-◌, ◌∙◌, ◌≡◌, ◌≤◌, ap, append-nil, arith, drop, leb, leb-true, length}
+use Rattle.std.proofs.Common.{length-append, List, refl, sym, true, true≢false, vec_len, ℕ}
 use Rattle.krs_types.specs.declared.note.Record.{Record}
-use Rattle.krs_model.specs.Notes.Bytes.{bytes_of, bytes_of_all}
-use Rattle.krs_model.specs.Notes.Front.{front, behind}
-use Rattle.krs_ring.specs.Ring.{Ring}
+use Rattle.krs_model.specs.Notes.{Bytes.{bytes_of, bytes_of_all}, Front.{behind, front}}
 use Rattle.krs_model.proofs.Notes.Fronts.{front_size}
-use Rattle.krs_watch.proofs.FrontLemmas.{Stops, stops_empty, stops_full, first_within, front_less}
-use Rattle.krs_watch.proofs.FrontLemmas.{Taken, one_taken, bytes_go_on, size_goes_on, rest_goes_on}
+use Rattle.krs_ring.specs.Ring.{Ring}
+use Rattle.krs_watch.proofs.FrontLemmas.{bytes_go_on, first_within, front_less, one_taken, rest_goes_on, size_goes_on}
+use Rattle.krs_watch.proofs.FrontLemmas.{Stops, stops_empty, stops_full, Taken}
 use Rattle.krs_watch.proofs.queue.take_front.Goals.{in-Some+then-not-fits, in_default}
 use Rattle.krs_watch.proofs.queue.take_front.Goals as goal
 

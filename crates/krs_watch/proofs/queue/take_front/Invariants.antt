@@ -1,6 +1,5 @@
-use Rattle.std.proofs.Common.{◌≡◌, ◌≤◌, ◌+◌, ◌-◌, ◌++◌, length, vec_len, vec_capacity}
-use Rattle.krs_model.specs.Notes.Bytes.{bytes_of_all}
-use Rattle.krs_model.specs.Notes.Front.{front, behind}
+use Rattle.std.proofs.Common.{◌++◌, ◌+◌, ◌-◌, ◌≡◌, ◌≤◌, length, vec_capacity, vec_len}
+use Rattle.krs_model.specs.Notes.{Bytes.bytes_of_all, Front.{behind, front}}
 use Rattle.krs_watch.proofs.queue.take_front.Given as goal
 
 -- what was taken and what will be are the front, for all of which there is room

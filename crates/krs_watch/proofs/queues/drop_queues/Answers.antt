@@ -1,5 +1,4 @@
-use Rattle.std.proofs.Common.{nat_eq, not, rules}
-use Rattle.std.proofs.lemmas.Map.Made.{filter_same_pairs}
+use Rattle.std.proofs.{Common.{nat_eq, not, rules}, lemmas.Map.Made.filter_same_pairs}
 use Rattle.krs_watch.proofs.queues.drop_queues.Goals as goal
 
 pub returns-clause-queues : goal.returns-clause-queues

@@ -1,13 +1,10 @@
-use Rattle.std.proofs.Common.{◌≡◌, ℕ, ◌<◌, List, [], ◌∷◌, Some, filter, map, length, refl, ap, ◌∙◌, sym, subst, arith}
-use Rattle.std.specs.Prelude.{slice_get}
-use Rattle.std.specs.List.Sorted.{IsStrictlySortedBy}
-use Rattle.std.specs.Map.{keys_of}
+use Rattle.std.proofs.Common.{[], ◌<◌, ◌∙◌, ◌∷◌, ◌≡◌, ap, arith, filter, length, List, map, refl, slice_get, Some}
+use Rattle.std.proofs.Common.{subst, sym, ℕ}
+use Rattle.std.specs.{List.Sorted.IsStrictlySortedBy, Map.keys_of}
 use Rattle.krs_types.specs.declared.note.Record.TheVariants.{Removal}
-use Rattle.krs_model.specs.Table.{alter}
-use Rattle.krs_model.specs.Queues.{Watch, place_cmp}
-use Rattle.krs_model.specs.Notes.Posting.{removal_for, post_all, after_note}
+use Rattle.krs_model.specs.{Notes.Posting.{after_note, post_all, removal_for}, Queues.{place_cmp, Watch}, Table.alter}
 use Rattle.krs_watch.specs.Watched.{gone_watches, NoneGoneBefore}
-use Rattle.krs_watch.proofs.GoneLemmas.{from_least, none_before, taken, first_stays, none_gone}
+use Rattle.krs_watch.proofs.GoneLemmas.{first_stays, from_least, none_before, none_gone, taken}
 use Rattle.krs_watch.proofs.queues.end_dropped.Goals as goal
 
 pub ending-init : goal.ending-init

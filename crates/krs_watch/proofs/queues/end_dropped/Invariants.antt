@@ -1,5 +1,5 @@
-use Rattle.std.proofs.Common.{◌≡◌, map, filter, length}
-use Rattle.krs_model.specs.Notes.Posting.{removal_for, post_all}
+use Rattle.std.proofs.Common.{◌≡◌, filter, length, map}
+use Rattle.krs_model.specs.Notes.Posting.{post_all, removal_for}
 use Rattle.krs_watch.specs.Watched.{gone_watches, NoneGoneBefore}
 use Rattle.krs_watch.proofs.queues.end_dropped.Given as goal
 

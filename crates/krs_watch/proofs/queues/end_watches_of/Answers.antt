@@ -1,8 +1,7 @@
-use Rattle.std.proofs.Common.{not, filter, ap, ◌∙◌, sym}
-use Rattle.krs_model.specs.Table.{Table}
-use Rattle.krs_model.specs.State.{Queue}
+use Rattle.std.proofs.Common.{◌∙◌, ap, filter, not, sym}
+use Rattle.krs_model.specs.{State.Queue, Table.Table}
 use Rattle.krs_watch.specs.Watched.{owns}
-use Rattle.krs_watch.proofs.QueuedLemmas.{one_of_them, all_stay}
+use Rattle.krs_watch.proofs.QueuedLemmas.{all_stay, one_of_them}
 use Rattle.krs_watch.proofs.queues.end_watches_of.Goals as goal
 
 pub loop-number-preserved-then-is_of : goal.loop-number-preserved-then-is_of

@@ -1,4 +1,4 @@
-use Rattle.std.proofs.Common.{◌≡◌, not, filter}
+use Rattle.std.proofs.Common.{◌≡◌, filter, not}
 use Rattle.krs_watch.specs.Watched.{owns}
 use Rattle.krs_watch.proofs.queues.end_watches_of.Given as goal
 

@@ -1,6 +1,5 @@
-use Rattle.std.proofs.Common.{List, ap, ◌∙◌}
-use Rattle.krs_model.specs.Queues.{Watch}
-use Rattle.krs_model.specs.Notes.Posting.{watches_at}
+use Rattle.std.proofs.Common.{◌∙◌, ap, List}
+use Rattle.krs_model.specs.{Notes.Posting.watches_at, Queues.Watch}
 use Rattle.krs_watch.proofs.PlacesLemmas.{watched_alike}
 use Rattle.krs_watch.proofs.queues.is_watched.Goals as goal
 

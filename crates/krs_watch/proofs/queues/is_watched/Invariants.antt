@@ -1,4 +1,4 @@
-use Rattle.std.proofs.Common.{◌≡◌, ◌==◌}
+use Rattle.std.proofs.Common.{◌==◌, ◌≡◌}
 use Rattle.std.specs.List.{list_any}
 use Rattle.krs_watch.proofs.queues.is_watched.Given as goal
 

@@ -1,4 +1,4 @@
-use Rattle.std.proofs.Common.{◌∙◌, ◌≡◌, ◌+◌, ◌≤◌, length, ap, sym, arith, drop, subst, List, ℕ, ◌-◌}
+use Rattle.std.proofs.Common.{◌+◌, ◌-◌, ◌∙◌, ◌≡◌, ◌≤◌, ap, arith, drop, length, List, subst, sym, ℕ}
 use Rattle.krs_wire.proofs.CutLemmas.{suffix}
 use Rattle.krs_wire.proofs.asks.front_at.Goals as goal
 

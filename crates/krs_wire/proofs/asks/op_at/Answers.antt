@@ -1,8 +1,7 @@
-use Rattle.std.proofs.Common.{rules, refl, [], ◌∷◌}
-use Rattle.krs_types.specs.declared.ask.Op.TheVariants.{Update, Chown, SetPerm, Link, Unlink, Search, SetTimeout}
-use Rattle.krs_types.specs.declared.ask.Op.TheVariants.{RestrictKeyring, Move, Watch}
-use Rattle.krs_wire.specs.Bodies.{a_number, an_id, a_text, a_blob, fields_of}
-use Rattle.krs_wire.specs.Frame.{op_of}
+use Rattle.std.proofs.Common.{[], ◌∷◌, refl, rules}
+use Rattle.krs_types.specs.declared.ask.Op.TheVariants.{Chown, Link, Move, RestrictKeyring, Search, SetPerm, SetTimeout}
+use Rattle.krs_types.specs.declared.ask.Op.TheVariants.{Unlink, Update, Watch}
+use Rattle.krs_wire.specs.{Bodies.{a_blob, a_number, a_text, an_id, fields_of}, Frame.op_of}
 use Rattle.krs_wire.proofs.RowLemmas.{row_gives}
 use Rattle.krs_wire.proofs.asks.op_at.Goals as goal
 

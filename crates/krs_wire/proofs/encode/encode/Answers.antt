@@ -1,5 +1,5 @@
-use Rattle.std.proofs.Common.{rules, ◌≡◌, ◌≤◌, length, arith}
-use Rattle.krs_wire.specs.Encoding.{ask_text, ask_frame}
+use Rattle.std.proofs.Common.{◌≡◌, ◌≤◌, arith, length, rules}
+use Rattle.krs_wire.specs.Encoding.{ask_frame, ask_text}
 use Rattle.krs_wire.proofs.AskLemmas.{one_frame}
 use Rattle.krs_wire.proofs.encode.encode.Goals as goal
 

@@ -1,4 +1,4 @@
-use Rattle.std.proofs.Common.{◌≡◌, ◌-◌, ◌≤◌, length, drop}
+use Rattle.std.proofs.Common.{◌-◌, ◌≡◌, ◌≤◌, drop, length}
 use Rattle.krs_wire.proofs.CutLemmas.{Continues}
 use Rattle.krs_wire.proofs.feed.cut_stream.Given as goal
 

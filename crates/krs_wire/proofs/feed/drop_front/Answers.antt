@@ -1,4 +1,4 @@
-use Rattle.std.proofs.Common.{◌≡◌, ◌-◌, ◌+◌, ◌≤◌, ◌++◌, ℕ, List, length, drop, sym, ap, ◌∙◌, subst, arith}
+use Rattle.std.proofs.Common.{◌++◌, ◌+◌, ◌-◌, ◌∙◌, ◌≡◌, ◌≤◌, ap, arith, drop, length, List, subst, sym, ℕ}
 use Rattle.std.proofs.lemmas.List.{take_rest}
 use Rattle.krs_wire.proofs.CutLemmas.{past_front}
 use Rattle.krs_wire.proofs.feed.drop_front.Goals as goal

@@ -1,9 +1,6 @@
-use Rattle.std.proofs.Common.{rules, ◌≡◌, ◌++◌, ◌-◌, ◌+◌, List, ℕ, [], ◌∷◌, ap, sym, subst, arith}
-use Rattle.std.specs.Int.{w32}
-use Rattle.krs_wire.specs.Field.{number, many_read}
-use Rattle.krs_wire.specs.Faulting.{or_bad_body}
-use Rattle.krs_wire.proofs.SizeLemmas.{too_many, number_long}
-use Rattle.krs_wire.proofs.CountLemmas.{with_front, many_on, many_ends, many_done}
+use Rattle.std.proofs.Common.{[], ◌++◌, ◌+◌, ◌-◌, ◌∷◌, ◌≡◌, ap, arith, List, rules, subst, sym, w32, ℕ}
+use Rattle.krs_wire.specs.{Faulting.or_bad_body, Field.{many_read, number}}
+use Rattle.krs_wire.proofs.{CountLemmas.{many_done, many_ends, many_on, with_front}, SizeLemmas.{number_long, too_many}}
 use Rattle.krs_wire.proofs.fields.numbers_at.Goals as goal
 
 pub loop-preserved : goal.loop-preserved

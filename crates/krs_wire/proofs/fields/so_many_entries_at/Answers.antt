@@ -1,10 +1,7 @@
-use Rattle.std.proofs.Common.{rules, ◌≡◌, ◌++◌, ◌-◌, ◌+◌, List, [], ◌∷◌, ap, sym, subst, arith}
+use Rattle.std.proofs.Common.{[], ◌++◌, ◌+◌, ◌-◌, ◌∷◌, ◌≡◌, ap, arith, List, rules, subst, sym}
 use Rattle.krs_types.specs.declared.note.FilterEntry.{FilterEntry}
-use Rattle.krs_wire.specs.Bodies.{entry_field}
-use Rattle.krs_wire.specs.Field.{many_read}
-use Rattle.krs_wire.specs.Faulting.{or_bad_body}
-use Rattle.krs_wire.proofs.SizeLemmas.{too_many, entry_long}
-use Rattle.krs_wire.proofs.CountLemmas.{with_front, many_on, many_ends, many_done}
+use Rattle.krs_wire.specs.{Bodies.entry_field, Faulting.or_bad_body, Field.many_read}
+use Rattle.krs_wire.proofs.{CountLemmas.{many_done, many_ends, many_on, with_front}, SizeLemmas.{entry_long, too_many}}
 use Rattle.krs_wire.proofs.fields.so_many_entries_at.Goals as goal
 
 pub loop-preserved : goal.loop-preserved

@@ -1,6 +1,5 @@
-use Rattle.std.proofs.Common.{◌≡◌, ◌-◌}
-use Rattle.krs_wire.specs.Bodies.{entry_field}
-use Rattle.krs_wire.specs.Field.{many_read}
+use Rattle.std.proofs.Common.{◌-◌, ◌≡◌}
+use Rattle.krs_wire.specs.{Bodies.entry_field, Field.many_read}
 use Rattle.krs_wire.proofs.CountLemmas.{with_front}
 use Rattle.krs_wire.proofs.fields.so_many_entries_at.Given as goal
 

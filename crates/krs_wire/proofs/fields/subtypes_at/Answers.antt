@@ -1,9 +1,7 @@
-use Rattle.std.proofs.Common.{◌≡◌, ◌-◌, ◌+◌, ◌<◌, List, ℕ, ap, sym, subst, take, length, ◌∙◌}
-use Rattle.std.specs.Int.{w32}
-use Rattle.std.proofs.lemmas.List.{take_more_set, take_all, length-set}
-use Rattle.krs_wire.specs.Field.{number, many_read}
-use Rattle.krs_wire.specs.Faulting.{or_bad_body}
-use Rattle.krs_wire.proofs.CountLemmas.{with_front, many_on, many_ends, many_done}
+use Rattle.std.proofs.Common.{◌+◌, ◌-◌, ◌<◌, ◌∙◌, ◌≡◌, ap, length, length-set, List, subst, sym, take, take_all, w32, ℕ}
+use Rattle.std.proofs.lemmas.List.{take_more_set}
+use Rattle.krs_wire.specs.{Faulting.or_bad_body, Field.{many_read, number}}
+use Rattle.krs_wire.proofs.CountLemmas.{many_done, many_ends, many_on, with_front}
 use Rattle.krs_wire.proofs.fields.subtypes_at.Goals as goal
 
 pub loop-place-preserved : goal.loop-place-preserved

@@ -1,6 +1,5 @@
-use Rattle.std.proofs.Common.{◌≡◌, ◌-◌, take, length}
-use Rattle.std.specs.Int.{w32}
-use Rattle.krs_wire.specs.Field.{number, many_read}
+use Rattle.std.proofs.Common.{◌-◌, ◌≡◌, length, take, w32}
+use Rattle.krs_wire.specs.Field.{many_read, number}
 use Rattle.krs_wire.proofs.CountLemmas.{with_front}
 use Rattle.krs_wire.proofs.fields.subtypes_at.Given as goal
 

@@ -1,4 +1,4 @@
-use Rattle.krs_wire.proofs.AskLemmas.{front_takes, front_again}
+use Rattle.krs_wire.proofs.AskLemmas.{front_again, front_takes}
 use Rattle.krs_wire.proofs.laws.one_encoding.Goals as goal
 
 pub returns-clause-found : goal.returns-clause-found

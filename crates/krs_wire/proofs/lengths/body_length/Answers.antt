@@ -1,5 +1,4 @@
-use Rattle.std.proofs.Common.{sym, ap, ◌∙◌}
-use Rattle.std.specs.Prelude.{ℕ, min}
+use Rattle.std.proofs.Common.{◌∙◌, ap, min, sym, ℕ}
 use Rattle.krs_types.specs.Rows.{row_of}
 use Rattle.krs_wire.proofs.PutLemmas.{length_fields}
 use Rattle.krs_wire.proofs.lengths.body_length.Goals as goal

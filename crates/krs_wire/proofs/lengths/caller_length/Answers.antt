@@ -1,4 +1,4 @@
-use Rattle.std.proofs.Common.{length, ap, arith}
+use Rattle.std.proofs.Common.{ap, arith, length}
 use Rattle.krs_wire.proofs.CountLemmas.{length_numbers}
 use Rattle.krs_wire.proofs.lengths.caller_length.Goals as goal
 

@@ -1,6 +1,4 @@
-use Rattle.std.proofs.Common.{◌≡◌, ◌+◌, length, take}
-use Rattle.std.specs.Prelude.{min}
-use Rattle.std.specs.List.{flat_map}
+use Rattle.std.proofs.Common.{◌+◌, ◌≡◌, flat_map, length, min, take}
 use Rattle.krs_wire.specs.Bodies.{entry_field}
 use Rattle.krs_wire.proofs.lengths.entries_length.Given as goal
 

@@ -1,6 +1,4 @@
-use Rattle.std.proofs.Common.{◌≡◌, ◌*◌, length, arith}
-use Rattle.std.specs.Int.{w32}
-use Rattle.std.specs.List.{flat_map}
+use Rattle.std.proofs.Common.{◌*◌, ◌≡◌, arith, flat_map, length, w32}
 use Rattle.krs_wire.specs.Field.{number}
 use Rattle.krs_wire.proofs.CountLemmas.{length_numbers}
 use Rattle.krs_wire.proofs.lengths.entry_length.Goals as goal

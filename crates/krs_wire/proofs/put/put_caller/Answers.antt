@@ -1,7 +1,7 @@
-use Rattle.std.proofs.Common.{◌++◌}
-use Rattle.std.specs.Int.{w32, to_le_bytes}
+use Rattle.std.proofs.Common.{◌++◌, w32}
+use Rattle.std.specs.Int.{to_le_bytes}
 use Rattle.krs_wire.specs.Bodies.{groups_field}
-use Rattle.krs_wire.proofs.PutLemmas.{then_put, long_behind}
+use Rattle.krs_wire.proofs.PutLemmas.{long_behind, then_put}
 use Rattle.krs_wire.proofs.put.put_caller.Goals as goal
 
 pub returns-clause-ok : goal.returns-clause-ok

@@ -1,8 +1,7 @@
-use Rattle.std.proofs.Common.{rules, arith, refl, length, ◌<◌, ◌++◌}
-use Rattle.std.specs.Int.{w32, to_le_bytes}
+use Rattle.std.proofs.Common.{◌++◌, ◌<◌, arith, length, refl, rules, w32}
+use Rattle.std.specs.Int.{to_le_bytes}
 use Rattle.krs_wire.specs.Bodies.{entry_field}
-use Rattle.krs_wire.proofs.CountLemmas.{length_entries}
-use Rattle.krs_wire.proofs.PutLemmas.{then_one, fit_one}
+use Rattle.krs_wire.proofs.{CountLemmas.length_entries, PutLemmas.{fit_one, then_one}}
 use Rattle.krs_wire.proofs.put.put_entries.Goals as goal
 
 pub loop-line-preserved : goal.loop-line-preserved

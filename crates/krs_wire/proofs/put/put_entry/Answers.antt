@@ -1,6 +1,5 @@
-use Rattle.std.proofs.Common.{rules, ◌≡◌, ◌++◌, List, ℕ, OnOk, ap, ◌∙◌, append_assoc}
-use Rattle.std.specs.Int.{w32, to_le_bytes}
-use Rattle.std.specs.List.{flat_map}
+use Rattle.std.proofs.Common.{◌++◌, ◌∙◌, ◌≡◌, ap, append_assoc, flat_map, List, OnOk, rules, w32, ℕ}
+use Rattle.std.specs.Int.{to_le_bytes}
 use Rattle.krs_wire.proofs.PutLemmas.{then_put}
 use Rattle.krs_wire.proofs.put.put_entry.Goals as goal
 

@@ -1,4 +1,4 @@
-use Rattle.std.proofs.Common.{rules, arith, refl, length, ◌<◌}
+use Rattle.std.proofs.Common.{◌<◌, arith, length, refl, rules}
 use Rattle.krs_wire.proofs.CountLemmas.{length_numbers}
 use Rattle.krs_wire.proofs.put.put_groups.Goals as goal
 

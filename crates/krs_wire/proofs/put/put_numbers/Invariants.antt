@@ -1,6 +1,5 @@
-use Rattle.std.proofs.Common.{◌≡◌, ◌++◌, ◌<◌, ◌^◌, take}
-use Rattle.std.specs.Int.{w32, to_le_bytes}
-use Rattle.std.specs.List.{flat_map, AllByRecursion}
+use Rattle.std.proofs.Common.{◌++◌, ◌<◌, ◌^◌, ◌≡◌, flat_map, take, w32}
+use Rattle.std.specs.{Int.to_le_bytes, List.AllByRecursion}
 use Rattle.krs_wire.proofs.put.put_numbers.Given as goal
 
 abbrev pub invariant-loop-number : goal.invariant-loop-number

@@ -1,9 +1,7 @@
-use Rattle.std.proofs.Common.{ℕ, false, arith, Some, None, Result, Ok, Err}
-use Rattle.krs_types.specs.declared.ask.Answer.{Answer}
-use Rattle.krs_types.specs.declared.errno.Errno.{Errno}
+use Rattle.std.proofs.Common.{arith, Err, false, None, Ok, Result, Some, ℕ}
+use Rattle.krs_types.specs.declared.{ask.Answer.Answer, errno.Errno.Errno}
 use Rattle.krs_wire.specs.Reply.{shape_of, untagged}
-use Rattle.krs_wire.proofs.FieldLemmas.{IsBytes}
-use Rattle.krs_wire.proofs.ReplyLemmas.{found_untagged, reply_takes, only_by}
+use Rattle.krs_wire.proofs.{FieldLemmas.IsBytes, ReplyLemmas.{found_untagged, only_by, reply_takes}}
 use Rattle.krs_wire.proofs.replies.decode_reply.Goals as goal
 
 pub returns-in-Ok-Some-clause-exact : goal.returns-in-Ok-Some-clause-exact

@@ -1,8 +1,7 @@
-use Rattle.std.proofs.Common.{ℕ, true, arith, Some, None, Result, Ok, Err}
-use Rattle.krs_types.specs.declared.ask.Answer.{Answer}
-use Rattle.krs_types.specs.declared.errno.Errno.{Errno}
+use Rattle.std.proofs.Common.{arith, Err, None, Ok, Result, Some, true, ℕ}
+use Rattle.krs_types.specs.declared.{ask.Answer.Answer, errno.Errno.Errno}
 use Rattle.krs_wire.specs.Reply.{shape_of, tagged}
-use Rattle.krs_wire.proofs.ReplyLemmas.{found_tagged, reply_takes, only_by}
+use Rattle.krs_wire.proofs.ReplyLemmas.{found_tagged, only_by, reply_takes}
 use Rattle.krs_wire.proofs.replies.decode_reply2.Goals as goal
 
 pub unreachable-requires : goal.unreachable-requires

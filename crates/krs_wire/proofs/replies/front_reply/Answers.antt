@@ -1,11 +1,7 @@
-use Rattle.std.proofs.Common.{rules, arith, ◌≡◌, take}
-use Rattle.std.specs.Prelude.{IsOk, Err}
-use Rattle.std.specs.Int.{w32}
-use Rattle.krs_wire.specs.declared.fault.WireFault.TheVariants.{Memory}
+use Rattle.std.proofs.Common.{◌≡◌, arith, Err, IsOk, rules, take, w32}
 use Rattle.krs_wire.specs.Field.{number}
-use Rattle.krs_wire.specs.Reply.{reply_by, status_fields, shape_of}
-use Rattle.krs_wire.proofs.CaseLemmas.{ok_body}
-use Rattle.krs_wire.proofs.ReplyLemmas.{found_in}
+use Rattle.krs_wire.specs.{Reply.{reply_by, shape_of, status_fields}, declared.fault.WireFault.TheVariants.Memory}
+use Rattle.krs_wire.proofs.{CaseLemmas.ok_body, ReplyLemmas.found_in}
 use Rattle.krs_wire.proofs.replies.front_reply.Goals as goal
 
 pub returns-in_err-reply-clause-memory : goal.returns-in_err-reply-clause-memory

@@ -1,6 +1,4 @@
-use Rattle.std.proofs.Common.{◌≡◌, ◌+◌, length}
-use Rattle.std.specs.Vec.{vec_capacity}
-use Rattle.std.specs.List.{sum_by}
+use Rattle.std.proofs.Common.{◌+◌, ◌≡◌, length, sum_by, vec_capacity}
 use Rattle.krs_wire.proofs.reserve.drop_parts.Given as goal
 
 -- what is left and what is gone took as much as all did

@@ -1,6 +1,4 @@
-use Rattle.std.proofs.Common.{◌≡◌, ◌≤◌, ◌+◌}
-use Rattle.std.specs.Vec.{vec_capacity}
-use Rattle.std.specs.List.{sum_by}
+use Rattle.std.proofs.Common.{◌+◌, ◌≡◌, ◌≤◌, sum_by, vec_capacity}
 use Rattle.krs_wire.proofs.reserve.take_parts.Given as goal
 
 -- the parts take what they took, and what was taken so far, which is no more than was asked for

@@ -1,6 +1,5 @@
 -- What is kept of the pieces is those that are not empty.
-use Rattle.std.proofs.Common.{◌==◌, length, not, refl, rules, tests}
-use Rattle.std.proofs.lemmas.List.Elements.{filter_from_retain}
+use Rattle.std.proofs.{Common.{◌==◌, length, not, refl, rules, tests}, lemmas.List.Elements.filter_from_retain}
 use Rattle.krs_words.proofs.WordsLemmas.{map-filter}
 use Rattle.krs_words.proofs.line.words.Goals as goal
 

@@ -1,6 +1,5 @@
-use Rattle.std.proofs.Common.{◌≡◌, ◌<◌, length, IfSome, arith}
-use Rattle.std.specs.Io.Buffered.{reader_remaining}
-use Rattle.std.specs.Io.BufRead.{take_through}
+use Rattle.std.proofs.Common.{◌<◌, ◌≡◌, arith, IfSome, length}
+use Rattle.std.specs.Io.{BufRead.take_through, Buffered.reader_remaining}
 use Rattle.krs_words.proofs.LinesLemmas.{ReadsLines-first}
 use Rattle.krs_words.proofs.lines.read_line.Goals as goal
 

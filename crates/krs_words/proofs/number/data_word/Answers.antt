@@ -1,5 +1,5 @@
 -- Digits behind `hex:`.
-use Rattle.std.proofs.Common.{rules, ◌≡◌, true, nat_eq, codes, sym, ap, ◌∙◌, Err}
+use Rattle.std.proofs.Common.{◌∙◌, ◌≡◌, ap, codes, Err, nat_eq, rules, sym, true}
 use Rattle.std.specs.List.{starts_with}
 use Rattle.krs_words.proofs.DataLemmas.{bad_word, good_word}
 use Rattle.krs_words.proofs.number.data_word.Goals as goal

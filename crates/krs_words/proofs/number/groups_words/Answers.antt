@@ -1,7 +1,6 @@
-use Rattle.std.proofs.Common.{sym}
-use Rattle.std.proofs.lemmas.List.{take_all}
+use Rattle.std.proofs.Common.{sym, take_all}
 use Rattle.krs_words.specs.Number.{u32_of}
-use Rattle.krs_words.proofs.EachLemmas.{all_more, said_more, not_all_at, each-some, each-none}
+use Rattle.krs_words.proofs.EachLemmas.{all_more, each-none, each-some, not_all_at, said_more}
 use Rattle.krs_words.proofs.number.groups_words.Goals as goal
 
 pub loop-word-preserved : goal.loop-word-preserved

@@ -1,7 +1,6 @@
 -- What has hexadecimal digits alone is text, and `from_str_radix` reads it.
-use Rattle.std.proofs.Common.{◌<◌, ◌≤◌, length, arith, sym}
-use Rattle.std.proofs.lemmas.Bool.Decides.{nat_tests}
-use Rattle.krs_words.proofs.HexadecimalLemmas.{IsUtf8-from_hexadecimal, hexadecimal_from_radix}
+use Rattle.std.proofs.{Common.{◌<◌, ◌≤◌, arith, length, sym}, lemmas.Bool.Decides.nat_tests}
+use Rattle.krs_words.proofs.HexadecimalLemmas.{hexadecimal_from_radix, IsUtf8-from_hexadecimal}
 use Rattle.krs_words.proofs.number.hexadecimal_word.Goals as goal
 
 pub returns-in-Err : goal.returns-in-Err

@@ -1,7 +1,6 @@
 -- What has digits alone is text, and `parse` reads it.
-use Rattle.std.proofs.Common.{◌<◌, length, arith, sym}
-use Rattle.std.proofs.lemmas.Bool.Decides.{nat_tests}
-use Rattle.krs_words.proofs.NumberLemmas.{IsUtf8-from_digits, below_from_parse}
+use Rattle.std.proofs.{Common.{◌<◌, arith, length, sym}, lemmas.Bool.Decides.nat_tests}
+use Rattle.krs_words.proofs.NumberLemmas.{below_from_parse, IsUtf8-from_digits}
 use Rattle.krs_words.proofs.number.u64_word.Goals as goal
 
 pub returns-in-Err : goal.returns-in-Err

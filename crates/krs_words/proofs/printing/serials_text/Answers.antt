@@ -1,4 +1,4 @@
-use Rattle.std.proofs.Common.{rules, ◌<◌, ◌^◌}
+use Rattle.std.proofs.Common.{◌<◌, ◌^◌, rules}
 use Rattle.krs_words.proofs.SerialsLemmas.{shown_on}
 use Rattle.krs_words.proofs.printing.serials_text.Goals as goal
 

@@ -1,5 +1,5 @@
 -- All was written, and then the writer failed.
-use Rattle.krs_words.proofs.WritingLemmas.{WritesFront-all, Appends-kept}
+use Rattle.krs_words.proofs.WritingLemmas.{Appends-kept, WritesFront-all}
 use Rattle.krs_words.proofs.writing.write_text.Goals as goal
 
 pub returns-in-Err-clause-failed : goal.returns-in-Err-clause-failed

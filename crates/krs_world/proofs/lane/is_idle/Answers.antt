@@ -1,11 +1,9 @@
-use Rattle.std.proofs.Common.{◌≡◌, ◌<◌, length, ap, sym, ◌∙◌, arith}
+use Rattle.std.proofs.{Common.{◌<◌, ◌∙◌, ◌≡◌, ap, arith, length, sym}, lemmas.Bool.false≢true}
 use borrow.Author.Tests.{true-ltb}
 use lib.ListN.{get_elem?}
 use mathlib.Core.Option.{some, some-injective}
-use Rattle.std.proofs.lemmas.Bool.{false≢true}
 use Rattle.krs_world.specs.declared.lane.Lane.{Lane}
-use Rattle.krs_world.proofs.KeptHistory.{in_bounds}
-use Rattle.krs_world.proofs.Answering.{lane_here}
+use Rattle.krs_world.proofs.{Answering.lane_here, KeptHistory.in_bounds}
 use Rattle.krs_world.proofs.lane.is_idle.Goals as goal
 
 pub returns-in-Empty-clause-idle : goal.returns-in-Empty-clause-idle

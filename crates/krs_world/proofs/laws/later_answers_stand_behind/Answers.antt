@@ -1,4 +1,4 @@
-use Rattle.krs_world.proofs.Between.{posted_between, collected_between}
+use Rattle.krs_world.proofs.Between.{collected_between, posted_between}
 use Rattle.krs_world.proofs.laws.later_answers_stand_behind.Goals as goal
 
 pub returns-clause-answered : goal.returns-clause-answered

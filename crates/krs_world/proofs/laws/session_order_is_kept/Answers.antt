@@ -1,4 +1,4 @@
-use Rattle.krs_world.proofs.Orders.{session_order, served_order}
+use Rattle.krs_world.proofs.Orders.{served_order, session_order}
 use Rattle.krs_world.proofs.laws.session_order_is_kept.Goals as goal
 
 pub returns-clause-put : goal.returns-clause-put

@@ -1,9 +1,6 @@
-use Rattle.std.proofs.Common.{Err, subst}
-use Rattle.std.specs.Prelude.{◌≢◌}
-use Rattle.krs_types.specs.declared.ask.Ask.{Ask}
-use Rattle.krs_types.specs.declared.errno.Errno.TheVariants.{ENOMEM}
-use Rattle.krs_model.specs.Step.{Step}
-use Rattle.krs_model.specs.History.{event_of}
+use Rattle.std.proofs.Common.{◌≢◌, Err, subst}
+use Rattle.krs_types.specs.declared.{ask.Ask.Ask, errno.Errno.TheVariants.ENOMEM}
+use Rattle.krs_model.specs.{History.event_of, Step.Step}
 use Rattle.krs_world.specs.Replay.{FoundNoMemory}
 use Rattle.krs_world.proofs.Replays.{answered_else, no_both}
 use Rattle.krs_world.proofs.replay.replay.Goals as goal

@@ -1,8 +1,7 @@
-use Rattle.std.proofs.Common.{rules, arith, ◌≡◌, ◌+◌, ◌<◌, Bool, true, false, [], ◌∷◌, ◌++◌, length, take, sym, ◌∙◌}
-use Rattle.std.proofs.Common.{subst}
-use Rattle.std.proofs.lemmas.List.{take_more}
-use Rattle.krs_model.specs.State.{State, starting_at}
-use Rattle.krs_world.specs.Replay.{Replayed, IsReplayedBy}
+use Rattle.std.proofs.Common.{[], ◌++◌, ◌+◌, ◌<◌, ◌∙◌, ◌∷◌, ◌≡◌, arith, Bool, false, length, rules, subst, sym, take}
+use Rattle.std.proofs.{Common.true, lemmas.List.take_more}
+use Rattle.krs_model.specs.State.{starting_at, State}
+use Rattle.krs_world.specs.Replay.{IsReplayedBy, Replayed}
 use Rattle.krs_world.proofs.Replays.{further, stops}
 use Rattle.krs_world.proofs.replay.replay_check.Goals as goal
 

@@ -1,4 +1,4 @@
-use Rattle.std.proofs.Common.{ℕ, Some, ap, ◌∙◌}
+use Rattle.std.proofs.Common.{◌∙◌, ap, Some, ℕ}
 use Rattle.krs_world.proofs.world.may_put.Goals as goal
 
 pub returns-clause-may : goal.returns-clause-may

@@ -1,4 +1,4 @@
-use Rattle.std.proofs.Common.{◌∷◌, ◌++◌, ◌∙◌, []}
+use Rattle.std.proofs.Common.{[], ◌++◌, ◌∙◌, ◌∷◌}
 use Rattle.krs_model.specs.History.{event_of}
 use Rattle.krs_world.proofs.world.serve.Goals as goal
 

@@ -1,7 +1,6 @@
-use Rattle.std.proofs.Common.{Some, refl}
+use Rattle.std.proofs.Common.{refl, Some}
 use Rattle.krs_ctx.specs.View.{anchors_in}
-use Rattle.krs_ctx.proofs.FitLemmas.{ring_fit}
-use Rattle.krs_ctx.proofs.WholeLemmas.{ring_whole}
+use Rattle.krs_ctx.proofs.{FitLemmas.ring_fit, WholeLemmas.ring_whole}
 use Rattle.krs_ctx.proofs.contexts.Contexts.attach_process.Goals as goal
 
 pub invariant_of-self : goal.invariant_of-self

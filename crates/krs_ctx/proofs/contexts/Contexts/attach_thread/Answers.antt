@@ -1,8 +1,7 @@
-use Rattle.std.proofs.Common.{Some, refl}
+use Rattle.std.proofs.Common.{refl, Some}
 use Rattle.krs_types.specs.declared.context.Context.{Context}
 use Rattle.krs_ctx.specs.View.{anchors_in}
-use Rattle.krs_ctx.proofs.FitLemmas.{altered_fit}
-use Rattle.krs_ctx.proofs.WholeLemmas.{altered_whole}
+use Rattle.krs_ctx.proofs.{FitLemmas.altered_fit, WholeLemmas.altered_whole}
 use Rattle.krs_ctx.proofs.contexts.Contexts.attach_thread.Goals as goal
 
 pub invariant_of-self : goal.invariant_of-self

@@ -1,8 +1,7 @@
 use Rattle.std.proofs.Common.{refl}
-use Rattle.krs_model.specs.Asks.Invalidating.{detached, context_without, rings_without}
+use Rattle.krs_model.specs.Asks.Invalidating.{context_without, detached, rings_without}
 use Rattle.krs_ctx.specs.View.{anchors_in}
-use Rattle.krs_ctx.proofs.FitLemmas.{mapped_fit}
-use Rattle.krs_ctx.proofs.WholeLemmas.{mapped_whole}
+use Rattle.krs_ctx.proofs.{FitLemmas.mapped_fit, WholeLemmas.mapped_whole}
 use Rattle.krs_ctx.proofs.contexts.Contexts.detach.Goals as goal
 
 pub invariant_of-self : goal.invariant_of-self

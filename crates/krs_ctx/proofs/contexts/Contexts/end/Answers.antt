@@ -1,10 +1,8 @@
-use Rattle.std.proofs.Common.{◌≡◌, ◌∙◌, None, refl, sym}
+use Rattle.std.proofs.Common.{◌∙◌, ◌≡◌, None, refl, sym}
 use Rattle.krs_model.specs.Table.{at}
 use Rattle.krs_ctx.specs.View.{anchors_in}
 use Rattle.krs_ctx.proofs.FitLemmas.{ended_fit, exited_fit}
-use Rattle.krs_ctx.proofs.ToldLemmas.{without_none}
-use Rattle.krs_ctx.proofs.WholeLemmas.{ended_whole, same_whole}
-use Rattle.krs_ctx.proofs.LeavingLemmas.{ended_none}
+use Rattle.krs_ctx.proofs.{LeavingLemmas.ended_none, ToldLemmas.without_none, WholeLemmas.{ended_whole, same_whole}}
 use Rattle.krs_ctx.proofs.contexts.Contexts.end.Goals as goal
 
 pub invariant_of-self : goal.invariant_of-self

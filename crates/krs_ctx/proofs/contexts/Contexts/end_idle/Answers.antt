@@ -1,7 +1,6 @@
 use Rattle.std.proofs.Common.{refl}
 use Rattle.krs_ctx.specs.View.{anchors_in}
-use Rattle.krs_ctx.proofs.FitLemmas.{idle_fit}
-use Rattle.krs_ctx.proofs.WholeLemmas.{idle_whole}
+use Rattle.krs_ctx.proofs.{FitLemmas.idle_fit, WholeLemmas.idle_whole}
 use Rattle.krs_ctx.proofs.contexts.Contexts.end_idle.Goals as goal
 
 pub invariant_of-self : goal.invariant_of-self

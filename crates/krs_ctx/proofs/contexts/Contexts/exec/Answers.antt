@@ -1,12 +1,8 @@
-use Rattle.std.proofs.Common.{◌≡◌, ◌∙◌, ℕ, None, Option, Some, Ok, filter, ap, refl, sym, subst}
+use Rattle.std.proofs.Common.{◌∙◌, ◌≡◌, ap, filter, None, Ok, Option, refl, Some, subst, sym, ℕ}
 use Rattle.krs_types.specs.declared.context.Context.{Context}
-use Rattle.krs_model.specs.Table.{at}
-use Rattle.krs_model.specs.Lookup.{context_of}
-use Rattle.krs_ctx.specs.Anchors.{Anchors, anchored}
-use Rattle.krs_ctx.specs.View.{anchors_in}
-use Rattle.krs_ctx.proofs.FitLemmas.{execed_fit}
-use Rattle.krs_ctx.proofs.ToldLemmas.{exec_told, there}
-use Rattle.krs_ctx.proofs.WholeLemmas.{execed_whole}
+use Rattle.krs_model.specs.{Lookup.context_of, Table.at}
+use Rattle.krs_ctx.specs.{Anchors.{anchored, Anchors}, View.anchors_in}
+use Rattle.krs_ctx.proofs.{FitLemmas.execed_fit, ToldLemmas.{exec_told, there}, WholeLemmas.execed_whole}
 use Rattle.krs_ctx.proofs.contexts.Contexts.exec.Goals as goal
 
 pub invariant_of-self : goal.invariant_of-self

@@ -1,5 +1,4 @@
-use Rattle.krs_ctx.proofs.LeavingLemmas.{exit_told}
-use Rattle.krs_ctx.proofs.ToldLemmas.{there}
+use Rattle.krs_ctx.proofs.{LeavingLemmas.exit_told, ToldLemmas.there}
 use Rattle.krs_ctx.proofs.contexts.Contexts.exit.Goals as goal
 
 pub returns : goal.returns

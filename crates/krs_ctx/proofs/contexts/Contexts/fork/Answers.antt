@@ -1,6 +1,6 @@
-use Rattle.std.proofs.Common.{Ok, refl, ap, ◌∙◌}
+use Rattle.std.proofs.Common.{◌∙◌, ap, Ok, refl}
 use Rattle.krs_ctx.specs.Anchors.{anchored}
-use Rattle.krs_ctx.proofs.ToldLemmas.{fork_refused, fork_accepted, fork_told, is_ok, refused, wants}
+use Rattle.krs_ctx.proofs.ToldLemmas.{fork_accepted, fork_refused, fork_told, is_ok, refused, wants}
 use Rattle.krs_ctx.proofs.contexts.Contexts.fork.Goals as goal
 
 pub returns-in_err-entered : goal.returns-in_err-entered

@@ -1,5 +1,5 @@
 use Rattle.std.proofs.Common.{refl}
-use Rattle.krs_ctx.proofs.ToldLemmas.{greeted_told, opened_next, opened_back, refused, wants}
+use Rattle.krs_ctx.proofs.ToldLemmas.{greeted_told, opened_back, opened_next, refused, wants}
 use Rattle.krs_ctx.proofs.contexts.Contexts.hello.Goals as goal
 
 pub returns-in_err-number-clause-done : goal.returns-in_err-number-clause-done

@@ -1,5 +1,5 @@
 use Rattle.std.proofs.Common.{◌==◌, not, refl}
-use Rattle.krs_ctx.proofs.LeavingLemmas.{leaving_one, ended_fewer, left_idle, whole_left}
+use Rattle.krs_ctx.proofs.LeavingLemmas.{ended_fewer, leaving_one, left_idle, whole_left}
 use Rattle.krs_ctx.proofs.contexts.Contexts.leave.Goals as goal
 
 pub ending-preserved : goal.ending-preserved

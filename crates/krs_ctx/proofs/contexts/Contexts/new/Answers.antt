@@ -1,5 +1,4 @@
-use Rattle.krs_ctx.proofs.FitLemmas.{none_fit}
-use Rattle.krs_ctx.proofs.WholeLemmas.{none_whole}
+use Rattle.krs_ctx.proofs.{FitLemmas.none_fit, WholeLemmas.none_whole}
 use Rattle.krs_ctx.proofs.contexts.Contexts.new.Goals as goal
 
 pub invariant_of-result : goal.invariant_of-result

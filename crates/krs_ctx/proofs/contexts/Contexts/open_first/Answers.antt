@@ -1,10 +1,8 @@
-use Rattle.std.proofs.Common.{◌≡◌, None, ap, ◌∙◌, sym, refl}
+use Rattle.std.proofs.Common.{◌∙◌, ◌≡◌, ap, None, refl, sym}
 use Rattle.krs_types.specs.declared.context.Context.{Context}
 use Rattle.krs_model.specs.Table.{put}
-use Rattle.krs_ctx.specs.View.{anchors_in}
-use Rattle.krs_ctx.specs.Anchors.{Anchors}
-use Rattle.krs_ctx.proofs.FitLemmas.{enter_fit}
-use Rattle.krs_ctx.proofs.WholeLemmas.{first_whole}
+use Rattle.krs_ctx.specs.{Anchors.Anchors, View.anchors_in}
+use Rattle.krs_ctx.proofs.{FitLemmas.enter_fit, WholeLemmas.first_whole}
 use Rattle.krs_ctx.proofs.contexts.Contexts.open_first.Goals as goal
 
 pub invariant_of-self-2 : goal.invariant_of-self-2

@@ -1,7 +1,5 @@
-use Rattle.std.proofs.Common.{◌≡◌, ℕ, Option, subst}
-use Rattle.std.specs.Result.{OnOk}
-use Rattle.krs_model.specs.State.{State}
-use Rattle.krs_model.specs.Asks.Hello.{with_context}
+use Rattle.std.proofs.Common.{◌≡◌, OnOk, Option, subst, ℕ}
+use Rattle.krs_model.specs.{Asks.Hello.with_context, State.State}
 use Rattle.krs_ctx.specs.Anchors.{anchored}
 use Rattle.krs_ctx.proofs.contexts.Contexts.open_known.Goals as goal
 

@@ -1,7 +1,5 @@
-use Rattle.std.proofs.Common.{ap, ◌∙◌, sym}
-use Rattle.std.proofs.lemmas.Bool.{true≢false}
-use Rattle.krs_ctx.specs.View.{anchors_in}
-use Rattle.krs_ctx.specs.Anchors.{Anchors}
+use Rattle.std.proofs.Common.{◌∙◌, ap, sym, true≢false}
+use Rattle.krs_ctx.specs.{Anchors.Anchors, View.anchors_in}
 use Rattle.krs_ctx.proofs.FitLemmas.{taken_back_fit}
 use Rattle.krs_ctx.proofs.contexts.Contexts.take_back.Goals as goal
 

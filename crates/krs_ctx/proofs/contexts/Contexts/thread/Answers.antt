@@ -1,12 +1,10 @@
-use Rattle.std.proofs.Common.{◌≡◌, Some, Ok, refl, ◌∙◌, sym, ap, subst}
+use Rattle.std.proofs.Common.{◌∙◌, ◌≡◌, ap, Ok, refl, Some, subst, sym}
 use Rattle.krs_types.specs.declared.context.Context.{Context}
-use Rattle.krs_model.specs.Table.{at, put}
-use Rattle.krs_model.specs.Lookup.{context_of}
-use Rattle.krs_ctx.specs.Anchors.{Anchors, anchored}
-use Rattle.krs_ctx.specs.View.{anchors_in}
+use Rattle.krs_model.specs.{Lookup.context_of, Table.{at, put}}
+use Rattle.krs_ctx.specs.{Anchors.{anchored, Anchors}, View.anchors_in}
 use Rattle.krs_ctx.proofs.FitLemmas.{thread_fit}
+use Rattle.krs_ctx.proofs.ToldLemmas.{is_ok, refused, there, thread_accepted, thread_refused, thread_told, wants}
 use Rattle.krs_ctx.proofs.WholeLemmas.{thread_whole}
-use Rattle.krs_ctx.proofs.ToldLemmas.{thread_refused, thread_accepted, thread_told, there, is_ok, refused, wants}
 use Rattle.krs_ctx.proofs.contexts.Contexts.thread.Goals as goal
 
 pub returns-in_err-entered : goal.returns-in_err-entered

@@ -1,4 +1,4 @@
-use Rattle.std.proofs.Common.{length, ap, ◌∙◌}
+use Rattle.std.proofs.Common.{◌∙◌, ap, length}
 use Rattle.krs_ctx.proofs.MembersLemmas.{drained}
 use Rattle.krs_ctx.proofs.members.Members.count.Goals as goal
 

@@ -1,4 +1,4 @@
-use Rattle.std.proofs.Common.{true, cond, nat_eq, ◌&&◌, ap, ◌∙◌}
+use Rattle.std.proofs.Common.{◌&&◌, ◌∙◌, ap, cond, nat_eq, true}
 use Rattle.krs_ctx.specs.Members.{lists}
 use Rattle.krs_ctx.proofs.MembersLemmas.{tied}
 use Rattle.krs_ctx.proofs.members.Members.insert.Goals as goal

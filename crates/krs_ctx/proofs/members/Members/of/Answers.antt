@@ -1,4 +1,4 @@
-use Rattle.std.proofs.Common.{ap, ◌∙◌}
+use Rattle.std.proofs.Common.{◌∙◌, ap}
 use Rattle.krs_ctx.specs.Members.{pairs_of}
 use Rattle.krs_ctx.proofs.MembersLemmas.{range_is}
 use Rattle.krs_ctx.proofs.members.Members.of.Goals as goal

@@ -1,8 +1,7 @@
-use Rattle.std.proofs.Common.{◌≡◌, ℕ, ap, ◌∙◌, sym, subst}
-use Rattle.std.specs.List.{list_any, AllByRecursion}
-use Rattle.std.specs.BTreeMap.{is_at}
+use Rattle.std.proofs.Common.{◌∙◌, ◌≡◌, ap, subst, sym, ℕ}
+use Rattle.std.specs.{BTreeMap.is_at, List.{AllByRecursion, list_any}}
 use Rattle.krs_model.specs.Queues.{place_cmp}
-use Rattle.krs_ctx.proofs.MembersLemmas.{of_one, listed_among}
+use Rattle.krs_ctx.proofs.MembersLemmas.{listed_among, of_one}
 use Rattle.krs_ctx.proofs.members.Members.other.Goals as goal
 
 pub loop-member-init : goal.loop-member-init

@@ -1,6 +1,5 @@
 use Rattle.std.proofs.Common.{◌≡◌, ◌≢◌, ℕ}
-use Rattle.std.specs.List.{list_any, AllByRecursion}
-use Rattle.std.specs.BTreeMap.{is_at}
+use Rattle.std.specs.{BTreeMap.is_at, List.{AllByRecursion, list_any}}
 use Rattle.krs_model.specs.Queues.{place_cmp}
 use Rattle.krs_ctx.specs.Members.{lists}
 use Rattle.krs_ctx.proofs.members.Members.other.Given as goal

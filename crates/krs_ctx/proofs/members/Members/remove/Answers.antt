@@ -1,4 +1,4 @@
-use Rattle.std.proofs.Common.{false, cond, nat_eq, ◌&&◌, ap, ◌∙◌}
+use Rattle.std.proofs.Common.{◌&&◌, ◌∙◌, ap, cond, false, nat_eq}
 use Rattle.krs_ctx.specs.Members.{lists}
 use Rattle.krs_ctx.proofs.MembersLemmas.{tied}
 use Rattle.krs_ctx.proofs.members.Members.remove.Goals as goal

@@ -1,8 +1,7 @@
-use Rattle.std.proofs.Common.{◌==◌, ◌∙◌, ap}
-use Rattle.std.specs.List.{count_by}
+use Rattle.std.proofs.Common.{◌==◌, ◌∙◌, ap, count_by}
 use Rattle.std.specs.Map.{values_of}
-use Rattle.krs_model.specs.Table.{Table}
 use Rattle.krs_types.specs.declared.context.Context.{Context}
+use Rattle.krs_model.specs.Table.{Table}
 use Rattle.krs_ctx.proofs.GroupLemmas.{counted}
 use Rattle.krs_ctx.proofs.table.ContextTable.count.Goals as goal
 

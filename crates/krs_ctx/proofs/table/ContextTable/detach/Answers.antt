@@ -1,8 +1,7 @@
-use Rattle.std.proofs.Common.{refl, sym, subst}
-use Rattle.krs_model.specs.Table.{Table, Rises}
-use Rattle.krs_model.specs.Asks.Invalidating.{context_without}
-use Rattle.krs_model.proofs.Tables.Rising.{map_rises}
+use Rattle.std.proofs.Common.{refl, subst, sym}
 use Rattle.krs_types.specs.declared.context.Context.{Context}
+use Rattle.krs_model.specs.{Asks.Invalidating.context_without, Table.{Rises, Table}}
+use Rattle.krs_model.proofs.Tables.Rising.{map_rises}
 use Rattle.krs_ctx.specs.Members.{AreListed}
 use Rattle.krs_ctx.proofs.ListedLemmas.{listed_mapped}
 use Rattle.krs_ctx.proofs.table.ContextTable.detach.Goals as goal

@@ -1,4 +1,4 @@
-use Rattle.std.proofs.Common.{◌==◌, ◌||◌, not, filter, ap, ◌∙◌}
+use Rattle.std.proofs.Common.{◌==◌, ◌||◌, ◌∙◌, ap, filter, not}
 use Rattle.krs_ctx.proofs.GroupLemmas.{ends_one}
 use Rattle.krs_ctx.proofs.table.ContextTable.end_others.Goals as goal
 

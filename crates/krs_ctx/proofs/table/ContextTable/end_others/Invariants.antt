@@ -1,4 +1,4 @@
-use Rattle.std.proofs.Common.{◌≡◌, ◌==◌, ◌||◌, not, filter, length}
+use Rattle.std.proofs.Common.{◌==◌, ◌||◌, ◌≡◌, filter, length, not}
 use Rattle.krs_ctx.proofs.table.ContextTable.end_others.Given as goal
 
 -- none has ended that was to stay

@@ -1,8 +1,6 @@
-use Rattle.std.proofs.Common.{◌≡◌, ◌==◌, not, subst}
-use Rattle.std.specs.Option.{IfSome, IfNone}
-use Rattle.krs_model.specs.Table.{Table}
-use Rattle.krs_model.specs.Asks.Leaving.{contexts_without}
+use Rattle.std.proofs.Common.{◌==◌, ◌≡◌, IfNone, IfSome, not, subst}
 use Rattle.krs_types.specs.declared.context.Context.{Context}
+use Rattle.krs_model.specs.{Asks.Leaving.contexts_without, Table.Table}
 use Rattle.krs_ctx.specs.Members.{IsThereFailing}
 use Rattle.krs_ctx.proofs.GroupLemmas.{first_fails, none_fails}
 use Rattle.krs_ctx.proofs.table.ContextTable.first_of.Goals as goal

@@ -1,7 +1,6 @@
 use Rattle.std.proofs.Common.{◌∙◌, ap}
-use Rattle.krs_model.specs.Table.{Table}
-use Rattle.krs_model.specs.Asks.Leaving.{has_process}
 use Rattle.krs_types.specs.declared.context.Context.{Context}
+use Rattle.krs_model.specs.{Asks.Leaving.has_process, Table.Table}
 use Rattle.krs_ctx.proofs.GroupLemmas.{first_tells}
 use Rattle.krs_ctx.proofs.table.ContextTable.has_process.Goals as goal
 

@@ -1,7 +1,7 @@
-use Rattle.std.proofs.Common.{◌≡◌, None, ap, ◌∙◌, sym, subst}
-use Rattle.krs_model.specs.Table.{Table, at, Rises}
-use Rattle.krs_model.proofs.Tables.Rising.{put_rises}
+use Rattle.std.proofs.Common.{◌∙◌, ◌≡◌, ap, None, subst, sym}
 use Rattle.krs_types.specs.declared.context.Context.{Context}
+use Rattle.krs_model.specs.Table.{at, Rises, Table}
+use Rattle.krs_model.proofs.Tables.Rising.{put_rises}
 use Rattle.krs_ctx.specs.Members.{AreListed}
 use Rattle.krs_ctx.proofs.ListedLemmas.{accepted}
 use Rattle.krs_ctx.proofs.table.ContextTable.insert.Goals as goal

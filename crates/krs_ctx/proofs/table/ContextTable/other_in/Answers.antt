@@ -1,9 +1,8 @@
-use Rattle.std.proofs.Common.{◌≡◌, ◌==◌, ◌||◌, not, filter, subst}
-use Rattle.std.specs.Option.{IfSome, IfNone}
-use Rattle.krs_model.specs.Table.{Table}
+use Rattle.std.proofs.Common.{◌==◌, ◌||◌, ◌≡◌, filter, IfNone, IfSome, not, subst}
 use Rattle.krs_types.specs.declared.context.Context.{Context}
+use Rattle.krs_model.specs.Table.{Table}
 use Rattle.krs_ctx.specs.Members.{IsThereFailing}
-use Rattle.krs_ctx.proofs.GroupLemmas.{other_fails, no_other_fails}
+use Rattle.krs_ctx.proofs.GroupLemmas.{no_other_fails, other_fails}
 use Rattle.krs_ctx.proofs.table.ContextTable.other_in.Goals as goal
 
 pub returns-clause-there : goal.returns-clause-there

@@ -1,7 +1,7 @@
-use Rattle.std.proofs.Common.{refl, sym, subst}
-use Rattle.krs_model.specs.Table.{Table, Rises}
-use Rattle.krs_model.proofs.Tables.Rising.{alter_rises}
+use Rattle.std.proofs.Common.{refl, subst, sym}
 use Rattle.krs_types.specs.declared.context.Context.{Context}
+use Rattle.krs_model.specs.Table.{Rises, Table}
+use Rattle.krs_model.proofs.Tables.Rising.{alter_rises}
 use Rattle.krs_ctx.specs.Members.{AreListed}
 use Rattle.krs_ctx.proofs.ListedLemmas.{listed_altered}
 use Rattle.krs_ctx.proofs.table.ContextTable.set_thread.Goals as goal

@@ -1,5 +1,4 @@
-use Rattle.std.proofs.Common.{◌≡◌}
-use Rattle.std.specs.Prelude.{vec_capacity, vec_len}
+use Rattle.std.proofs.Common.{◌≡◌, vec_capacity, vec_len}
 use Rattle.krs_desk.proofs.bells.Bells.new.Given as goal
 
 abbrev pub invariant-loop : goal.invariant-loop

@@ -1,11 +1,9 @@
-use Rattle.std.proofs.Common.{rules, refl, sym, ap, ◌∙◌, ◌+◌, ◌∷◌}
+use Rattle.std.proofs.Common.{◌+◌, ◌∙◌, ◌∷◌, ap, refl, rules, sym}
 use Rattle.atomic_table.specs.Table.{rest}
-use Rattle.krs_desk.specs.declared.slot.SlotValue.TheVariants.{Empty, Home, Asked}
-use Rattle.krs_desk.specs.Seated.{Me, part, opening, is_free}
-use Rattle.krs_desk.proofs.Seats.{front}
-use Rattle.krs_desk.proofs.Serves.{grabs_at, answers_at}
-use Rattle.krs_desk.proofs.Helps.{read_is, slot_is, emptied, lies_behind, replied, answered_is}
-use Rattle.krs_desk.proofs.Helps.{serves_one, serves_none}
+use Rattle.krs_desk.specs.Seated.{is_free, Me, opening, part}
+use Rattle.krs_desk.specs.declared.slot.SlotValue.TheVariants.{Asked, Empty, Home}
+use Rattle.krs_desk.proofs.Helps.{answered_is, emptied, lies_behind, read_is, replied, serves_none, serves_one, slot_is}
+use Rattle.krs_desk.proofs.{Seats.front, Serves.{answers_at, grabs_at}}
 use Rattle.krs_desk.proofs.desk.Desk.answer_lane.Goals as goal
 
 pub compare_exchange-requires : goal.compare_exchange-requires

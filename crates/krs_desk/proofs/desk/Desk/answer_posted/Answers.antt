@@ -1,7 +1,6 @@
-use Rattle.std.proofs.Common.{refl, sym, inl, inr}
+use Rattle.std.proofs.Common.{inl, inr, refl, sym}
 use Rattle.krs_desk.specs.Helping.{lanes_of}
-use Rattle.krs_desk.proofs.Helps.{starts}
-use Rattle.krs_desk.proofs.KeptTurns.{none_free}
+use Rattle.krs_desk.proofs.{Helps.starts, KeptTurns.none_free}
 use Rattle.krs_desk.proofs.desk.Desk.answer_posted.Goals as goal
 
 pub returns-then-not-is_any_posted-clause-gone : goal.returns-then-not-is_any_posted-clause-gone

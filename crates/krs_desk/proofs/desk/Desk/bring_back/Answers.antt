@@ -1,6 +1,5 @@
 use Rattle.std.proofs.Common.{rules}
-use Rattle.krs_desk.proofs.Serves.{brings_at}
-use Rattle.krs_desk.proofs.Helps.{brought_is, brought_mine}
+use Rattle.krs_desk.proofs.{Helps.{brought_is, brought_mine}, Serves.brings_at}
 use Rattle.krs_desk.proofs.desk.Desk.bring_back.Goals as goal
 
 pub compare_exchange-requires : goal.compare_exchange-requires

@@ -1,5 +1,5 @@
 use Rattle.krs_store.specs.Told.{reply_of}
-use Rattle.krs_desk.proofs.Calls.{none_found, found_more, adds_after, looked_after}
+use Rattle.krs_desk.proofs.Calls.{adds_after, found_more, looked_after, none_found}
 use Rattle.krs_desk.proofs.desk.Desk.call_anew.Goals as goal
 
 pub returns-in-Err-clause-added : goal.returns-in-Err-clause-added

@@ -1,5 +1,5 @@
 use Rattle.std.proofs.Common.{rules}
-use Rattle.krs_desk.proofs.Calls.{waits_still, waits_helped, adds_collected}
+use Rattle.krs_desk.proofs.Calls.{adds_collected, waits_helped, waits_still}
 use Rattle.krs_desk.proofs.desk.Desk.call_by_post.Goals as goal
 
 pub returns-in-Some-collect-clause-added : goal.returns-in-Some-collect-clause-added

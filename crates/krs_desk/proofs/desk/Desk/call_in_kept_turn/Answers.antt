@@ -1,9 +1,8 @@
-use Rattle.std.proofs.Common.{rules, arith, sym, ◌∙◌}
+use Rattle.std.proofs.Common.{◌∙◌, arith, rules, sym}
 use Rattle.krs_store.specs.Told.{reply_of}
 use Rattle.krs_desk.specs.Keeping.{given_back}
-use Rattle.krs_desk.proofs.Helps.{held_at}
-use Rattle.krs_desk.proofs.KeptTurns.{placed, placed_kept, goes_finished, goes_kept, kept_seated, kept_told, kept_idle}
-use Rattle.krs_desk.proofs.KeptTurns.{kept_looked, knows}
+use Rattle.krs_desk.proofs.{Helps.held_at, KeptTurns.{goes_finished, goes_kept, kept_idle, kept_looked, kept_seated}}
+use Rattle.krs_desk.proofs.KeptTurns.{kept_told, knows, placed, placed_kept}
 use Rattle.krs_desk.proofs.desk.Desk.call_in_kept_turn.Goals as goal
 
 pub answer_posted-requires-clause-held : goal.answer_posted-requires-clause-held

@@ -1,12 +1,9 @@
-use Rattle.std.proofs.Common.{rules, sym, ap, ◌∙◌, arith}
-use Rattle.krs_desk.specs.Sitting.{Sitting}
+use Rattle.std.proofs.Common.{◌∙◌, ap, arith, rules, sym}
 use Rattle.krs_store.specs.Told.{reply_of}
-use Rattle.krs_desk.specs.Seated.{Me, part, is_free}
-use Rattle.krs_desk.specs.Keeping.{given_back}
-use Rattle.krs_desk.proofs.Seats.{missed_seated}
+use Rattle.krs_desk.specs.{Keeping.given_back, Seated.{is_free, Me, part}, Sitting.Sitting}
 use Rattle.krs_desk.proofs.Helps.{had_held, held_at}
-use Rattle.krs_desk.proofs.Turns.{turn_seated, turn_adds, turn_idle, turn_looked}
-use Rattle.krs_desk.proofs.KeptTurns.{unkept_seated, placed, placed_kept, goes_finished, goes_kept}
+use Rattle.krs_desk.proofs.KeptTurns.{goes_finished, goes_kept, placed, placed_kept, unkept_seated}
+use Rattle.krs_desk.proofs.{Seats.missed_seated, Turns.{turn_adds, turn_idle, turn_looked, turn_seated}}
 use Rattle.krs_desk.proofs.desk.Desk.call_in_turn.Goals as goal
 
 pub take-requires-clause-rests : goal.take-requires-clause-rests

@@ -1,5 +1,4 @@
-use Rattle.krs_desk.proofs.Ending.{ends_in}
-use Rattle.krs_desk.proofs.KeptTurns.{given_seated, given_view}
+use Rattle.krs_desk.proofs.{Ending.ends_in, KeptTurns.{given_seated, given_view}}
 use Rattle.krs_desk.proofs.desk.Desk.close.Goals as goal
 
 pub give_back-requires-clause-kept : goal.give_back-requires-clause-kept

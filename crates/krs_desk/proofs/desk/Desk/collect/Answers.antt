@@ -1,8 +1,7 @@
-use Rattle.std.proofs.Common.{rules, ap}
+use Rattle.std.proofs.Common.{ap, rules}
 use Rattle.krs_desk.specs.declared.slot.SlotValue.TheVariants.{Replied}
-use Rattle.krs_desk.proofs.Seats.{front}
-use Rattle.krs_desk.proofs.Posts.{collects_at, collects_is, collected_is, gathered}
 use Rattle.krs_desk.proofs.KeptTurns.{given_seated, given_view}
+use Rattle.krs_desk.proofs.{Posts.{collected_is, collects_at, collects_is, gathered}, Seats.front}
 use Rattle.krs_desk.proofs.desk.Desk.collect.Goals as goal
 
 pub give_back-requires-clause-kept : goal.give_back-requires-clause-kept

@@ -1,11 +1,8 @@
-use Rattle.std.proofs.Common.{rules, ap, true, false, refl}
-use Rattle.krs_world.specs.declared.view.Standing.TheVariants.{Opening}
-use Rattle.krs_world.specs.Knowing.{view}
+use Rattle.std.proofs.Common.{ap, false, refl, rules, true}
+use Rattle.krs_world.specs.{Knowing.view, declared.view.Standing.TheVariants.Opening}
 use Rattle.krs_desk.specs.Parts.{sight}
-use Rattle.krs_desk.proofs.Joining.{cuts_of, cuts_deal, given_is}
-use Rattle.krs_desk.proofs.Dealing.{opens_at, picks_at, picked_is}
-use Rattle.krs_desk.proofs.Seats.{fresh_seated}
-use Rattle.krs_desk.proofs.KeptTurns.{placed}
+use Rattle.krs_desk.proofs.Dealing.{opens_at, picked_is, picks_at}
+use Rattle.krs_desk.proofs.{Joining.{cuts_deal, cuts_of, given_is}, KeptTurns.placed, Seats.fresh_seated}
 use Rattle.krs_desk.proofs.desk.Desk.deal.Goals as goal
 
 pub split_seat-token-requires : goal.split_seat-token-requires

@@ -1,9 +1,6 @@
-use Rattle.std.proofs.Common.{◌≡◌, [], length}
-use Rattle.std.specs.Prelude.{vec_capacity, false}
-use Rattle.krs_world.specs.Knowing.{view}
-use Rattle.krs_world.specs.declared.view.Standing.TheVariants.{Opening}
-use Rattle.krs_desk.specs.Parts.{sight}
-use Rattle.krs_desk.specs.Sitting.{fresh_seats}
+use Rattle.std.proofs.Common.{[], ◌≡◌, false, length, vec_capacity}
+use Rattle.krs_world.specs.{Knowing.view, declared.view.Standing.TheVariants.Opening}
+use Rattle.krs_desk.specs.{Parts.sight, Sitting.fresh_seats}
 use Rattle.krs_desk.proofs.desk.Desk.deal.Given as goal
 
 abbrev pub invariant-loop-lane : goal.invariant-loop-lane

@@ -1,4 +1,4 @@
-use Rattle.std.proofs.Common.{rules, ap}
+use Rattle.std.proofs.Common.{ap, rules}
 use Rattle.krs_desk.specs.declared.slot.SlotValue.TheVariants.{Home}
 use Rattle.krs_desk.proofs.Seats.{front}
 use Rattle.krs_desk.proofs.desk.Desk.fetch.Goals as goal

@@ -1,9 +1,8 @@
-use Rattle.std.proofs.Common.{refl, sym, ap, ◌∙◌, subst}
+use Rattle.std.proofs.Common.{◌∙◌, ap, refl, subst, sym}
 use Rattle.krs_model.specs.History.{event_of}
 use Rattle.krs_store.specs.Told.{reply_of}
-use Rattle.krs_desk.specs.Seated.{Me, HoldsBefore, part}
-use Rattle.krs_desk.proofs.Seats.{front}
-use Rattle.krs_desk.proofs.Turns.{serves_is, holds_before, finished}
+use Rattle.krs_desk.specs.Seated.{HoldsBefore, Me, part}
+use Rattle.krs_desk.proofs.{Seats.front, Turns.{finished, holds_before, serves_is}}
 use Rattle.krs_desk.proofs.desk.Desk.finish.Goals as goal
 
 pub serve_into-told-requires-clause-has : goal.serve_into-told-requires-clause-has

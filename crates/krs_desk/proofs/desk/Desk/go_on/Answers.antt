@@ -1,10 +1,8 @@
-use Rattle.std.proofs.Common.{refl, sym, ap, ◌∙◌, subst}
+use Rattle.std.proofs.Common.{◌∙◌, ap, refl, subst, sym}
 use Rattle.krs_model.specs.History.{event_of}
 use Rattle.krs_store.specs.Told.{reply_of}
-use Rattle.krs_desk.specs.Seated.{Me, HoldsBefore, part}
-use Rattle.krs_desk.proofs.Seats.{front}
-use Rattle.krs_desk.proofs.Turns.{serves_is, holds_before}
-use Rattle.krs_desk.proofs.KeptTurns.{goes_on}
+use Rattle.krs_desk.specs.Seated.{HoldsBefore, Me, part}
+use Rattle.krs_desk.proofs.{KeptTurns.goes_on, Seats.front, Turns.{holds_before, serves_is}}
 use Rattle.krs_desk.proofs.desk.Desk.go_on.Goals as goal
 
 pub serve_into-told-requires-clause-has : goal.serve_into-told-requires-clause-has

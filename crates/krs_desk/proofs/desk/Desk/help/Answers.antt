@@ -1,8 +1,7 @@
-use Rattle.std.proofs.Common.{rules, ap, ◌∙◌}
+use Rattle.std.proofs.Common.{◌∙◌, ap, rules}
 use Rattle.krs_desk.specs.Sitting.{Sitting}
-use Rattle.krs_desk.proofs.Seats.{missed_seated}
-use Rattle.krs_desk.proofs.Helps.{had_held, had_hand, helped, helped_seated, within}
-use Rattle.krs_desk.proofs.KeptTurns.{given_seated, given_view, placed}
+use Rattle.krs_desk.proofs.Helps.{had_hand, had_held, helped, helped_seated, within}
+use Rattle.krs_desk.proofs.{KeptTurns.{given_seated, given_view, placed}, Seats.missed_seated}
 use Rattle.krs_desk.proofs.desk.Desk.help.Goals as goal
 
 pub give_back-requires-clause-kept : goal.give_back-requires-clause-kept

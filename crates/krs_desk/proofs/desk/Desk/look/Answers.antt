@@ -1,9 +1,8 @@
-use Rattle.std.proofs.Common.{rules, sym, ap, ◌∙◌}
+use Rattle.std.proofs.Common.{◌∙◌, ap, rules, sym}
 use Rattle.krs_world.specs.Knowing.{loaded}
-use Rattle.krs_desk.specs.Parts.{sat}
-use Rattle.krs_desk.specs.Seated.{opening, part}
-use Rattle.krs_desk.proofs.Joining.{cuts_of, cuts_one, cuts_two, kept_is, given_is, glues_at, both_is, looks_at, looked_is}
-use Rattle.krs_desk.proofs.Joining.{pair, settles_at, settled_is}
+use Rattle.krs_desk.specs.{Parts.sat, Seated.{opening, part}}
+use Rattle.krs_desk.proofs.Joining.{both_is, cuts_of, cuts_one, cuts_two, given_is, glues_at, kept_is, looked_is}
+use Rattle.krs_desk.proofs.Joining.{looks_at, pair, settled_is, settles_at}
 use Rattle.krs_desk.proofs.desk.Desk.look.Goals as goal
 
 pub split_seat-other-requires : goal.split_seat-other-requires

@@ -1,7 +1,6 @@
 use Rattle.std.proofs.Common.{rules}
 use Rattle.krs_desk.specs.Seated.{opening}
-use Rattle.krs_desk.proofs.Seats.{met_seated, meets_at}
-use Rattle.krs_desk.proofs.KeptTurns.{given_seated, given_view, placed}
+use Rattle.krs_desk.proofs.{KeptTurns.{given_seated, given_view, placed}, Seats.{meets_at, met_seated}}
 use Rattle.krs_desk.proofs.desk.Desk.meet.Goals as goal
 
 pub give_back-requires-clause-kept : goal.give_back-requires-clause-kept

@@ -1,5 +1,4 @@
-use Rattle.std.proofs.Common.{◌≡◌, ◌∷◌}
-use Rattle.std.specs.Prelude.{vec_capacity, replicate}
+use Rattle.std.proofs.Common.{◌∷◌, ◌≡◌, replicate, vec_capacity}
 use Rattle.krs_desk.specs.declared.slot.SlotValue.TheVariants.{Empty, Home}
 use Rattle.krs_desk.proofs.desk.Desk.open_within.Given as goal
 

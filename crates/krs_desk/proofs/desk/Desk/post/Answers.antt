@@ -1,9 +1,7 @@
-use Rattle.std.proofs.Common.{rules, ap, ◌∙◌, false}
-use Rattle.krs_desk.specs.declared.slot.SlotValue.TheVariants.{Empty}
-use Rattle.krs_desk.specs.Sitting.{Sitting}
-use Rattle.krs_desk.proofs.Seats.{front, own_slot}
-use Rattle.krs_desk.proofs.Posts.{posts_at, posted_is, posted_seated, posts_is}
+use Rattle.std.proofs.Common.{◌∙◌, ap, false, rules}
+use Rattle.krs_desk.specs.{Sitting.Sitting, declared.slot.SlotValue.TheVariants.Empty}
 use Rattle.krs_desk.proofs.KeptTurns.{given_seated, given_view, placed}
+use Rattle.krs_desk.proofs.{Posts.{posted_is, posted_seated, posts_at, posts_is}, Seats.{front, own_slot}}
 use Rattle.krs_desk.proofs.desk.Desk.post.Goals as goal
 
 pub give_back-requires-clause-kept : goal.give_back-requires-clause-kept

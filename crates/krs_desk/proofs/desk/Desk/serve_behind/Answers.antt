@@ -1,7 +1,6 @@
 use Rattle.std.proofs.Common.{ap}
 use Rattle.krs_desk.specs.Seated.{Me}
-use Rattle.krs_desk.proofs.Seats.{front}
-use Rattle.krs_desk.proofs.Helps.{behind, served_behind}
+use Rattle.krs_desk.proofs.{Helps.{behind, served_behind}, Seats.front}
 use Rattle.krs_desk.proofs.desk.Desk.serve_behind.Goals as goal
 
 pub serve-reply-requires-clause-has : goal.serve-reply-requires-clause-has

@@ -1,8 +1,6 @@
-use Rattle.std.proofs.Common.{rules, refl, sym, ap, ◌∙◌, subst}
-use Rattle.krs_desk.specs.Seated.{Me, part, is_free}
-use Rattle.krs_desk.specs.Helping.{ServesLane}
-use Rattle.krs_desk.proofs.Serves.{glances_at}
-use Rattle.krs_desk.proofs.Helps.{held_on, serves_none}
+use Rattle.std.proofs.Common.{◌∙◌, ap, refl, rules, subst, sym}
+use Rattle.krs_desk.specs.{Helping.ServesLane, Seated.{is_free, Me, part}}
+use Rattle.krs_desk.proofs.{Helps.{held_on, serves_none}, Serves.glances_at}
 use Rattle.krs_desk.proofs.desk.Desk.serve_lane.Goals as goal
 
 pub load-requires : goal.load-requires

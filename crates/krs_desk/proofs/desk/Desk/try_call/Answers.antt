@@ -1,11 +1,8 @@
-use Rattle.std.proofs.Common.{rules, sym, ap, ◌∙◌}
-use Rattle.krs_desk.specs.Sitting.{Sitting}
+use Rattle.std.proofs.Common.{◌∙◌, ap, rules, sym}
 use Rattle.krs_store.specs.Told.{reply_of}
-use Rattle.krs_desk.specs.Seated.{Me, part}
-use Rattle.krs_desk.proofs.Seats.{missed_seated}
-use Rattle.krs_desk.proofs.Helps.{had_held, starts}
-use Rattle.krs_desk.proofs.Turns.{turn_seated, turn_adds, turn_idle}
-use Rattle.krs_desk.proofs.KeptTurns.{given_seated, given_view, placed}
+use Rattle.krs_desk.specs.{Seated.{Me, part}, Sitting.Sitting}
+use Rattle.krs_desk.proofs.{Helps.{had_held, starts}, KeptTurns.{given_seated, given_view, placed}, Seats.missed_seated}
+use Rattle.krs_desk.proofs.Turns.{turn_adds, turn_idle, turn_seated}
 use Rattle.krs_desk.proofs.desk.Desk.try_call.Goals as goal
 
 pub give_back-requires-clause-kept : goal.give_back-requires-clause-kept

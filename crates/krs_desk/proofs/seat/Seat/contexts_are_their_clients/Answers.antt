@@ -1,6 +1,5 @@
 use Rattle.krs_model.proofs.History.Belongings.{step_leaves}
-use Rattle.krs_laws.proofs.Belonging.{contexts_are, readers_are}
-use Rattle.krs_laws.proofs.Opened.{queues_are}
+use Rattle.krs_laws.proofs.{Belonging.{contexts_are, readers_are}, Opened.queues_are}
 use Rattle.krs_desk.proofs.seat.Seat.contexts_are_their_clients.Goals as goal
 
 pub returns-clause-left : goal.returns-clause-left

@@ -1,6 +1,5 @@
 use Rattle.std.proofs.Common.{subst}
-use Rattle.krs_desk.specs.Sitting.{Sitting}
-use Rattle.krs_desk.specs.Seen.{IsOneHistory}
+use Rattle.krs_desk.specs.{Seen.IsOneHistory, Sitting.Sitting}
 use Rattle.krs_desk.proofs.KeptTurns.{knows}
 use Rattle.krs_desk.proofs.seat.Seat.has_seen_one_history.Goals as goal
 

@@ -1,4 +1,4 @@
-use Rattle.krs_desk.proofs.KeptTurns.{idle_told, busy_told}
+use Rattle.krs_desk.proofs.KeptTurns.{busy_told, idle_told}
 use Rattle.krs_desk.proofs.seat.Seat.is_idle.Goals as goal
 
 pub returns-clause-idle : goal.returns-clause-idle

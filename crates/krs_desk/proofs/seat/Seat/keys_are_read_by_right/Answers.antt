@@ -1,9 +1,7 @@
 use Rattle.std.proofs.Common.{subst}
 use Rattle.krs_model.proofs.Hiding.Readers.{reads_by_right}
-use Rattle.krs_desk.specs.Sitting.{Sitting}
-use Rattle.krs_desk.specs.Seen.{AreReadByRight}
-use Rattle.krs_desk.proofs.Seen.{read_by_right}
-use Rattle.krs_desk.proofs.KeptTurns.{knows}
+use Rattle.krs_desk.specs.{Seen.AreReadByRight, Sitting.Sitting}
+use Rattle.krs_desk.proofs.{KeptTurns.knows, Seen.read_by_right}
 use Rattle.krs_desk.proofs.seat.Seat.keys_are_read_by_right.Goals as goal
 
 pub returns-clause-seen : goal.returns-clause-seen

@@ -1,5 +1,4 @@
-use Rattle.krs_desk.proofs.Between.{real_time, collected, posted}
-use Rattle.krs_desk.proofs.Running.{keeps_real_time}
+use Rattle.krs_desk.proofs.{Between.{collected, posted, real_time}, Running.keeps_real_time}
 use Rattle.krs_desk.proofs.seat.Seat.later_calls_stand_behind.Goals as goal
 
 pub returns-clause-running : goal.returns-clause-running

@@ -1,9 +1,6 @@
 use Rattle.std.proofs.Common.{subst}
-use Rattle.krs_laws.specs.Emptied.{AreEmptiedInTheEnd}
-use Rattle.krs_laws.specs.Limits.{IsWithinLimits, StaysWithinLimits}
-use Rattle.krs_laws.proofs.Leftovers.{emptied}
-use Rattle.krs_laws.proofs.Opened.{emptied_by_leaving}
-use Rattle.krs_laws.proofs.WithinLimits.{stays_within}
+use Rattle.krs_laws.specs.{Emptied.AreEmptiedInTheEnd, Limits.{IsWithinLimits, StaysWithinLimits}}
+use Rattle.krs_laws.proofs.{Leftovers.emptied, Opened.emptied_by_leaving, WithinLimits.stays_within}
 use Rattle.krs_desk.specs.Sitting.{Sitting}
 use Rattle.krs_desk.proofs.KeptTurns.{knows}
 use Rattle.krs_desk.proofs.seat.Seat.limits_hold_in_every_history.Goals as goal

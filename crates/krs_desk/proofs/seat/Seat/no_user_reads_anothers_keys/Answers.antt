@@ -1,13 +1,9 @@
-use Rattle.std.proofs.Common.{ℕ, List, Bool, subst}
+use Rattle.std.proofs.Common.{Bool, List, subst, ℕ}
 use Rattle.krs_types.specs.declared.event.Event.{Event}
-use Rattle.krs_model.specs.State.{State}
-use Rattle.krs_model.specs.Confidentiality.{HasToItself, KeepsPrivate, ReadsAlone}
-use Rattle.krs_model.proofs.Isolation.Steps.{none_alone}
-use Rattle.krs_model.proofs.Isolation.Histories.{keeps_to_itself, end_alone}
-use Rattle.krs_desk.specs.Sitting.{Sitting}
-use Rattle.krs_desk.specs.Confidentiality.{AreReadAlone}
-use Rattle.krs_desk.proofs.ReadAlone.{read_alone}
-use Rattle.krs_desk.proofs.KeptTurns.{knows}
+use Rattle.krs_model.specs.{Confidentiality.{HasToItself, KeepsPrivate, ReadsAlone}, State.State}
+use Rattle.krs_model.proofs.Isolation.{Histories.{end_alone, keeps_to_itself}, Steps.none_alone}
+use Rattle.krs_desk.specs.{Confidentiality.AreReadAlone, Sitting.Sitting}
+use Rattle.krs_desk.proofs.{KeptTurns.knows, ReadAlone.read_alone}
 use Rattle.krs_desk.proofs.seat.Seat.no_user_reads_anothers_keys.Goals as goal
 
 pub returns-clause-seen : goal.returns-clause-seen

@@ -1,8 +1,6 @@
 use Rattle.std.proofs.Common.{subst}
-use Rattle.krs_laws.specs.Noting.{AllWatchesAreByRight, AllNotesAreCalledFor}
-use Rattle.krs_laws.proofs.Callers.{all_called}
-use Rattle.krs_laws.proofs.Watchers.{owners_ask, all_set}
-use Rattle.krs_laws.proofs.WatchesSet.{all_by_right}
+use Rattle.krs_laws.specs.Noting.{AllNotesAreCalledFor, AllWatchesAreByRight}
+use Rattle.krs_laws.proofs.{Callers.all_called, Watchers.{all_set, owners_ask}, WatchesSet.all_by_right}
 use Rattle.krs_desk.specs.Sitting.{Sitting}
 use Rattle.krs_desk.proofs.KeptTurns.{knows}
 use Rattle.krs_desk.proofs.seat.Seat.notes_are_by_right.Goals as goal

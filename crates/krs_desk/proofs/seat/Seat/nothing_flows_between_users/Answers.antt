@@ -1,4 +1,4 @@
-use Rattle.std.proofs.Common.{ℕ, Bool, subst}
+use Rattle.std.proofs.Common.{Bool, subst, ℕ}
 use Rattle.krs_model.specs.Confidentiality.{HasToItself, TellsNoStranger}
 use Rattle.krs_model.proofs.Isolation.Flows.{tells_no_stranger}
 use Rattle.krs_desk.specs.Sitting.{Sitting}

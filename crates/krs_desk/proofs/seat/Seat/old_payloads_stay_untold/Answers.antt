@@ -1,8 +1,6 @@
 use Rattle.std.proofs.Common.{subst}
 use Rattle.krs_laws.specs.Expired.{ExpiredStaysUnread}
-use Rattle.krs_laws.proofs.AddedOver.{adds_forget}
-use Rattle.krs_laws.proofs.Expiry.{expired_unread}
-use Rattle.krs_laws.proofs.Overwriting.{updates_forget}
+use Rattle.krs_laws.proofs.{AddedOver.adds_forget, Expiry.expired_unread, Overwriting.updates_forget}
 use Rattle.krs_desk.specs.Sitting.{Sitting}
 use Rattle.krs_desk.proofs.KeptTurns.{knows}
 use Rattle.krs_desk.proofs.seat.Seat.old_payloads_stay_untold.Goals as goal

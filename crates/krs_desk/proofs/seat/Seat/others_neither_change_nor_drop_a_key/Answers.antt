@@ -1,4 +1,4 @@
-use Rattle.std.proofs.Common.{ℕ, Bool, subst}
+use Rattle.std.proofs.Common.{Bool, subst, ℕ}
 use Rattle.krs_model.specs.Confidentiality.{HasToItself, LeavesAlone}
 use Rattle.krs_model.proofs.Isolation.Histories.{leaves_alone}
 use Rattle.krs_desk.specs.Sitting.{Sitting}

@@ -1,10 +1,8 @@
 use Rattle.std.proofs.Common.{subst}
 use Rattle.krs_model.specs.Receiving.{GivesStreams}
 use Rattle.krs_model.proofs.History.Streams.{gives_streams}
-use Rattle.krs_desk.specs.Sitting.{Sitting}
-use Rattle.krs_desk.specs.Seen.{GivesItsStreams}
-use Rattle.krs_desk.proofs.Seen.{gives_its_streams}
-use Rattle.krs_desk.proofs.KeptTurns.{knows}
+use Rattle.krs_desk.specs.{Seen.GivesItsStreams, Sitting.Sitting}
+use Rattle.krs_desk.proofs.{KeptTurns.knows, Seen.gives_its_streams}
 use Rattle.krs_desk.proofs.seat.Seat.queues_give_their_streams.Goals as goal
 
 pub returns-clause-seen : goal.returns-clause-seen

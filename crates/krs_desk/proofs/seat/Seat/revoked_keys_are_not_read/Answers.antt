@@ -1,14 +1,8 @@
 use Rattle.std.proofs.Common.{subst}
 use Rattle.krs_model.specs.Revocation.{StaysUnread}
 use Rattle.krs_model.proofs.History.Revocations.{revoked_unread}
-use Rattle.krs_desk.specs.Sitting.{Sitting}
-use Rattle.krs_desk.specs.Seen.{IsNotReadRevoked}
-use Rattle.krs_desk.specs.Between.{RefusesRevoked}
-use Rattle.krs_desk.specs.Running.{StaysRefused}
-use Rattle.krs_desk.proofs.Seen.{not_read_revoked}
-use Rattle.krs_desk.proofs.Between.{refuses_revoked}
-use Rattle.krs_desk.proofs.Running.{stays_refused}
-use Rattle.krs_desk.proofs.KeptTurns.{knows}
+use Rattle.krs_desk.specs.{Between.RefusesRevoked, Running.StaysRefused, Seen.IsNotReadRevoked, Sitting.Sitting}
+use Rattle.krs_desk.proofs.{Between.refuses_revoked, KeptTurns.knows, Running.stays_refused, Seen.not_read_revoked}
 use Rattle.krs_desk.proofs.seat.Seat.revoked_keys_are_not_read.Goals as goal
 
 pub returns-clause-seen : goal.returns-clause-seen

@@ -1,4 +1,4 @@
-use Rattle.krs_desk.proofs.Looking.{looks_in_turn, counts_looks, counts_misses, counts_turns}
+use Rattle.krs_desk.proofs.Looking.{counts_looks, counts_misses, counts_turns, looks_in_turn}
 use Rattle.krs_desk.proofs.seat.Seat.steps_are_counted.Goals as goal
 
 pub returns-clause-turns : goal.returns-clause-turns

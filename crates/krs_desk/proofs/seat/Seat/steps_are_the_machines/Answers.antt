@@ -1,8 +1,5 @@
-use Rattle.krs_desk.proofs.Adding.{steps_as_named}
-use Rattle.krs_desk.proofs.Agreeing.{some_world, one_world}
-use Rattle.krs_desk.proofs.Making.{steps_as}
-use Rattle.krs_desk.proofs.Leading.{runs_as, begins_as, follows_steps}
-use Rattle.krs_desk.proofs.Happening.{steps_happen}
+use Rattle.krs_desk.proofs.{Adding.steps_as_named, Agreeing.{one_world, some_world}, Happening.steps_happen}
+use Rattle.krs_desk.proofs.{Leading.{begins_as, follows_steps, runs_as}, Making.steps_as}
 use Rattle.krs_desk.proofs.seat.Seat.steps_are_the_machines.Goals as goal
 
 pub returns-clause-named : goal.returns-clause-named

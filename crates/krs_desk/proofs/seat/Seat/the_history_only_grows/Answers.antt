@@ -1,4 +1,4 @@
-use Rattle.krs_desk.proofs.Running.{only_grows, keeps_seen_lists, sees_one_order}
+use Rattle.krs_desk.proofs.Running.{keeps_seen_lists, only_grows, sees_one_order}
 use Rattle.krs_desk.proofs.seat.Seat.the_history_only_grows.Goals as goal
 
 pub returns-clause-grows : goal.returns-clause-grows

@@ -1,12 +1,8 @@
 use Rattle.std.proofs.Common.{subst}
 use Rattle.krs_model.proofs.Hiding.Clients.{tells_no_unread}
-use Rattle.krs_model.proofs.Hiding.Told.{tells_by_reads_alone}
-use Rattle.krs_model.proofs.Hiding.Others.{has_others}
-use Rattle.krs_model.proofs.Hiding.Gone.{tells_nobody}
-use Rattle.krs_desk.specs.Sitting.{Sitting}
-use Rattle.krs_desk.specs.Seen.{TellsNobodyAfter}
-use Rattle.krs_desk.proofs.Seen.{told_to_nobody}
-use Rattle.krs_desk.proofs.KeptTurns.{knows}
+use Rattle.krs_model.proofs.Hiding.{Gone.tells_nobody, Others.has_others, Told.tells_by_reads_alone}
+use Rattle.krs_desk.specs.{Seen.TellsNobodyAfter, Sitting.Sitting}
+use Rattle.krs_desk.proofs.{KeptTurns.knows, Seen.told_to_nobody}
 use Rattle.krs_desk.proofs.seat.Seat.unread_payloads_stay_secret.Goals as goal
 
 pub returns-clause-alone : goal.returns-clause-alone

@@ -1,7 +1,6 @@
-use Rattle.std.proofs.Common.{◌≡◌, ℕ, ◌+◌, ◌-◌, ◌≤◌, nat_le, ap, ◌∙◌, arith}
-use Rattle.std.proofs.lemmas.Bool.Decides.{nat_tests}
-use Rattle.krs_hold.proofs.Numbers.{number_seen}
+use Rattle.std.proofs.{Common.{◌+◌, ◌-◌, ◌∙◌, ◌≡◌, ◌≤◌, ap, arith, nat_le, ℕ}, lemmas.Bool.Decides.nat_tests}
 use Rattle.krs_keys.specs.Hashed.{by_serial}
+use Rattle.krs_hold.proofs.Numbers.{number_seen}
 use Rattle.krs_hold.proofs.holders.Holders.has_room.Goals as goal
 
 moved : (n more most : ℕ) → more ≤ most → nat_le n (most - more) ≡ nat_le (n + more) most

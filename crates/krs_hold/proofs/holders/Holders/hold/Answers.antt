@@ -1,6 +1,6 @@
 use Rattle.std.proofs.Common.{arith}
-use Rattle.krs_hold.proofs.Numbers.{number_seen, raised_number, raised_chain}
 use Rattle.krs_keys.specs.Hashed.{by_serial}
+use Rattle.krs_hold.proofs.Numbers.{number_seen, raised_chain, raised_number}
 use Rattle.krs_hold.proofs.holders.Holders.hold.Goals as goal
 
 pub raise-requires : goal.raise-requires

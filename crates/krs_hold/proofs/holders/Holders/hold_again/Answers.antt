@@ -1,4 +1,4 @@
-use Rattle.std.proofs.Common.{ap, ◌∙◌}
+use Rattle.std.proofs.Common.{◌∙◌, ap}
 use Rattle.krs_hold.specs.Tally.{one_more}
 use Rattle.krs_hold.proofs.Numbers.{with_number_there}
 use Rattle.krs_hold.proofs.holders.Holders.hold_again.Goals as goal

@@ -1,5 +1,5 @@
-use Rattle.krs_hold.proofs.Numbers.{gone_number, gone_chain}
 use Rattle.krs_keys.specs.Hashed.{by_serial}
+use Rattle.krs_hold.proofs.Numbers.{gone_chain, gone_number}
 use Rattle.krs_hold.proofs.holders.Holders.let_go.Goals as goal
 
 pub invariant_of-self : goal.invariant_of-self

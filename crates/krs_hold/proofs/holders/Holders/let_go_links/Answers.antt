@@ -1,8 +1,7 @@
 use Rattle.krs_links.specs.Links.{serials}
-use Rattle.krs_keys.specs.Keys.{named_links_of_content}
+use Rattle.krs_keys.specs.{Hashed.by_serial, Keys.named_links_of_content}
 use Rattle.krs_hold.specs.Chain.{Chained}
-use Rattle.krs_hold.proofs.Numbers.{gone_all_numbers, gone_all_chain}
-use Rattle.krs_keys.specs.Hashed.{by_serial}
+use Rattle.krs_hold.proofs.Numbers.{gone_all_chain, gone_all_numbers}
 use Rattle.krs_hold.proofs.holders.Holders.let_go_links.Goals as goal
 
 pub invariant_of-self : goal.invariant_of-self

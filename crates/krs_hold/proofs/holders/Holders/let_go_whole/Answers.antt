@@ -1,9 +1,8 @@
-use Rattle.std.proofs.Common.{◌≡◌, ap, ◌∙◌, replicate}
-use Rattle.krs_hold.specs.Chain.{Chained, holders_at}
-use Rattle.krs_hold.specs.Tally.{number_at, all_less}
+use Rattle.std.proofs.Common.{◌∙◌, ◌≡◌, ap, replicate}
 use Rattle.krs_model.specs.Table.{at}
-use Rattle.krs_hold.proofs.Numbers.{gone_all_numbers, gone_all_chain, number_seen}
 use Rattle.krs_keys.specs.Hashed.{by_serial}
+use Rattle.krs_hold.specs.{Chain.{Chained, holders_at}, Tally.{all_less, number_at}}
+use Rattle.krs_hold.proofs.Numbers.{gone_all_chain, gone_all_numbers, number_seen}
 use Rattle.krs_hold.proofs.holders.Holders.let_go_whole.Goals as goal
 
 pub invariant_of-self : goal.invariant_of-self

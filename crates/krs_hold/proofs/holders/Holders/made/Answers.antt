@@ -1,9 +1,8 @@
-use Rattle.std.proofs.Common.{ap, sym, ◌∙◌}
-use Rattle.std.specs.Option.{is_some}
-use Rattle.krs_hold.specs.Tally.{with_number}
-use Rattle.krs_hold.proofs.Numbers.{number_stays, no_number, number_made, chain_made}
+use Rattle.std.proofs.Common.{◌∙◌, ap, is_some, sym}
 use Rattle.krs_keys.specs.Hashed.{by_serial}
 use Rattle.krs_keys.proofs.HashedLemmas.{at_by_serial, by_serial_put}
+use Rattle.krs_hold.specs.Tally.{with_number}
+use Rattle.krs_hold.proofs.Numbers.{chain_made, no_number, number_made, number_stays}
 use Rattle.krs_hold.proofs.holders.Holders.made.Goals as goal
 
 pub returns-then-contains_key-clause-ok : goal.returns-then-contains_key-clause-ok

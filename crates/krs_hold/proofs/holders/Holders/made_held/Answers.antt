@@ -1,8 +1,7 @@
-use Rattle.std.proofs.Common.{ap, sym, ◌∙◌}
-use Rattle.std.specs.Option.{is_some}
-use Rattle.krs_hold.proofs.Numbers.{number_there, number_held, chain_held}
+use Rattle.std.proofs.Common.{◌∙◌, ap, is_some, sym}
 use Rattle.krs_keys.specs.Hashed.{by_serial}
 use Rattle.krs_keys.proofs.HashedLemmas.{at_by_serial, by_serial_put}
+use Rattle.krs_hold.proofs.Numbers.{chain_held, number_held, number_there}
 use Rattle.krs_hold.proofs.holders.Holders.made_held.Goals as goal
 
 pub hold_again-requires : goal.hold_again-requires

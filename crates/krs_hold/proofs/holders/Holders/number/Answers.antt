@@ -1,6 +1,6 @@
 use Rattle.std.proofs.Common.{◌∙◌}
-use Rattle.krs_hold.proofs.Numbers.{number_seen}
 use Rattle.krs_keys.specs.Hashed.{by_serial}
+use Rattle.krs_hold.proofs.Numbers.{number_seen}
 use Rattle.krs_hold.proofs.holders.Holders.number.Goals as goal
 
 pub returns : goal.returns

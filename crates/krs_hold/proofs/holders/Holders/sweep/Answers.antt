@@ -1,4 +1,4 @@
-use Rattle.std.proofs.Common.{ℕ, sym, subst}
+use Rattle.std.proofs.Common.{subst, sym, ℕ}
 use Rattle.krs_model.specs.Table.{Table}
 use Rattle.krs_hold.specs.Tally.{AreExact}
 use Rattle.krs_hold.proofs.Anchoring.{anchored_sweeps}

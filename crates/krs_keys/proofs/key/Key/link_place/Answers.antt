@@ -1,8 +1,6 @@
-use Rattle.std.proofs.Common.{◌≢◌, Some, IfSome, IfNone, ◌≡◌, sym, subst}
-use Rattle.std.specs.List.{slice_get}
-use Rattle.krs_links.specs.Links.{serials, serial_named}
-use Rattle.krs_keys.specs.declared.key.Content.{Content}
-use Rattle.krs_keys.specs.Keys.{named_links_of_content}
+use Rattle.std.proofs.Common.{◌≡◌, ◌≢◌, IfNone, IfSome, slice_get, Some, subst, sym}
+use Rattle.krs_links.specs.Links.{serial_named, serials}
+use Rattle.krs_keys.specs.{Keys.named_links_of_content, declared.key.Content.Content}
 use Rattle.krs_keys.proofs.key.Key.link_place.Goals as goal
 
 pub returns-in-Links-clause-there : goal.returns-in-Links-clause-there

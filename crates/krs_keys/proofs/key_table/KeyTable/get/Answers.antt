@@ -1,4 +1,4 @@
-use Rattle.std.proofs.Common.{ap, ◌∙◌}
+use Rattle.std.proofs.Common.{◌∙◌, ap}
 use Rattle.krs_model.specs.Table.{at}
 use Rattle.krs_keys.specs.Places.{by_place}
 use Rattle.krs_keys.proofs.key_table.KeyTable.get.Goals as goal

@@ -1,7 +1,6 @@
-use Rattle.std.proofs.Common.{sym, subst}
+use Rattle.std.proofs.Common.{subst, sym}
 use Rattle.krs_model.proofs.Tables.Changes.{below_put}
-use Rattle.krs_keys.specs.Places.{by_place}
-use Rattle.krs_keys.specs.Keys.{AreOfKind}
+use Rattle.krs_keys.specs.{Keys.AreOfKind, Places.by_place}
 use Rattle.krs_keys.proofs.KindsLemmas.{kinds_put}
 use Rattle.krs_keys.proofs.key_table.KeyTable.insert.Goals as goal
 

@@ -1,13 +1,9 @@
-use Rattle.std.proofs.Common.{◌≡◌, refl, ap, ◌∙◌, sym, subst, arith}
-use Rattle.krs_model.specs.Table.{Table, at, without, IsBelow}
-use Rattle.krs_model.proofs.Tables.Changes.{below_put, at_alter_none, without_put}
-use Rattle.krs_keys.specs.declared.key.Key.{Key}
-use Rattle.krs_keys.specs.Places.{by_place}
-use Rattle.krs_keys.specs.Keys.{AreOfKind, with_entry}
-use Rattle.krs_keys.specs.Sessions.{AreSessions}
-use Rattle.krs_keys.proofs.KindsLemmas.{kinds_put, kinds_alter, linked_kind}
-use Rattle.krs_keys.proofs.SessionsLemmas.{sessions_alter}
-use Rattle.krs_keys.proofs.TableLemmas.{seen_as}
+use Rattle.std.proofs.Common.{◌∙◌, ◌≡◌, ap, arith, refl, subst, sym}
+use Rattle.krs_model.specs.Table.{at, IsBelow, Table, without}
+use Rattle.krs_model.proofs.Tables.Changes.{at_alter_none, below_put, without_put}
+use Rattle.krs_keys.specs.{Keys.{AreOfKind, with_entry}, Places.by_place, Sessions.AreSessions, declared.key.Key.Key}
+use Rattle.krs_keys.proofs.KindsLemmas.{kinds_alter, kinds_put, linked_kind}
+use Rattle.krs_keys.proofs.{SessionsLemmas.sessions_alter, TableLemmas.seen_as}
 use Rattle.krs_keys.proofs.key_table.KeyTable.insert_linked.Goals as goal
 
 pub invariant_of-self-in-Ok : goal.invariant_of-self-in-Ok

@@ -1,8 +1,7 @@
-use Rattle.std.proofs.Common.{◌+◌, refl, sym, subst, arith}
+use Rattle.std.proofs.Common.{◌+◌, arith, refl, subst, sym}
 use Rattle.krs_model.specs.Table.{put}
 use Rattle.krs_model.proofs.Tables.Changes.{below_put}
-use Rattle.krs_keys.specs.Places.{by_place}
-use Rattle.krs_keys.specs.Keys.{AreOfKind}
+use Rattle.krs_keys.specs.{Keys.AreOfKind, Places.by_place}
 use Rattle.krs_keys.proofs.KindsLemmas.{kinds_put}
 use Rattle.krs_keys.proofs.key_table.KeyTable.insert_two.Goals as goal
 

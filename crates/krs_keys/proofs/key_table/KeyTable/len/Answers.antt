@@ -1,6 +1,5 @@
-use Rattle.std.proofs.Common.{length, nat_cmp, ap, subst, ◌∙◌}
-use Rattle.std.specs.List.Sorted.{IsStrictlySortedBy}
-use Rattle.std.specs.Map.{keys_of}
+use Rattle.std.proofs.Common.{◌∙◌, ap, length, nat_cmp, subst}
+use Rattle.std.specs.{List.Sorted.IsStrictlySortedBy, Map.keys_of}
 use Rattle.krs_keys.specs.Table.{Keys}
 use Rattle.krs_keys.proofs.PlacesLemmas.{rises_in_slots}
 use Rattle.krs_keys.proofs.key_table.KeyTable.len.Goals as goal

@@ -1,11 +1,8 @@
-use Rattle.std.proofs.Common.{refl, ap, ◌∙◌, sym, subst}
+use Rattle.std.proofs.Common.{◌∙◌, ap, refl, subst, sym}
 use Rattle.krs_model.specs.Table.{at}
 use Rattle.krs_model.proofs.Tables.Changes.{at_alter_none}
-use Rattle.krs_keys.specs.Places.{by_place}
-use Rattle.krs_keys.specs.Keys.{AreOfKind, with_entry}
-use Rattle.krs_keys.proofs.KindsLemmas.{kinds_alter, linked_kind}
-use Rattle.krs_keys.specs.Sessions.{AreSessions}
-use Rattle.krs_keys.proofs.SessionsLemmas.{sessions_alter}
+use Rattle.krs_keys.specs.{Keys.{AreOfKind, with_entry}, Places.by_place, Sessions.AreSessions}
+use Rattle.krs_keys.proofs.{KindsLemmas.{kinds_alter, linked_kind}, SessionsLemmas.sessions_alter}
 use Rattle.krs_keys.proofs.key_table.KeyTable.link.Goals as goal
 
 pub invariant_of-self-2 : goal.invariant_of-self-2

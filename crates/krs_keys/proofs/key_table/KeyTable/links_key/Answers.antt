@@ -1,6 +1,5 @@
-use Rattle.std.proofs.Common.{sym, subst}
-use Rattle.krs_keys.specs.Keys.{AreFit}
-use Rattle.krs_keys.specs.Table.{Keys}
+use Rattle.std.proofs.Common.{subst, sym}
+use Rattle.krs_keys.specs.{Keys.AreFit, Table.Keys}
 use Rattle.krs_keys.proofs.key_table.KeyTable.links_key.Goals as goal
 
 pub links_key-requires : goal.links_key-requires

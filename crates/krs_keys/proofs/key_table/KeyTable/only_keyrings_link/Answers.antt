@@ -1,6 +1,5 @@
 use Rattle.std.proofs.Common.{subst}
-use Rattle.krs_keys.specs.Keys.{AreOfKind, OnlyRingsLink, shown}
-use Rattle.krs_keys.specs.Table.{Keys}
+use Rattle.krs_keys.specs.{Keys.{AreOfKind, OnlyRingsLink, shown}, Table.Keys}
 use Rattle.krs_keys.proofs.KindsLemmas.{only_rings}
 use Rattle.krs_keys.proofs.key_table.KeyTable.only_keyrings_link.Goals as goal
 

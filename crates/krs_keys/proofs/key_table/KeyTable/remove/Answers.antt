@@ -1,4 +1,4 @@
-use Rattle.std.proofs.Common.{ap, ◌∙◌, rules}
+use Rattle.std.proofs.Common.{◌∙◌, ap, rules}
 use Rattle.krs_model.specs.Table.{at}
 use Rattle.krs_model.proofs.Tables.Changes.{at_without_none}
 use Rattle.krs_keys.specs.Places.{by_place}

@@ -1,4 +1,4 @@
-use Rattle.std.proofs.Common.{length, ap, ◌∙◌}
+use Rattle.std.proofs.Common.{◌∙◌, ap, length}
 use Rattle.krs_keys.specs.Places.{keyrings_in}
 use Rattle.krs_keys.proofs.key_table.KeyTable.ring_count.Goals as goal
 

@@ -1,12 +1,8 @@
-use Rattle.std.proofs.Common.{ap, ◌∙◌, sym, subst, rules}
+use Rattle.std.proofs.Common.{◌∙◌, ap, rules, subst, sym}
 use Rattle.krs_model.specs.Table.{at}
 use Rattle.krs_model.proofs.Tables.Changes.{at_alter_none}
-use Rattle.krs_keys.specs.Places.{by_place}
-use Rattle.krs_keys.specs.Keys.{AreOfKind}
-use Rattle.krs_keys.specs.Changes.{changed}
-use Rattle.krs_keys.proofs.KindsLemmas.{kinds_alter, changed_kind}
-use Rattle.krs_keys.specs.Sessions.{AreSessions}
-use Rattle.krs_keys.proofs.SessionsLemmas.{sessions_alter, session-changed}
+use Rattle.krs_keys.specs.{Changes.changed, Keys.AreOfKind, Places.by_place, Sessions.AreSessions}
+use Rattle.krs_keys.proofs.{KindsLemmas.{changed_kind, kinds_alter}, SessionsLemmas.{session-changed, sessions_alter}}
 use Rattle.krs_keys.proofs.key_table.KeyTable.set.Goals as goal
 
 pub invariant_of-self : goal.invariant_of-self

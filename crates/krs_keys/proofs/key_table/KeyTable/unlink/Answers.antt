@@ -1,12 +1,8 @@
-use Rattle.std.proofs.Common.{refl, ap, ◌∙◌, sym, subst}
+use Rattle.std.proofs.Common.{◌∙◌, ap, refl, subst, sym}
 use Rattle.krs_model.specs.Table.{at}
 use Rattle.krs_model.proofs.Tables.Changes.{at_alter_none}
-use Rattle.krs_keys.specs.Places.{by_place}
-use Rattle.krs_keys.specs.Keys.{AreFit, AreOfKind, without_key}
-use Rattle.krs_keys.specs.Table.{Keys}
-use Rattle.krs_keys.proofs.KindsLemmas.{kinds_alter, keyless_kind}
-use Rattle.krs_keys.specs.Sessions.{AreSessions}
-use Rattle.krs_keys.proofs.SessionsLemmas.{sessions_alter}
+use Rattle.krs_keys.specs.{Keys.{AreFit, AreOfKind, without_key}, Places.by_place, Sessions.AreSessions, Table.Keys}
+use Rattle.krs_keys.proofs.{KindsLemmas.{keyless_kind, kinds_alter}, SessionsLemmas.sessions_alter}
 use Rattle.krs_keys.proofs.key_table.KeyTable.unlink.Goals as goal
 
 pub unlink-linked-requires-clause-fit : goal.unlink-linked-requires-clause-fit

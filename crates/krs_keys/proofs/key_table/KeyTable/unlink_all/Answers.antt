@@ -1,13 +1,8 @@
-use Rattle.std.proofs.Common.{refl, ap, ◌∙◌, sym, subst}
-use Rattle.std.specs.Option.{option_map}
+use Rattle.std.proofs.Common.{◌∙◌, ap, option_map, refl, subst, sym}
 use Rattle.krs_model.specs.Table.{at}
 use Rattle.krs_model.proofs.Tables.Changes.{at_map}
-use Rattle.krs_keys.specs.Keys.{AreFit, AreOfKind, without_key}
-use Rattle.krs_keys.specs.Table.{Keys}
-use Rattle.krs_keys.specs.Places.{by_place}
-use Rattle.krs_keys.proofs.Unlinking.{kinds-without_key}
-use Rattle.krs_keys.specs.Sessions.{AreSessions}
-use Rattle.krs_keys.proofs.SessionsLemmas.{sessions_map}
+use Rattle.krs_keys.specs.{Keys.{AreFit, AreOfKind, without_key}, Places.by_place, Sessions.AreSessions, Table.Keys}
+use Rattle.krs_keys.proofs.{SessionsLemmas.sessions_map, Unlinking.kinds-without_key}
 use Rattle.krs_keys.proofs.key_table.KeyTable.unlink_all.Goals as goal
 
 pub unlink_all-requires-clause-fit : goal.unlink_all-requires-clause-fit

@@ -1,11 +1,9 @@
-use Rattle.std.proofs.Common.{◌∙◌, ap, sym, subst}
+use Rattle.std.proofs.Common.{◌∙◌, ap, subst, sym}
 use Rattle.krs_model.specs.Table.{Table}
 use Rattle.krs_model.proofs.Tables.Changes.{alter_none}
-use Rattle.krs_keys.specs.declared.key.Key.{Key}
-use Rattle.krs_keys.specs.Changes.{changed}
-use Rattle.krs_keys.specs.Places.{by_place, AreRings}
+use Rattle.krs_keys.specs.{Changes.changed, Places.{AreRings, by_place}, declared.key.Key.Key}
 use Rattle.krs_keys.proofs.ChangesLemmas.{name-changed}
-use Rattle.krs_keys.proofs.PlacesLemmas.{found, at_in_slots, in_slots_alter, HavePlaces-alter}
+use Rattle.krs_keys.proofs.PlacesLemmas.{at_in_slots, found, HavePlaces-alter, in_slots_alter}
 use Rattle.krs_keys.proofs.RingsLemmas.{rings_alter}
 use Rattle.krs_keys.proofs.placed.PlacedKeys.change.Goals as goal
 

@@ -1,7 +1,6 @@
-use Rattle.std.proofs.Common.{Some, ap, ◌∙◌, sym}
+use Rattle.std.proofs.Common.{◌∙◌, ap, Some, sym}
 use Rattle.krs_keys.specs.Places.{by_place}
-use Rattle.krs_keys.proofs.LeastJoinable.{joinable_is}
-use Rattle.krs_keys.proofs.PlacesLemmas.{rises_in_slots}
+use Rattle.krs_keys.proofs.{LeastJoinable.joinable_is, PlacesLemmas.rises_in_slots}
 use Rattle.krs_keys.proofs.placed.PlacedKeys.joinable.Goals as goal
 
 pub returns-in-Some-least : goal.returns-in-Some-least

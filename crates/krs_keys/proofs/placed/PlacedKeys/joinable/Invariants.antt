@@ -1,7 +1,5 @@
-use Rattle.krs_model.specs.Asks.Joining.{is_joinable}
-use Rattle.krs_model.specs.Table.{at}
-use Rattle.krs_keys.specs.Keys.{seen}
-use Rattle.krs_keys.specs.Places.{by_place, passes}
+use Rattle.krs_model.specs.{Asks.Joining.is_joinable, Table.at}
+use Rattle.krs_keys.specs.{Keys.seen, Places.{by_place, passes}}
 use Rattle.krs_keys.proofs.LeastJoinable.{IsLeastBut}
 use Rattle.krs_keys.proofs.placed.PlacedKeys.joinable.Given as goal
 

@@ -1,14 +1,11 @@
-use Rattle.std.proofs.Common.{◌≡◌, Option, None, ◌∙◌, ap, refl, sym, subst}
-use Rattle.std.specs.Option.{IsSome}
-use Rattle.krs_links.specs.Links.{is_refused, link_error}
-use Rattle.krs_model.specs.Table.{Table, at}
+use Rattle.std.proofs.Common.{◌∙◌, ◌≡◌, ap, IsSome, None, Option, refl, subst, sym}
+use Rattle.krs_model.specs.Table.{at, Table}
 use Rattle.krs_model.proofs.Tables.Changes.{alter_none}
-use Rattle.krs_keys.specs.declared.key.Key.{Key}
-use Rattle.krs_keys.specs.Keys.{with_entry, displaced_by, named_links_of_key}
-use Rattle.krs_keys.specs.Places.{by_place, held, AreRings}
-use Rattle.krs_keys.proofs.PlacesLemmas.{found, at_in_slots, in_slots_alter, in_slots_same, HavePlaces-alter}
-use Rattle.krs_keys.proofs.RingsLemmas.{rings_alter}
-use Rattle.krs_keys.proofs.TableLemmas.{on_ok, on_err, if_ok, if_err, by_result}
+use Rattle.krs_links.specs.Links.{is_refused, link_error}
+use Rattle.krs_keys.specs.Keys.{displaced_by, named_links_of_key, with_entry}
+use Rattle.krs_keys.specs.{Places.{AreRings, by_place, held}, declared.key.Key.Key}
+use Rattle.krs_keys.proofs.PlacesLemmas.{at_in_slots, found, HavePlaces-alter, in_slots_alter, in_slots_same}
+use Rattle.krs_keys.proofs.{RingsLemmas.rings_alter, TableLemmas.{by_result, if_err, if_ok, on_err, on_ok}}
 use Rattle.krs_keys.proofs.placed.PlacedKeys.link.Goals as goal
 
 -- what is at the keyring's place

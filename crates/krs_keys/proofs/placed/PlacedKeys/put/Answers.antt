@@ -1,9 +1,7 @@
-use Rattle.std.proofs.Common.{◌≡◌, ℕ, Some, None, cond, nat_eq, sym, subst}
+use Rattle.std.proofs.Common.{◌≡◌, cond, nat_eq, None, Some, subst, sym, ℕ}
 use Rattle.krs_model.specs.Table.{Table}
-use Rattle.krs_keys.specs.declared.key.Key.{Key}
-use Rattle.krs_keys.specs.Places.{by_place, place_of, AreRings}
-use Rattle.krs_keys.proofs.PlacesLemmas.{no_place, in_slots_put, HavePlaces-put}
-use Rattle.krs_keys.proofs.RingsLemmas.{rings_put}
+use Rattle.krs_keys.specs.{Places.{AreRings, by_place, place_of}, declared.key.Key.Key}
+use Rattle.krs_keys.proofs.{PlacesLemmas.{HavePlaces-put, in_slots_put, no_place}, RingsLemmas.rings_put}
 use Rattle.krs_keys.proofs.placed.PlacedKeys.put.Goals as goal
 
 -- the serial has the place

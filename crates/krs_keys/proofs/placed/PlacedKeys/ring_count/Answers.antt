@@ -1,7 +1,6 @@
 use Rattle.std.proofs.Common.{◌∙◌}
-use Rattle.krs_keys.proofs.PlacesLemmas.{rises_in_slots}
-use Rattle.krs_keys.proofs.RingCount.{length_rings}
 use Rattle.krs_keys.specs.Places.{by_place}
+use Rattle.krs_keys.proofs.{PlacesLemmas.rises_in_slots, RingCount.length_rings}
 use Rattle.krs_keys.proofs.placed.PlacedKeys.ring_count.Goals as goal
 
 pub returns : goal.returns

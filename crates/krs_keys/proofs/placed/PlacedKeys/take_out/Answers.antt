@@ -1,10 +1,8 @@
-use Rattle.std.proofs.Common.{◌≡◌, Some, None, ◌∙◌, ap, sym, subst}
-use Rattle.krs_model.specs.Table.{Table, at}
-use Rattle.krs_keys.specs.declared.key.Key.{Key}
-use Rattle.krs_keys.specs.Places.{by_place, in_slots, is_keyring, AreRings}
-use Rattle.krs_keys.proofs.PlacesLemmas.{found, at_in_slots, rises_in_slots, in_slots_without, HavePlaces-without}
-use Rattle.krs_keys.proofs.RisingTables.{without_absent, gone_without}
-use Rattle.krs_keys.proofs.RingsLemmas.{rings_without}
+use Rattle.std.proofs.Common.{◌∙◌, ◌≡◌, ap, None, Some, subst, sym}
+use Rattle.krs_model.specs.Table.{at, Table}
+use Rattle.krs_keys.specs.{Places.{AreRings, by_place, in_slots, is_keyring}, declared.key.Key.Key}
+use Rattle.krs_keys.proofs.PlacesLemmas.{at_in_slots, found, HavePlaces-without, in_slots_without, rises_in_slots}
+use Rattle.krs_keys.proofs.{RingsLemmas.rings_without, RisingTables.{gone_without, without_absent}}
 use Rattle.krs_keys.proofs.placed.PlacedKeys.take_out.Goals as goal
 
 nothing : (c : goal.After-from_residual) → at (by_place c.args.self.now) c.args.serial ≡ None

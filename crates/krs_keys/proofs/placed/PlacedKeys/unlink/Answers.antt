@@ -1,8 +1,6 @@
-use Rattle.std.proofs.Common.{refl, sym, subst}
+use Rattle.std.proofs.Common.{refl, subst, sym}
 use Rattle.krs_model.specs.Table.{Table}
-use Rattle.krs_keys.specs.declared.key.Key.{Key}
-use Rattle.krs_keys.specs.Keys.{without_key}
-use Rattle.krs_keys.specs.Places.{by_place, AreRings}
+use Rattle.krs_keys.specs.{Keys.without_key, Places.{AreRings, by_place}, declared.key.Key.Key}
 use Rattle.krs_keys.proofs.RingsLemmas.{rings_alter}
 use Rattle.krs_keys.proofs.placed.PlacedKeys.unlink.Goals as goal
 

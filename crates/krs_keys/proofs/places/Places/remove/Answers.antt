@@ -1,7 +1,5 @@
-use Rattle.std.proofs.Common.{◌≡◌, List, length, drop, sym, subst, arith}
-use Rattle.std.proofs.lemmas.List.{take_at}
-use Rattle.krs_keys.specs.declared.places.Hint.{Hint}
-use Rattle.krs_keys.specs.Hints.{AreHints}
+use Rattle.std.proofs.Common.{◌≡◌, arith, drop, length, List, subst, sym, take_at}
+use Rattle.krs_keys.specs.{Hints.AreHints, declared.places.Hint.Hint}
 use Rattle.krs_keys.proofs.HintsLemmas.{gone_right}
 use Rattle.krs_keys.proofs.places.Places.remove.Goals as goal
 

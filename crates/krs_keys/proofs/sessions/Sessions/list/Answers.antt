@@ -1,5 +1,5 @@
 use Rattle.std.proofs.Common.{refl, sym}
-use Rattle.krs_keys.proofs.SessionsLemmas.{lists_put, lists_none}
+use Rattle.krs_keys.proofs.SessionsLemmas.{lists_none, lists_put}
 use Rattle.krs_keys.proofs.sessions.Sessions.list.Goals as goal
 
 pub returns-in_default-clause-ok : goal.returns-in_default-clause-ok

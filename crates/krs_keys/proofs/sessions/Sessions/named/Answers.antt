@@ -1,10 +1,8 @@
-use Rattle.std.proofs.Common.{◌≡◌, ℕ, ◌+◌, List, true, nat_eq, filter, sym, subst}
-use Rattle.std.specs.List.{list_any, All}
-use Rattle.std.specs.BTreeMap.Range.{range_contains}
-use Rattle.std.specs.declared.ops.Bound.TheVariants.{Included, Excluded}
+use Rattle.std.proofs.Common.{◌+◌, ◌≡◌, All, filter, List, nat_eq, subst, sym, true, ℕ}
+use Rattle.std.specs.{BTreeMap.Range.range_contains, List.list_any, declared.ops.Bound.TheVariants.{Excluded, Included}}
 use Rattle.krs_model.specs.Queues.{place_cmp}
 use Rattle.krs_keys.specs.Sessions.{lists}
-use Rattle.krs_keys.proofs.SessionsLemmas.{up_to_next, up_to_end, alone}
+use Rattle.krs_keys.proofs.SessionsLemmas.{alone, up_to_end, up_to_next}
 use Rattle.krs_keys.proofs.sessions.Sessions.named.Goals as goal
 
 -- the serial is among these

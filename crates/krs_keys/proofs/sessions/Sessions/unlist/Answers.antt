@@ -1,5 +1,5 @@
 use Rattle.std.proofs.Common.{refl, sym}
-use Rattle.krs_keys.proofs.SessionsLemmas.{unlists_put, unlists_none}
+use Rattle.krs_keys.proofs.SessionsLemmas.{unlists_none, unlists_put}
 use Rattle.krs_keys.proofs.sessions.Sessions.unlist.Goals as goal
 
 pub returns-in-Some : goal.returns-in-Some

@@ -1,5 +1,4 @@
-use Rattle.std.proofs.Common.{◌∙◌, ℕ, ap, sym}
-use Rattle.std.specs.Option.{option_map}
+use Rattle.std.proofs.Common.{◌∙◌, ap, option_map, sym, ℕ}
 use Rattle.krs_links.specs.declared.index.Link.{Link}
 use Rattle.krs_links.proofs.IndexedLemmas.{name_in}
 use Rattle.krs_links.proofs.index.LinkIndex.name_at.Goals as goal

@@ -1,4 +1,4 @@
-use Rattle.std.proofs.Common.{sym, arith}
+use Rattle.std.proofs.Common.{arith, sym}
 use Rattle.krs_links.proofs.IndexedLemmas.{no_place}
 use Rattle.krs_links.proofs.index.LinkIndex.place_of.Goals as goal
 

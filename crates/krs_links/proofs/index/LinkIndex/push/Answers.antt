@@ -1,4 +1,4 @@
-use Rattle.std.proofs.Common.{◌∙◌, ap, sym, arith}
+use Rattle.std.proofs.Common.{◌∙◌, ap, arith, sym}
 use Rattle.krs_links.specs.Seeded.{name_digest}
 use Rattle.krs_links.proofs.IndexedLemmas.{AllStand-last}
 use Rattle.krs_links.proofs.index.LinkIndex.push.Goals as goal

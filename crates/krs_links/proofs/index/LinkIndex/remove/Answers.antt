@@ -1,8 +1,6 @@
-use Rattle.std.proofs.Common.{◌∙◌, ℕ, ap, sym}
-use Rattle.std.specs.Option.{option_map}
-use Rattle.krs_links.specs.declared.index.Link.{Link}
-use Rattle.krs_links.specs.Indexed.{linked_in}
-use Rattle.krs_links.proofs.IndexedLemmas.{serial_in, linked_in-removed, AllStand-removed}
+use Rattle.std.proofs.Common.{◌∙◌, ap, option_map, sym, ℕ}
+use Rattle.krs_links.specs.{Indexed.linked_in, declared.index.Link.Link}
+use Rattle.krs_links.proofs.IndexedLemmas.{AllStand-removed, linked_in-removed, serial_in}
 use Rattle.krs_links.proofs.index.LinkIndex.remove.Goals as goal
 
 pub returns-in-Some-clause-indexed : goal.returns-in-Some-clause-indexed

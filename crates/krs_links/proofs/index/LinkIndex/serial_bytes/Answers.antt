@@ -1,15 +1,9 @@
-use Rattle.std.proofs.Common.{◌≡◌, ◌<◌, ◌+◌, ◌∙◌, ℕ, List, [], ◌∷◌, ◌++◌, length, take, get_or, Some, w32}
-use Rattle.std.proofs.Common.{ap, sym, refl, subst, arith, add-one, zero, suc}
-use Rattle.std.specs.Int.{to_le_bytes}
-use Rattle.std.specs.List.{slice_get}
-use Rattle.std.specs.Map.{values_of}
-use Rattle.std.proofs.lemmas.Grind.{flat_map-append}
-use Rattle.std.proofs.lemmas.List.{append-nil}
-use Rattle.std.proofs.lemmas.Option.{slice_get_within, get_or_from_slice_get}
+use Rattle.std.proofs.Common.{[], ◌++◌, ◌+◌, ◌<◌, ◌∙◌, ◌∷◌, ◌≡◌, add-one, ap, append-nil, arith, get_or, length, List}
+use Rattle.std.proofs.Common.{refl, slice_get, Some, subst, suc, sym, take, w32, zero, ℕ}
+use Rattle.std.specs.{Int.to_le_bytes, Map.values_of}
 use Rattle.std.proofs.Math.Seq.{take-suc}
-use Rattle.krs_links.specs.declared.index.Link.{Link}
-use Rattle.krs_links.specs.Indexed.{linked, linked_in}
-use Rattle.krs_links.specs.Links.{serials, bytes_of}
+use Rattle.std.proofs.lemmas.{Grind.flat_map-append, Option.{get_or_from_slice_get, slice_get_within}}
+use Rattle.krs_links.specs.{Indexed.{linked, linked_in}, Links.{bytes_of, serials}, declared.index.Link.Link}
 use Rattle.krs_links.proofs.index.LinkIndex.serial_bytes.Goals as goal
 
 -- what is taken up to a place, and behind it what stands there

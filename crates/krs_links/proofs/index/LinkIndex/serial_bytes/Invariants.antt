@@ -1,7 +1,5 @@
-use Rattle.std.proofs.Common.{◌≡◌, ◌*◌, ◌≤◌, take, length, vec_len}
-use Rattle.std.specs.Prelude.{vec_capacity}
-use Rattle.krs_links.specs.Indexed.{linked}
-use Rattle.krs_links.specs.Links.{serials, bytes_of}
+use Rattle.std.proofs.Common.{◌*◌, ◌≡◌, ◌≤◌, length, take, vec_capacity, vec_len}
+use Rattle.krs_links.specs.{Indexed.linked, Links.{bytes_of, serials}}
 use Rattle.krs_links.proofs.index.LinkIndex.serial_bytes.Given as goal
 
 -- the serials of what the loop has passed, and room for the others

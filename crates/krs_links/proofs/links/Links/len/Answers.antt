@@ -1,4 +1,4 @@
-use Rattle.std.proofs.Common.{ap, ◌∙◌, sym, refl}
+use Rattle.std.proofs.Common.{◌∙◌, ap, refl, sym}
 use Rattle.krs_links.specs.Kept.{links_kept}
 use Rattle.krs_links.proofs.PlacesLemmas.{none_are_lists}
 use Rattle.krs_links.proofs.links.Links.len.Goals as goal

@@ -1,10 +1,7 @@
-use Rattle.std.proofs.Common.{◌≡◌, ◌∙◌, ap, sym}
-use Rattle.std.specs.Option.{ok_or}
+use Rattle.std.proofs.Common.{◌∙◌, ◌≡◌, ap, ok_or, sym}
 use Rattle.krs_types.specs.declared.errno.Errno.TheVariants.{ENOENT}
-use Rattle.krs_links.specs.Links.{serial_named}
-use Rattle.krs_links.specs.Indexed.{linked}
-use Rattle.krs_links.proofs.LinksLemmas.{unlinked_none}
-use Rattle.krs_links.proofs.PlacesLemmas.{serial_at_named, unlinked_at, linked_as_at}
+use Rattle.krs_links.specs.{Indexed.linked, Links.serial_named}
+use Rattle.krs_links.proofs.{LinksLemmas.unlinked_none, PlacesLemmas.{linked_as_at, serial_at_named, unlinked_at}}
 use Rattle.krs_links.proofs.table.LinkTable.remove.Goals.{After-ok_or}
 use Rattle.krs_links.proofs.table.LinkTable.remove.Goals as goal
 

@@ -1,5 +1,4 @@
-use Rattle.std.proofs.Common.{◌≡◌, SFits, to_z, of_z, w32, rules}
-use Rattle.std.proofs.Math.Facts.{to_z-of_z}
+use Rattle.std.proofs.{Common.{◌≡◌, of_z, rules, SFits, to_z, w32}, Math.Facts.to_z-of_z}
 use Rattle.krs_remote.proofs.remote.Remote.act.Goals as goal
 
 pub returns-in-Rlist-clause-ok : goal.returns-in-Rlist-clause-ok

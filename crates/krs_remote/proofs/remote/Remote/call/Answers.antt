@@ -1,6 +1,5 @@
-use Rattle.std.proofs.Common.{inl, inr}
-use Rattle.std.proofs.lemmas.Result.{err_from_is_err_and}
-use Rattle.krs_remote.proofs.RemoteLemmas.{if_ok, if_err}
+use Rattle.std.proofs.{Common.{inl, inr}, lemmas.Result.err_from_is_err_and}
+use Rattle.krs_remote.proofs.RemoteLemmas.{if_err, if_ok}
 use Rattle.krs_remote.proofs.remote.Remote.call.Goals as goal
 
 pub returns-in_err-reply-clause-err : goal.returns-in_err-reply-clause-err

@@ -1,4 +1,4 @@
-use Rattle.std.proofs.Common.{Ok, Err}
+use Rattle.std.proofs.Common.{Err, Ok}
 use Rattle.krs_remote.proofs.remote.Remote.call_once.Goals as goal
 
 pub returns-in-Ok : goal.returns-in-Ok

@@ -1,5 +1,4 @@
-use Rattle.std.proofs.Common.{◌≡◌, arith, to_z, of_z, w32}
-use Rattle.std.proofs.Math.Facts.{to_z-of_z}
+use Rattle.std.proofs.{Common.{◌≡◌, arith, of_z, to_z, w32}, Math.Facts.to_z-of_z}
 use Rattle.krs_remote.proofs.remote.Remote.list.Goals as goal
 
 pub returns-in_ok-described-in-Ok-Bytes-clause-ok : goal.returns-in_ok-described-in-Ok-Bytes-clause-ok

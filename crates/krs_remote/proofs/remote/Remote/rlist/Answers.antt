@@ -1,7 +1,5 @@
-use Rattle.std.proofs.Common.{◌≡◌, inl, inr, to_z, of_z, w32}
-use Rattle.std.proofs.Math.Facts.{to_z-of_z}
-use Rattle.std.proofs.lemmas.Result.{err_from_is_err_and}
-use Rattle.krs_remote.proofs.RemoteLemmas.{if_ok, if_err}
+use Rattle.std.proofs.{Common.{◌≡◌, inl, inr, of_z, to_z, w32}, Math.Facts.to_z-of_z, lemmas.Result.err_from_is_err_and}
+use Rattle.krs_remote.proofs.RemoteLemmas.{if_err, if_ok}
 use Rattle.krs_remote.proofs.remote.Remote.rlist.Goals as goal
 
 pub returns-in_err-reply-clause-err : goal.returns-in_err-reply-clause-err

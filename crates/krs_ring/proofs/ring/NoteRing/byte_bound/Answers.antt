@@ -1,5 +1,5 @@
 use Rattle.std.proofs.Common.{arith}
-use Rattle.krs_ring.proofs.SlotsLemmas.{total_room-waiting, size-waiting}
+use Rattle.krs_ring.proofs.SlotsLemmas.{size-waiting, total_room-waiting}
 use Rattle.krs_ring.proofs.ring.NoteRing.byte_bound.Goals as goal
 
 pub returns-clause-value : goal.returns-clause-value

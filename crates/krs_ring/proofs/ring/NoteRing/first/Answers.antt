@@ -1,4 +1,4 @@
-use Rattle.std.proofs.Common.{sym, ◌∙◌}
+use Rattle.std.proofs.Common.{◌∙◌, sym}
 use Rattle.krs_ring.proofs.SlotsLemmas.{first-notes_of, none-notes_of}
 use Rattle.krs_ring.proofs.ring.NoteRing.first.Goals as goal
 

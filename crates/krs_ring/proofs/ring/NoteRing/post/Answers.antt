@@ -1,6 +1,6 @@
-use Rattle.std.proofs.Common.{◌<◌, length, arith}
-use Rattle.krs_ring.proofs.SlotsLemmas.{after_post-kept, after_post-dropped, kept-last, HasNoLoss-append}
-use Rattle.krs_ring.proofs.SlotsLemmas.{HasNoLoss-marked}
+use Rattle.std.proofs.Common.{◌<◌, arith, length}
+use Rattle.krs_ring.proofs.SlotsLemmas.{after_post-dropped, after_post-kept, HasNoLoss-append, HasNoLoss-marked}
+use Rattle.krs_ring.proofs.SlotsLemmas.{kept-last}
 use Rattle.krs_ring.proofs.ring.NoteRing.post.Goals as goal
 
 pub invariant_of-self : goal.invariant_of-self

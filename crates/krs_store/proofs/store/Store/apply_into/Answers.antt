@@ -1,13 +1,8 @@
-use Rattle.std.proofs.Common.{sym, ◌∙◌, subst}
+use Rattle.std.proofs.Common.{◌∙◌, subst, sym}
 use Rattle.krs_types.specs.declared.fault.Fault.{Fault}
-use Rattle.krs_model.specs.State.{State}
-use Rattle.krs_model.specs.Sound.{IsSound}
-use Rattle.krs_model.specs.Outcome.{Fails}
-use Rattle.krs_model.specs.Step.{Step, Serves, outcome_of}
-use Rattle.krs_model.proofs.Sound.Steps.{raised_sound}
-use Rattle.krs_tables.proofs.PostsAndSweep.{serves_in_turn, applied_sound, told_acyclic}
-use Rattle.krs_tables.proofs.WatchedKeys.{told_live}
-use Rattle.krs_model.proofs.Asks.Refusals.{refusal_is_no_memory}
+use Rattle.krs_model.specs.{Outcome.Fails, Sound.IsSound, State.State, Step.{outcome_of, Serves, Step}}
+use Rattle.krs_model.proofs.{Asks.Refusals.refusal_is_no_memory, Sound.Steps.raised_sound}
+use Rattle.krs_tables.proofs.{PostsAndSweep.{applied_sound, serves_in_turn, told_acyclic}, WatchedKeys.told_live}
 use Rattle.krs_key_asks.specs.Taking.{answer_of}
 use Rattle.krs_store.proofs.store.Store.apply_into.Goals as goal
 

@@ -1,4 +1,4 @@
-use Rattle.std.proofs.Common.{sym, subst}
+use Rattle.std.proofs.Common.{subst, sym}
 use Rattle.krs_model.specs.Sound.{IsSound}
 use Rattle.krs_model.proofs.Sound.Steps.{start_sound}
 use Rattle.krs_store.proofs.store.Store.beginning.Goals as goal

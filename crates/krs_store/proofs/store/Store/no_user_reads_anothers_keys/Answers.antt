@@ -1,9 +1,7 @@
-use Rattle.std.proofs.Common.{ℕ, List, Bool, subst}
+use Rattle.std.proofs.Common.{Bool, List, subst, ℕ}
 use Rattle.krs_types.specs.declared.event.Event.{Event}
-use Rattle.krs_model.specs.State.{State}
-use Rattle.krs_model.specs.Confidentiality.{HasToItself, KeepsPrivate, ReadsAlone}
-use Rattle.krs_model.proofs.Isolation.Steps.{none_alone}
-use Rattle.krs_model.proofs.Isolation.Histories.{keeps_to_itself, end_alone}
+use Rattle.krs_model.specs.{Confidentiality.{HasToItself, KeepsPrivate, ReadsAlone}, State.State}
+use Rattle.krs_model.proofs.Isolation.{Histories.{end_alone, keeps_to_itself}, Steps.none_alone}
 use Rattle.krs_store.proofs.store.Store.no_user_reads_anothers_keys.Goals as goal
 
 pub returns-clause-reads : goal.returns-clause-reads

@@ -1,6 +1,5 @@
-use Rattle.std.proofs.Common.{ℕ, Bool, subst}
-use Rattle.krs_model.specs.State.{State}
-use Rattle.krs_model.specs.Confidentiality.{HasToItself, TellsNoStranger}
+use Rattle.std.proofs.Common.{Bool, subst, ℕ}
+use Rattle.krs_model.specs.{Confidentiality.{HasToItself, TellsNoStranger}, State.State}
 use Rattle.krs_model.proofs.Isolation.Flows.{tells_no_stranger}
 use Rattle.krs_store.proofs.store.Store.nothing_flows_between_users.Goals as goal
 

@@ -1,6 +1,5 @@
-use Rattle.std.proofs.Common.{ℕ, Bool, subst}
-use Rattle.krs_model.specs.State.{State}
-use Rattle.krs_model.specs.Confidentiality.{HasToItself, LeavesAlone}
+use Rattle.std.proofs.Common.{Bool, subst, ℕ}
+use Rattle.krs_model.specs.{Confidentiality.{HasToItself, LeavesAlone}, State.State}
 use Rattle.krs_model.proofs.Isolation.Histories.{leaves_alone}
 use Rattle.krs_store.proofs.store.Store.others_neither_change_nor_drop_a_key.Goals as goal
 

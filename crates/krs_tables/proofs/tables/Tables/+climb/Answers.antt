@@ -1,5 +1,5 @@
-use Rattle.std.proofs.Common.{ℕ, ◌-◌, sym, refl, subst, ◌∙◌, arith}
-use Rattle.krs_tables.proofs.OutOfReach.{AreFound, IsFar, none_far, none_found, found_more, out_of_reach}
+use Rattle.std.proofs.Common.{◌-◌, ◌∙◌, arith, refl, subst, sym, ℕ}
+use Rattle.krs_tables.proofs.OutOfReach.{AreFound, found_more, IsFar, none_far, none_found, out_of_reach}
 use Rattle.krs_tables.proofs.tables.Tables.+climb.Goals as goal
 
 pub returns-then-depth-eq0 : goal.returns-then-depth-eq0

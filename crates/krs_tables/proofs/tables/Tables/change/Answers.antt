@@ -1,16 +1,12 @@
-use Rattle.std.proofs.Common.{◌≡◌, ℕ, ap, sym, ◌∙◌, subst}
-use Rattle.krs_model.specs.Table.{Table, alter}
-use Rattle.krs_model.specs.State.{State}
-use Rattle.krs_model.specs.Asks.Changing.{changed}
+use Rattle.std.proofs.Common.{◌∙◌, ◌≡◌, ap, subst, sym, ℕ}
+use Rattle.krs_model.specs.{Asks.Changing.changed, State.State, Sweep.roots, Table.{alter, Table}}
 use Rattle.krs_model.proofs.Tables.Changes.{alter_map}
 use Rattle.krs_keys.specs.Keys.{seen, shown}
-use Rattle.krs_keys.specs.Changes as keys
-use Rattle.krs_keys.proofs.KindsLemmas.{kinds_alter, changed_kind}
-use Rattle.krs_keys.proofs.ChangesLemmas.{fit_changed, seen-changed}
-use Rattle.krs_tables.specs.View.{state_of}
-use Rattle.krs_model.specs.Sweep.{roots}
+use Rattle.krs_keys.proofs.{ChangesLemmas.{fit_changed, seen-changed}, KindsLemmas.{changed_kind, kinds_alter}}
 use Rattle.krs_hold.specs.Tally.{AreExact}
+use Rattle.krs_tables.specs.View.{state_of}
 use Rattle.krs_tables.proofs.OwedHolders.{changed_tallied}
+use Rattle.krs_keys.specs.Changes as keys
 use Rattle.krs_tables.proofs.tables.Tables.change.Goals as goal
 
 pub invariant_of-self : goal.invariant_of-self

@@ -1,7 +1,5 @@
 use Rattle.std.proofs.Common.{subst}
-use Rattle.krs_model.specs.State.{State}
-use Rattle.krs_model.specs.Lookup.{context_of}
-use Rattle.krs_model.specs.Outcome.{Is}
+use Rattle.krs_model.specs.{Lookup.context_of, Outcome.Is, State.State}
 use Rattle.krs_tables.specs.View.{state_of}
 use Rattle.krs_tables.proofs.tables.Tables.context_of.Goals as goal
 

@@ -1,10 +1,7 @@
 -- What is granted without possession.
-use Rattle.std.proofs.Common.{◌≡◌, true, false, sym, ap, ◌∙◌, rules, tests}
-use Rattle.std.specs.Option.{option_map}
+use Rattle.std.proofs.Common.{◌∙◌, ◌≡◌, ap, false, option_map, rules, sym, tests, true}
 use Rattle.krs_types.specs.Rights.{allows}
-use Rattle.krs_model.specs.Access.{rights_on}
-use Rattle.krs_model.specs.Possession.{possessed}
-use Rattle.krs_model.specs.Asks.Linked.{name_of}
+use Rattle.krs_model.specs.{Access.rights_on, Asks.Linked.name_of, Possession.possessed}
 use Rattle.krs_keys.specs.Keys.{seen}
 use Rattle.krs_tables.proofs.Grants.{allows_more}
 use Rattle.krs_tables.proofs.tables.Tables.grants.Goals as goal

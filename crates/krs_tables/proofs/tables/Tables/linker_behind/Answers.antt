@@ -1,7 +1,5 @@
-use Rattle.std.proofs.Common.{◌≡◌, true, sym, subst, ◌∙◌}
-use Rattle.krs_model.specs.State.{State}
-use Rattle.krs_model.specs.Levels.{is_in}
-use Rattle.krs_model.specs.Reach.{links_of_key_at}
+use Rattle.std.proofs.Common.{◌∙◌, ◌≡◌, subst, sym, true}
+use Rattle.krs_model.specs.{Levels.is_in, Reach.links_of_key_at, State.State}
 use Rattle.krs_tables.proofs.Links.{linked_told}
 use Rattle.krs_tables.proofs.tables.Tables.linker_behind.Goals as goal
 

@@ -1,4 +1,4 @@
-use Rattle.std.proofs.Common.{◌≤◌, ◌-◌, ◌^◌}
+use Rattle.std.proofs.Common.{◌-◌, ◌^◌, ◌≤◌}
 use Rattle.krs_tables.proofs.tables.Tables.linker_behind.Given as goal
 
 abbrev pub invariant-noted : goal.invariant-noted

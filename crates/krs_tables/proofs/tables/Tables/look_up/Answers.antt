@@ -1,14 +1,9 @@
-use Rattle.std.proofs.Common.{ap, sym, ◌∙◌, ℕ, Ok}
-use Rattle.std.specs.Int.{w32}
-use Rattle.std.proofs.lemmas.Int.{to_z-of_z}
-use Rattle.std.specs.Option.{option_copied}
-use Rattle.krs_model.specs.State.{State}
-use Rattle.krs_model.specs.Access.{is_over}
-use Rattle.krs_model.specs.Lookup.{serial_of}
+use Rattle.std.proofs.{Common.{◌∙◌, ap, Ok, option_copied, sym, w32, ℕ}, lemmas.Int.to_z-of_z}
+use Rattle.krs_model.specs.{Access.is_over, Lookup.serial_of, State.State}
 use Rattle.krs_keys.specs.Keys.{seen}
 use Rattle.krs_keys.proofs.KeysLemmas.{finds_by_name}
-use Rattle.krs_tables.proofs.KeptKeys.{kept_there, kept_nowhere, looked_up, looked_for}
-use Rattle.krs_tables.proofs.KeptKeys.{revoked_usable, over_usable, granted_usable, refused_usable}
+use Rattle.krs_tables.proofs.KeptKeys.{granted_usable, kept_nowhere, kept_there, looked_for, looked_up, over_usable}
+use Rattle.krs_tables.proofs.KeptKeys.{refused_usable, revoked_usable}
 use Rattle.krs_tables.proofs.tables.Tables.look_up.Goals as goal
 
 pub returns-in_default-clause-found : goal.returns-in_default-clause-found

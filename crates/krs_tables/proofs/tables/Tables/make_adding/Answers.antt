@@ -1,9 +1,6 @@
-use Rattle.std.proofs.Common.{◌≡◌, ◌≤◌, ◌∙◌, ap, sym, arith}
-use Rattle.std.proofs.lemmas.Bool.Decides.{nat_tests}
+use Rattle.std.proofs.{Common.{◌∙◌, ◌≡◌, ◌≤◌, ap, arith, sym}, lemmas.Bool.Decides.nat_tests}
 use Rattle.krs_model.specs.State.{State}
-use Rattle.krs_tables.proofs.MadeKeyrings.{has_place}
-use Rattle.krs_tables.proofs.MadeTwo.{adding_told, adding_accepted}
-use Rattle.krs_tables.proofs.Wanting.{wanting_as}
+use Rattle.krs_tables.proofs.{MadeKeyrings.has_place, MadeTwo.{adding_accepted, adding_told}, Wanting.wanting_as}
 use Rattle.krs_tables.proofs.tables.Tables.make_adding.Goals as goal
 
 pub make_two-requires-clause-place : goal.make_two-requires-clause-place

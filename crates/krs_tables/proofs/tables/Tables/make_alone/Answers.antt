@@ -1,6 +1,5 @@
 use Rattle.std.proofs.Common.{◌∙◌}
-use Rattle.krs_tables.proofs.MadeKeyrings.{has_place, alone_done, alone_accepted}
-use Rattle.krs_tables.proofs.Wanting.{wanting_as}
+use Rattle.krs_tables.proofs.{MadeKeyrings.{alone_accepted, alone_done, has_place}, Wanting.wanting_as}
 use Rattle.krs_tables.proofs.tables.Tables.make_alone.Goals as goal
 
 pub make_ring-requires-clause-place : goal.make_ring-requires-clause-place

@@ -1,13 +1,7 @@
-use Rattle.std.proofs.Common.{◌≡◌, ◌∙◌, Some, ap, refl, sym, subst, false, Bor}
-use Rattle.std.specs.Option.{option_map}
-use Rattle.krs_model.specs.State.{State}
-use Rattle.krs_model.specs.Reach.{has_chain, nesting_depth}
-use Rattle.krs_model.specs.Table.{at}
-use Rattle.krs_model.specs.Asks.Linked.{name_of}
-use Rattle.krs_keys.specs.declared.key.Key.{Key}
-use Rattle.krs_keys.specs.Keys.{seen}
-use Rattle.krs_tables.proofs.MadeKeyrings.{has_place, linking_done, linking_accepted}
-use Rattle.krs_tables.proofs.Wanting.{wanting_as}
+use Rattle.std.proofs.Common.{◌∙◌, ◌≡◌, ap, Bor, false, option_map, refl, Some, subst, sym}
+use Rattle.krs_model.specs.{Asks.Linked.name_of, Reach.{has_chain, nesting_depth}, State.State, Table.at}
+use Rattle.krs_keys.specs.{Keys.seen, declared.key.Key.Key}
+use Rattle.krs_tables.proofs.{MadeKeyrings.{has_place, linking_accepted, linking_done}, Wanting.wanting_as}
 use Rattle.krs_tables.proofs.tables.Tables.make_linking.Goals as goal
 
 pub make_ring-requires-clause-place : goal.make_ring-requires-clause-place

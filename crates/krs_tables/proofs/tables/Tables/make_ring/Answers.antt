@@ -1,16 +1,10 @@
-use Rattle.std.proofs.Common.{◌≡◌, ◌∙◌, ap, sym, subst, arith}
-use Rattle.std.specs.Option.{option_to_list}
-use Rattle.krs_model.specs.State.{State}
-use Rattle.krs_model.specs.Sweep.{roots}
-use Rattle.krs_keys.specs.Table.{Keys, with_key}
-use Rattle.krs_tables.specs.View.{state_of, IsConsistent}
-use Rattle.krs_hold.specs.Tally.{with_number, one_more}
-use Rattle.krs_tables.specs.Holding.{more_of}
-use Rattle.krs_tables.specs.Specials.{ring_key, HasPlace, AreLinksTo, attached_as, ring_at}
-use Rattle.krs_tables.proofs.MadeKeyrings.{room_beside, ring_sound, ring_told}
-use Rattle.krs_keys.specs.declared.key.Key.{Key}
-use Rattle.krs_keys.specs.Keys.{IsOfKind}
-use Rattle.krs_tables.proofs.MadeKeyrings.{ring_kind}
+use Rattle.std.proofs.Common.{◌∙◌, ◌≡◌, ap, arith, option_to_list, subst, sym}
+use Rattle.krs_model.specs.{State.State, Sweep.roots}
+use Rattle.krs_keys.specs.{Keys.IsOfKind, Table.{Keys, with_key}, declared.key.Key.Key}
+use Rattle.krs_hold.specs.Tally.{one_more, with_number}
+use Rattle.krs_tables.specs.{Holding.more_of, Specials.{AreLinksTo, attached_as, HasPlace, ring_at, ring_key}}
+use Rattle.krs_tables.specs.View.{IsConsistent, state_of}
+use Rattle.krs_tables.proofs.MadeKeyrings.{ring_kind, ring_sound, ring_told, room_beside}
 use Rattle.krs_tables.proofs.tables.Tables.make_ring.Goals as goal
 
 pub hold_of-requires : goal.hold_of-requires

@@ -1,15 +1,8 @@
-use Rattle.std.proofs.Common.{◌+◌, ◌∙◌, [], ap, sym, subst, arith}
-use Rattle.krs_model.specs.State.{State}
-use Rattle.krs_model.specs.Sweep.{roots}
-use Rattle.krs_model.specs.Asks.Adding.{made, new_key}
-use Rattle.krs_keys.specs.Table.{Keys}
-use Rattle.krs_tables.specs.Specials.{ring_at}
-use Rattle.krs_tables.specs.View.{state_of, IsConsistent}
-use Rattle.krs_tables.proofs.MadeTwo.{two_made, room_left}
-use Rattle.krs_keys.specs.declared.key.Key.{Key}
-use Rattle.krs_keys.specs.Keys.{IsOfKind}
-use Rattle.krs_tables.proofs.MadeKeyrings.{ring_kind}
-use Rattle.krs_tables.proofs.Definitions.{first_kind}
+use Rattle.std.proofs.Common.{[], ◌+◌, ◌∙◌, ap, arith, subst, sym}
+use Rattle.krs_model.specs.{Asks.Adding.{made, new_key}, State.State, Sweep.roots}
+use Rattle.krs_keys.specs.{Keys.IsOfKind, Table.Keys, declared.key.Key.Key}
+use Rattle.krs_tables.specs.{Specials.ring_at, View.{IsConsistent, state_of}}
+use Rattle.krs_tables.proofs.{Definitions.first_kind, MadeKeyrings.ring_kind, MadeTwo.{room_left, two_made}}
 use Rattle.krs_tables.proofs.tables.Tables.make_two.Goals as goal
 
 pub hold-requires-in-Ok : goal.hold-requires-in-Ok

@@ -1,4 +1,4 @@
-use Rattle.std.proofs.Common.{◌≡◌, Some, sym, subst}
+use Rattle.std.proofs.Common.{◌≡◌, Some, subst, sym}
 use Rattle.krs_model.specs.State.{State}
 use Rattle.krs_tables.specs.Linked.{name_in}
 use Rattle.krs_tables.proofs.Links.{name_kept}

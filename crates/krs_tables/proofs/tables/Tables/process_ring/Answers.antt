@@ -1,6 +1,5 @@
 use Rattle.std.proofs.Common.{◌∙◌, ap}
-use Rattle.krs_model.specs.State.{State}
-use Rattle.krs_model.specs.Possession.{process_ring}
+use Rattle.krs_model.specs.{Possession.process_ring, State.State}
 use Rattle.krs_tables.specs.View.{state_of}
 use Rattle.krs_tables.proofs.tables.Tables.process_ring.Goals as goal
 

@@ -1,10 +1,7 @@
-use Rattle.std.proofs.Common.{◌≡◌, sym, subst}
-use Rattle.krs_model.specs.State.{State}
-use Rattle.krs_model.specs.Reach.{IsAcyclic, links_of_key_at}
-use Rattle.krs_model.specs.Sweep.{live_watches, roots}
+use Rattle.std.proofs.Common.{◌≡◌, subst, sym}
+use Rattle.krs_model.specs.{Reach.{IsAcyclic, links_of_key_at}, State.State, Sweep.{live_watches, roots}}
 use Rattle.krs_tables.specs.View.{state_of}
-use Rattle.krs_tables.proofs.Definitions.{sweep_told}
-use Rattle.krs_tables.proofs.Removals.{sweeps_dropped, sweeps_unwatched}
+use Rattle.krs_tables.proofs.{Definitions.sweep_told, Removals.{sweeps_dropped, sweeps_unwatched}}
 use Rattle.krs_tables.proofs.tables.Tables.sweep.Goals as goal
 
 pub invariant_of-self : goal.invariant_of-self

@@ -1,7 +1,6 @@
-use Rattle.std.proofs.Common.{sym, ◌∙◌, arith}
+use Rattle.std.proofs.Common.{◌∙◌, arith, sym}
 use Rattle.krs_keys.specs.Keys.{shown}
-use Rattle.krs_walk.proofs.PossessionLemmas.{head_possessed}
-use Rattle.krs_walk.proofs.HeldLemmas.{held_possessed, not_possessed}
+use Rattle.krs_walk.proofs.{HeldLemmas.{held_possessed, not_possessed}, PossessionLemmas.head_possessed}
 use Rattle.krs_walk.proofs.held.HeldRings.has.Goals as goal
 
 pub returns-then-self-gt-SEARCH_DEPTH-clause-has : goal.returns-then-self-gt-SEARCH_DEPTH-clause-has

@@ -1,8 +1,8 @@
-use Rattle.std.proofs.Common.{◌+◌, ap, ◌∙◌}
-use Rattle.krs_walk.proofs.HeldLemmas.{begun_held, next_held}
+use Rattle.std.proofs.Common.{◌+◌, ◌∙◌, ap}
 use Rattle.krs_walk.specs.declared.held.HeldRings.{HeldRings}
+use Rattle.krs_walk.proofs.HeldLemmas.{begun_held, next_held}
+use Rattle.krs_walk.proofs.held.HeldRings.walk_on.Goals.{else-self-eq0+in_ok-self, then-self-eq0+in_ok-join_attached}
 use Rattle.krs_walk.proofs.held.HeldRings.walk_on.Goals as goal
-use Rattle.krs_walk.proofs.held.HeldRings.walk_on.Goals.{then-self-eq0+in_ok-join_attached, else-self-eq0+in_ok-self}
 
 pub returns-clause-held : goal.returns-clause-held
 returns-clause-held c =

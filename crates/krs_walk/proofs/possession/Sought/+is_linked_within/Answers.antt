@@ -1,7 +1,7 @@
-use Rattle.std.proofs.Common.{sym, ◌∙◌}
+use Rattle.std.proofs.Common.{◌∙◌, sym}
 use Rattle.krs_keys.specs.Keys.{shown}
 use Rattle.krs_walk.specs.Walks.{followed_rings, follows_link_to}
-use Rattle.krs_walk.proofs.DepthLemmas.{any_none, any_first, any_below}
+use Rattle.krs_walk.proofs.DepthLemmas.{any_below, any_first, any_none}
 use Rattle.krs_walk.proofs.possession.Sought.+is_linked_within.Goals as goal
 
 pub returns-then-depth-eq0 : goal.returns-then-depth-eq0

@@ -1,12 +1,10 @@
-use Rattle.std.proofs.Common.{◌≡◌, ◌≤◌, ◌+◌, ℕ, length, drop, Bool, false, ap, sym, subst, ◌∙◌, arith}
-use Rattle.std.specs.List.{flat_map, list_any}
-use Rattle.krs_model.specs.Levels.{levels, is_in, search_depth}
-use Rattle.krs_model.specs.Possession.{followed_at, attached_with}
+use Rattle.std.proofs.Common.{◌+◌, ◌∙◌, ◌≡◌, ◌≤◌, ap, arith, Bool, drop, false, flat_map, length, subst, sym, ℕ}
+use Rattle.std.specs.List.{list_any}
+use Rattle.krs_model.specs.{Levels.{is_in, levels, search_depth}, Possession.{attached_with, followed_at}}
 use Rattle.krs_keys.specs.Keys.{shown}
-use Rattle.krs_walk.specs.Lists.{join}
-use Rattle.krs_walk.specs.Walks.{followed_rings}
+use Rattle.krs_walk.specs.{Lists.join, Walks.followed_rings}
 use Rattle.krs_walk.proofs.DepthLemmas.{any_heads}
-use Rattle.krs_walk.proofs.RoundsLemmas.{IsSearch, search_behind, search_goes_on, search_finds, longer}
+use Rattle.krs_walk.proofs.RoundsLemmas.{IsSearch, longer, search_behind, search_finds, search_goes_on}
 use Rattle.krs_walk.proofs.possession.Sought.is_linked_below.Goals as goal
 
 pub next_level-requires-2-clause-start : goal.next_level-requires-2-clause-start

@@ -1,5 +1,4 @@
-use Rattle.krs_model.specs.Possession.{followed_at, attached_with}
-use Rattle.krs_model.specs.Levels.{is_in}
+use Rattle.krs_model.specs.{Levels.is_in, Possession.{attached_with, followed_at}}
 use Rattle.krs_keys.specs.Keys.{shown}
 use Rattle.krs_walk.specs.Walks.{followed_rings}
 use Rattle.krs_walk.proofs.RoundsLemmas.{IsSearch}

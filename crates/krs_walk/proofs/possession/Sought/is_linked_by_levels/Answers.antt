@@ -1,6 +1,5 @@
-use Rattle.std.proofs.Common.{sym, ◌∙◌}
-use Rattle.krs_model.specs.Levels.{search_depth}
-use Rattle.krs_model.specs.Possession.{attached_with}
+use Rattle.std.proofs.Common.{◌∙◌, sym}
+use Rattle.krs_model.specs.{Levels.search_depth, Possession.attached_with}
 use Rattle.krs_keys.specs.Keys.{shown}
 use Rattle.krs_walk.specs.Walks.{followed_rings, follows_link_to}
 use Rattle.krs_walk.proofs.DepthLemmas.{any_heads}

@@ -1,10 +1,8 @@
 use Rattle.std.proofs.Common.{◌+◌, ◌∙◌}
-use Rattle.krs_model.specs.Levels.{search_depth}
-use Rattle.krs_model.specs.Possession.{attached_with}
+use Rattle.krs_model.specs.{Levels.search_depth, Possession.attached_with}
 use Rattle.krs_keys.specs.Keys.{shown}
 use Rattle.krs_walk.specs.Walks.{followed_rings, follows_link_to}
-use Rattle.krs_walk.proofs.DepthLemmas.{any_heads}
-use Rattle.krs_walk.proofs.HintLemmas.{at_once, from_nested}
+use Rattle.krs_walk.proofs.{DepthLemmas.any_heads, HintLemmas.{at_once, from_nested}}
 use Rattle.krs_walk.proofs.possession.Sought.leads_far.Goals as goal
 
 pub returns-then-climbs : goal.returns-then-climbs

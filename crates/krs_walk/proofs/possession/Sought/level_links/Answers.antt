@@ -1,6 +1,5 @@
-use Rattle.std.proofs.Common.{sym, ◌∙◌, arith}
-use Rattle.krs_model.specs.Levels.{is_in}
-use Rattle.krs_model.specs.Possession.{followed_at}
+use Rattle.std.proofs.Common.{◌∙◌, arith, sym}
+use Rattle.krs_model.specs.{Levels.is_in, Possession.followed_at}
 use Rattle.krs_keys.specs.Keys.{shown}
 use Rattle.krs_walk.proofs.RoundsLemmas.{any_fails, any_passes, any_past}
 use Rattle.krs_walk.proofs.possession.Sought.level_links.Goals as goal

@@ -1,7 +1,6 @@
 use Rattle.std.proofs.Common.{◌≡◌, drop}
 use Rattle.std.specs.List.{list_any}
-use Rattle.krs_model.specs.Levels.{is_in}
-use Rattle.krs_model.specs.Possession.{followed_at}
+use Rattle.krs_model.specs.{Levels.is_in, Possession.followed_at}
 use Rattle.krs_keys.specs.Keys.{shown}
 use Rattle.krs_walk.proofs.possession.Sought.level_links.Given as goal
 

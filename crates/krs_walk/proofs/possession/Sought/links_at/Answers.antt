@@ -1,10 +1,8 @@
-use Rattle.std.proofs.Common.{ap, sym, ◌∙◌, true}
-use Rattle.std.specs.Option.{option_copied}
+use Rattle.std.proofs.Common.{◌∙◌, ap, option_copied, sym, true}
 use Rattle.krs_model.specs.Levels.{is_in}
 use Rattle.krs_links.specs.Links.{serials}
 use Rattle.krs_keys.specs.Keys.{named_links_of_content}
-use Rattle.krs_walk.proofs.ListsLemmas.{in_at}
-use Rattle.krs_walk.proofs.PossessionLemmas.{followed_there}
+use Rattle.krs_walk.proofs.{ListsLemmas.in_at, PossessionLemmas.followed_there}
 use Rattle.krs_walk.proofs.possession.Sought.links_at.Goals as goal
 
 pub returns-then-links_at : goal.returns-then-links_at

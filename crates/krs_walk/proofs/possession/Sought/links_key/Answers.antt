@@ -1,7 +1,6 @@
-use Rattle.std.proofs.Common.{ap, sym, ◌∙◌}
-use Rattle.std.specs.Option.{option_copied}
+use Rattle.std.proofs.Common.{◌∙◌, ap, option_copied, sym}
 use Rattle.krs_model.specs.Levels.{is_in}
-use Rattle.krs_walk.proofs.PossessionLemmas.{followed_links, followed_absent, unfollowed}
+use Rattle.krs_walk.proofs.PossessionLemmas.{followed_absent, followed_links, unfollowed}
 use Rattle.krs_walk.proofs.possession.Sought.links_key.Goals as goal
 
 pub returns-in-Some : goal.returns-in-Some

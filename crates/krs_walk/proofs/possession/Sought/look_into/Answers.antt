@@ -1,13 +1,10 @@
-use Rattle.std.proofs.Common.{ap, sym, ◌∙◌, filter}
-use Rattle.std.specs.Option.{option_copied}
-use Rattle.krs_model.specs.Table.{at}
-use Rattle.krs_model.specs.Levels.{is_in}
-use Rattle.krs_model.specs.Reach.{is_ring}
+use Rattle.std.proofs.Common.{◌∙◌, ap, filter, option_copied, sym}
+use Rattle.krs_model.specs.{Levels.is_in, Reach.is_ring, Table.at}
 use Rattle.krs_keys.specs.Keys.{shown}
-use Rattle.krs_walk.proofs.PossessionLemmas.{followed_links, followed_nested, followed_absent, unfollowed}
-use Rattle.krs_walk.proofs.possession.Sought.look_into.Goals as goal
+use Rattle.krs_walk.proofs.PossessionLemmas.{followed_absent, followed_links, followed_nested, unfollowed}
 use Rattle.krs_walk.proofs.possession.Sought.look_into.Goals.{in_default-via-in-Some+else-is_followed}
 use Rattle.krs_walk.proofs.possession.Sought.look_into.Goals.{in_default-via-in_default}
+use Rattle.krs_walk.proofs.possession.Sought.look_into.Goals as goal
 
 pub returns-in-Some-clause-linked : goal.returns-in-Some-clause-linked
 returns-in-Some-clause-linked c =

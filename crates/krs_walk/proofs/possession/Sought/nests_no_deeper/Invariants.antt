@@ -1,5 +1,4 @@
-use Rattle.std.proofs.Common.{◌≡◌, drop}
-use Rattle.std.specs.List.{flat_map}
+use Rattle.std.proofs.Common.{◌≡◌, drop, flat_map}
 use Rattle.krs_keys.specs.Keys.{shown}
 use Rattle.krs_walk.specs.Walks.{followed_rings}
 use Rattle.krs_walk.proofs.possession.Sought.nests_no_deeper.Given as goal

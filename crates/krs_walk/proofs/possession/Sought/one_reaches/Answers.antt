@@ -1,10 +1,8 @@
-use Rattle.std.proofs.Common.{ℕ, ◌+◌, Option, false, ap, sym, ◌∙◌, ◌≡◌}
+use Rattle.std.proofs.Common.{◌+◌, ◌∙◌, ◌≡◌, ap, false, Option, option_to_list, sym, ℕ}
 use Rattle.std.specs.List.{list_any}
-use Rattle.std.specs.Option.{option_to_list}
 use Rattle.krs_keys.specs.Keys.{shown}
 use Rattle.krs_walk.specs.Walks.{followed_rings, follows_link_to, is_linked_within}
-use Rattle.krs_walk.proofs.ListsLemmas.{is_same, or_left}
-use Rattle.krs_walk.proofs.HintLemmas.{one_level_more, from_nested}
+use Rattle.krs_walk.proofs.{HintLemmas.{from_nested, one_level_more}, ListsLemmas.{is_same, or_left}}
 use Rattle.krs_walk.proofs.possession.Sought.one_reaches.Goals as goal
 
 pub returns-then-eq : goal.returns-then-eq

@@ -1,8 +1,6 @@
-use Rattle.std.proofs.Common.{◌-◌, ap, sym, ◌∙◌}
-use Rattle.std.proofs.lemmas.Grind.{get_or_default_zero}
-use Rattle.krs_walk.specs.Searching.{searcher_for, links_at, sought_behind}
-use Rattle.krs_walk.proofs.DescentLemmas.{links_here, links_deep}
-use Rattle.krs_walk.proofs.VisitingLemmas.{turn_goes_on}
+use Rattle.std.proofs.{Common.{◌-◌, ◌∙◌, ap, sym}, lemmas.Grind.get_or_default_zero}
+use Rattle.krs_walk.specs.Searching.{links_at, searcher_for, sought_behind}
+use Rattle.krs_walk.proofs.{DescentLemmas.{links_deep, links_here}, VisitingLemmas.turn_goes_on}
 use Rattle.krs_walk.proofs.search.Search.+find_at.Goals as goal
 
 pub returns-then-depth-eq0 : goal.returns-then-depth-eq0

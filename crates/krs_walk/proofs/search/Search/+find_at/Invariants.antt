@@ -1,5 +1,4 @@
-use Rattle.std.proofs.Common.{◌≡◌, ◌-◌, drop}
-use Rattle.std.specs.List.{flat_map}
+use Rattle.std.proofs.Common.{◌-◌, ◌≡◌, drop, flat_map}
 use Rattle.krs_walk.specs.Searching.{links_below, sought_behind}
 use Rattle.krs_walk.proofs.search.Search.+find_at.Given as goal
 

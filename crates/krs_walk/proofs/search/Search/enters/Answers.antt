@@ -1,4 +1,4 @@
-use Rattle.std.proofs.Common.{sym, ◌∙◌}
+use Rattle.std.proofs.Common.{◌∙◌, sym}
 use Rattle.krs_walk.proofs.SearchLemmas.{linking_ring}
 use Rattle.krs_walk.proofs.search.Search.enters.Goals as goal
 

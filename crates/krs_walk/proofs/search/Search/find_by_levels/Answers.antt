@@ -1,6 +1,6 @@
-use Rattle.std.proofs.Common.{sym, ◌∙◌, arith}
+use Rattle.std.proofs.Common.{◌∙◌, arith, sym}
 use Rattle.krs_walk.specs.Searching.{searcher_for}
-use Rattle.krs_walk.proofs.DescentLemmas.{depth_starts, depth_goes_on, depth_finds, depth_fails}
+use Rattle.krs_walk.proofs.DescentLemmas.{depth_fails, depth_finds, depth_goes_on, depth_starts}
 use Rattle.krs_walk.proofs.search.Search.find_by_levels.Goals as goal
 
 pub loop-level-init : goal.loop-level-init

@@ -1,9 +1,9 @@
-use Rattle.std.proofs.Common.{ap, sym, ◌∙◌}
-use Rattle.std.specs.Option.{option_copied}
+use Rattle.std.proofs.Common.{◌∙◌, ap, option_copied, sym}
 use Rattle.krs_walk.specs.Searching.{sought_behind}
-use Rattle.krs_walk.proofs.SearchLemmas.{entered_there, entered_absent, nothing_sought}
+use Rattle.krs_walk.proofs.SearchLemmas.{entered_absent, entered_there, nothing_sought}
+use Rattle.krs_walk.proofs.search.Search.find_in_links.Goals.{in_default-via-in-Some+else-is_entered}
+use Rattle.krs_walk.proofs.search.Search.find_in_links.Goals.{in_default-via-in_default}
 use Rattle.krs_walk.proofs.search.Search.find_in_links.Goals as goal
-use Rattle.krs_walk.proofs.search.Search.find_in_links.Goals.{in_default-via-in-Some+else-is_entered, in_default-via-in_default}
 
 pub returns-in-Some : goal.returns-in-Some
 returns-in-Some c =

@@ -1,4 +1,4 @@
-use Rattle.std.specs.Option.{option_to_list}
+use Rattle.std.proofs.Common.{option_to_list}
 use Rattle.krs_walk.specs.Searching.{searcher_for}
 use Rattle.krs_walk.proofs.FindingLemmas.{found_in_turn}
 use Rattle.krs_walk.proofs.search.Search.find_in_turn.Goals as goal

@@ -1,4 +1,4 @@
-use Rattle.std.proofs.Common.{sym, ◌∙◌}
+use Rattle.std.proofs.Common.{◌∙◌, sym}
 use Rattle.krs_walk.specs.Searching.{searcher_for}
 use Rattle.krs_walk.proofs.FindingLemmas.{first_finds}
 use Rattle.krs_walk.proofs.search.Search.find_under.Goals as goal

@@ -1,10 +1,9 @@
-use Rattle.std.proofs.Common.{ap, sym, ◌∙◌}
-use Rattle.std.specs.Option.{option_copied}
+use Rattle.std.proofs.Common.{◌∙◌, ap, option_copied, sym}
 use Rattle.krs_model.specs.Linking.{is_named}
 use Rattle.krs_walk.specs.Searching.{searcher_for}
-use Rattle.krs_walk.proofs.SoughtLemmas.{unnamed_comes_to, seen_there, unseen}
-use Rattle.krs_walk.proofs.search.Search.judge.Goals as goal
+use Rattle.krs_walk.proofs.SoughtLemmas.{seen_there, unnamed_comes_to, unseen}
 use Rattle.krs_walk.proofs.search.Search.judge.Goals.{in_default-via-in-Some+else-eq, in_default-via-in_default}
+use Rattle.krs_walk.proofs.search.Search.judge.Goals as goal
 
 pub returns-in_default : goal.returns-in_default
 returns-in_default c =

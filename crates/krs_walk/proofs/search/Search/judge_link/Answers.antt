@@ -1,7 +1,7 @@
-use Rattle.std.proofs.Common.{ap, sym, ◌∙◌, refl}
+use Rattle.std.proofs.Common.{◌∙◌, ap, refl, sym}
 use Rattle.krs_keys.specs.Keys.{named_links_of_content}
 use Rattle.krs_walk.specs.Searching.{searcher_for}
-use Rattle.krs_walk.proofs.SoughtLemmas.{sought_link, links_come_to}
+use Rattle.krs_walk.proofs.SoughtLemmas.{links_come_to, sought_link}
 use Rattle.krs_walk.proofs.search.Search.judge_link.Goals as goal
 
 pub returns-in-Some : goal.returns-in-Some

@@ -1,4 +1,4 @@
-use Rattle.std.proofs.Common.{sym, ◌∙◌, refl}
+use Rattle.std.proofs.Common.{◌∙◌, refl, sym}
 use Rattle.krs_keys.specs.Keys.{seen}
 use Rattle.krs_walk.specs.Searching.{searcher_for}
 use Rattle.krs_walk.proofs.SoughtLemmas.{key_comes_to, seen_there}

@@ -1,11 +1,10 @@
-use Rattle.std.proofs.Common.{ℕ, ap, sym, ◌∙◌, filter}
-use Rattle.std.specs.Option.{option_copied}
-use Rattle.krs_model.specs.Table.{at}
-use Rattle.krs_model.specs.Reach.{is_ring}
+use Rattle.std.proofs.Common.{◌∙◌, ap, filter, option_copied, sym, ℕ}
+use Rattle.krs_model.specs.{Reach.is_ring, Table.at}
 use Rattle.krs_keys.specs.Keys.{shown}
-use Rattle.krs_walk.proofs.SearchLemmas.{entered_there, entered_absent, rings_entered}
+use Rattle.krs_walk.proofs.SearchLemmas.{entered_absent, entered_there, rings_entered}
+use Rattle.krs_walk.proofs.search.Search.rings_entered.Goals.{in_default-via-in-Some+else-is_entered}
+use Rattle.krs_walk.proofs.search.Search.rings_entered.Goals.{in_default-via-in_default}
 use Rattle.krs_walk.proofs.search.Search.rings_entered.Goals as goal
-use Rattle.krs_walk.proofs.search.Search.rings_entered.Goals.{in_default-via-in-Some+else-is_entered, in_default-via-in_default}
 
 pub returns-in-Some : goal.returns-in-Some
 returns-in-Some c =

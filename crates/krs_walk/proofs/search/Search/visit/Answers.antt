@@ -1,8 +1,7 @@
-use Rattle.std.proofs.Common.{◌≡◌, ap, sym, ◌∙◌, subst, IfOk, List, ℕ, Err}
-use Rattle.std.specs.Option.{option_copied}
+use Rattle.std.proofs.Common.{◌∙◌, ◌≡◌, ap, Err, IfOk, List, option_copied, subst, sym, ℕ}
 use Rattle.krs_model.specs.Search.{or_next}
-use Rattle.krs_walk.specs.Searching.{sought_in, Joins}
-use Rattle.krs_walk.proofs.SearchLemmas.{entered_there, entered_absent, rings_entered, nothing_sought, nothing_joined}
+use Rattle.krs_walk.specs.Searching.{Joins, sought_in}
+use Rattle.krs_walk.proofs.SearchLemmas.{entered_absent, entered_there, nothing_joined, nothing_sought, rings_entered}
 use Rattle.krs_walk.proofs.search.Search.visit.Goals as goal
 
 pub returns-in_default-clause-sought : goal.returns-in_default-clause-sought

@@ -1,7 +1,7 @@
-use Rattle.std.proofs.Common.{ℕ, sym, ◌∙◌, subst, arith, Result}
+use Rattle.std.proofs.Common.{◌∙◌, arith, Result, subst, sym, ℕ}
 use Rattle.krs_types.specs.declared.errno.Errno.{Errno}
-use Rattle.krs_walk.specs.Searching.{searcher_for, entered_rings, Joins}
-use Rattle.krs_walk.proofs.VisitingLemmas.{visited, visit_goes_on}
+use Rattle.krs_walk.specs.Searching.{entered_rings, Joins, searcher_for}
+use Rattle.krs_walk.proofs.VisitingLemmas.{visit_goes_on, visited}
 use Rattle.krs_walk.proofs.search.Search.visit_level.Goals as goal
 
 pub returns-in-Ok-clause-sought : goal.returns-in-Ok-clause-sought

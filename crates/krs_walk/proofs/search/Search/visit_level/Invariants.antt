@@ -1,4 +1,4 @@
-use Rattle.krs_walk.specs.Searching.{searcher_for, AreHeld}
+use Rattle.krs_walk.specs.Searching.{AreHeld, searcher_for}
 use Rattle.krs_walk.proofs.VisitingLemmas.{IsVisit}
 use Rattle.krs_walk.proofs.search.Search.visit_level.Given as goal
 

@@ -1,9 +1,7 @@
-use Rattle.std.proofs.Common.{[], ◌+◌, ℕ, ap, sym, ◌∙◌, subst, arith, drop, Result}
-use Rattle.std.specs.List.{flat_map}
+use Rattle.std.proofs.Common.{[], ◌+◌, ◌∙◌, ap, arith, drop, flat_map, Result, subst, sym, ℕ}
 use Rattle.krs_types.specs.declared.errno.Errno.{Errno}
-use Rattle.krs_walk.specs.Lists.{join}
-use Rattle.krs_walk.specs.Searching.{searcher_for, entered_rings, Joins}
-use Rattle.krs_walk.proofs.FindingLemmas.{IsSeek, seek_starts, seek_goes_on, seek_finds, seek_fails}
+use Rattle.krs_walk.specs.{Lists.join, Searching.{entered_rings, Joins, searcher_for}}
+use Rattle.krs_walk.proofs.FindingLemmas.{IsSeek, seek_fails, seek_finds, seek_goes_on, seek_starts}
 use Rattle.krs_walk.proofs.search.Search.walk_below.Goals as goal
 
 pub loop-level-init : goal.loop-level-init

@@ -1,4 +1,4 @@
-use Rattle.krs_walk.specs.Searching.{searcher_for, AreHeld}
+use Rattle.krs_walk.specs.Searching.{AreHeld, searcher_for}
 use Rattle.krs_walk.proofs.FindingLemmas.{IsSeek}
 use Rattle.krs_walk.proofs.search.Search.walk_below.Given as goal
 

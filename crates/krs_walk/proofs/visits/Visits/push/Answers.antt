@@ -1,4 +1,4 @@
-use Rattle.std.proofs.Common.{List, ℕ, [], ◌∷◌, ◌++◌, ap, ◌∙◌}
+use Rattle.std.proofs.Common.{[], ◌++◌, ◌∙◌, ◌∷◌, ap, List, ℕ}
 use Rattle.krs_model.specs.Levels.{is_in}
 use Rattle.krs_walk.proofs.MarksLemmas.{put_new}
 use Rattle.krs_walk.proofs.visits.Visits.push.Goals as goal

@@ -1,9 +1,7 @@
-use Rattle.std.proofs.Common.{◌≡◌, [], length, sym, ◌∙◌, arith}
-use Rattle.std.proofs.lemmas.List.{nil_from_length}
+use Rattle.std.proofs.{Common.{[], ◌∙◌, ◌≡◌, arith, length, sym}, lemmas.List.nil_from_length}
 use Rattle.krs_model.specs.Reach.{nested_in, nesting_depth}
 use Rattle.krs_keys.specs.Keys.{shown}
-use Rattle.krs_walk.proofs.ListsLemmas.{is_same}
-use Rattle.krs_walk.proofs.HeightLemmas.{leaf_height, none_longer}
+use Rattle.krs_walk.proofs.{HeightLemmas.{leaf_height, none_longer}, ListsLemmas.is_same}
 use Rattle.krs_walk.proofs.walker.Walker.height_of.Goals as goal
 
 pub returns-then-is_empty-clause-height : goal.returns-then-is_empty-clause-height

@@ -1,5 +1,4 @@
-use Rattle.std.proofs.Common.{ap, sym, ◌∙◌}
-use Rattle.std.specs.Option.{option_copied}
+use Rattle.std.proofs.Common.{◌∙◌, ap, option_copied, sym}
 use Rattle.krs_keys.specs.Keys.{shown}
 use Rattle.krs_walk.proofs.PossessionLemmas.{absent_linked, head_possessed, linked_possessed}
 use Rattle.krs_walk.proofs.walker.Walker.possesses.Goals as goal

@@ -1,11 +1,9 @@
-use Rattle.std.proofs.Common.{◌≤◌, sym, ◌∙◌, arith}
-use Rattle.krs_model.specs.Levels.{search_depth}
-use Rattle.krs_model.specs.Possession.{attached_with}
+use Rattle.std.proofs.Common.{◌∙◌, ◌≤◌, arith, sym}
+use Rattle.krs_model.specs.{Levels.search_depth, Possession.attached_with}
 use Rattle.krs_keys.specs.Keys.{shown}
 use Rattle.krs_walk.specs.Walks.{followed_rings, follows_link_to}
 use Rattle.krs_walk.proofs.DepthLemmas.{any_heads}
-use Rattle.krs_walk.proofs.RoundsLemmas.{any_up}
-use Rattle.krs_walk.proofs.PossessionLemmas.{head_possessed, linked_possessed}
+use Rattle.krs_walk.proofs.{PossessionLemmas.{head_possessed, linked_possessed}, RoundsLemmas.any_up}
 use Rattle.krs_walk.proofs.walker.Walker.possesses_hinted.Goals as goal
 
 pub returns-then-is_attached : goal.returns-then-is_attached

@@ -1,4 +1,4 @@
-use Rattle.std.proofs.Common.{sym, ◌∙◌}
+use Rattle.std.proofs.Common.{◌∙◌, sym}
 use Rattle.krs_keys.specs.Keys.{shown}
 use Rattle.krs_walk.proofs.PossessionLemmas.{head_possessed, linked_possessed}
 use Rattle.krs_walk.proofs.walker.Walker.possesses_named.Goals as goal

@@ -1,4 +1,4 @@
-use Rattle.std.proofs.Common.{◌≡◌, Bool, IfSome, sym, subst, ◌∙◌}
+use Rattle.std.proofs.Common.{◌∙◌, ◌≡◌, Bool, IfSome, subst, sym}
 use Rattle.krs_keys.specs.Keys.{shown}
 use Rattle.krs_walk.proofs.PossessionLemmas.{head_possessed, linked_possessed}
 use Rattle.krs_walk.proofs.walker.Walker.possesses_soon.Goals as goal

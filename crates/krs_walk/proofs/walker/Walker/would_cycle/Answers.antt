@@ -1,10 +1,8 @@
-use Rattle.std.proofs.Common.{◌≡◌, [], ◌∷◌, length, sym, ◌∙◌, arith}
-use Rattle.std.proofs.lemmas.Bool.{true≢false}
-use Rattle.std.proofs.lemmas.List.{nil_from_length}
+use Rattle.std.proofs.{Common.{[], ◌∙◌, ◌∷◌, ◌≡◌, arith, length, sym, true≢false}, lemmas.List.nil_from_length}
 use Rattle.krs_model.specs.Reach.{nested_in}
 use Rattle.krs_keys.specs.Keys.{shown}
+use Rattle.krs_walk.proofs.CycleLemmas.{leaf_misses, missed_closes, missed_reached, self_closes}
 use Rattle.krs_walk.proofs.ListsLemmas.{is_same, same_is}
-use Rattle.krs_walk.proofs.CycleLemmas.{self_closes, leaf_misses, missed_closes, missed_reached}
 use Rattle.krs_walk.proofs.walker.Walker.would_cycle.Goals as goal
 
 pub returns-then-eq-clause-closes : goal.returns-then-eq-clause-closes

@@ -1,8 +1,6 @@
-use Rattle.std.proofs.Common.{List, ap, ◌∙◌}
-use Rattle.krs_model.specs.Table.{Table}
-use Rattle.krs_model.specs.State.{Queue}
-use Rattle.krs_model.specs.Queues.{Queues, Watch, queues_without}
-use Rattle.krs_watch.proofs.QueuedLemmas.{queued_left, left_are}
+use Rattle.std.proofs.Common.{◌∙◌, ap, List}
+use Rattle.krs_model.specs.{Queues.{Queues, queues_without, Watch}, State.Queue, Table.Table}
+use Rattle.krs_watch.proofs.QueuedLemmas.{left_are, queued_left}
 use Rattle.krs_watch.proofs.queues.WatchQueues.leave.Goals as goal
 
 pub invariant_of-self : goal.invariant_of-self

@@ -1,11 +1,8 @@
-use Rattle.std.proofs.Common.{List, ap, ◌∙◌, map}
-use Rattle.krs_model.specs.Table.{Table}
-use Rattle.krs_model.specs.State.{Queue}
-use Rattle.krs_model.specs.Queues.{Queues, Watch}
-use Rattle.krs_model.specs.Notes.Posting.{Post, note_for, watches_at}
+use Rattle.std.proofs.Common.{◌∙◌, ap, List, map}
+use Rattle.krs_model.specs.Notes.Posting.{note_for, Post, watches_at}
+use Rattle.krs_model.specs.{Queues.{Queues, Watch}, State.Queue, Table.Table}
 use Rattle.krs_watch.specs.Offers.{offer_all}
-use Rattle.krs_watch.proofs.OffersLemmas.{offers_are_posts}
-use Rattle.krs_watch.proofs.QueuedLemmas.{queued_offer}
+use Rattle.krs_watch.proofs.{OffersLemmas.offers_are_posts, QueuedLemmas.queued_offer}
 use Rattle.krs_watch.proofs.queues.WatchQueues.post_all.Goals as goal
 
 pub returns : goal.returns

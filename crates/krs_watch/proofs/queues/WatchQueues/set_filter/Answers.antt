@@ -1,6 +1,5 @@
 use Rattle.std.proofs.Common.{rules}
-use Rattle.krs_model.specs.Asks.Watching.{filtered}
-use Rattle.krs_model.specs.Asks.Watching.{with_filter}
+use Rattle.krs_model.specs.Asks.Watching.{filtered, with_filter}
 use Rattle.krs_watch.proofs.QueuedLemmas.{queued_alter}
 use Rattle.krs_watch.proofs.queues.WatchQueues.set_filter.Goals as goal
 

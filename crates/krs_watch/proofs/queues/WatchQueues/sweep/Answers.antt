@@ -1,10 +1,7 @@
-use Rattle.std.proofs.Common.{List, ap, ◌∙◌, map}
-use Rattle.krs_model.specs.Table.{Table}
-use Rattle.krs_model.specs.State.{Queue}
-use Rattle.krs_model.specs.Queues.{Queues, Watch}
-use Rattle.krs_model.specs.Notes.Posting.{removal_for, post_all}
+use Rattle.std.proofs.Common.{◌∙◌, ap, List, map}
+use Rattle.krs_model.specs.{Notes.Posting.{post_all, removal_for}, Queues.{Queues, Watch}, State.Queue, Table.Table}
 use Rattle.krs_watch.specs.Watched.{gone_watches}
-use Rattle.krs_watch.proofs.QueuedLemmas.{queued_post, queued_kept}
+use Rattle.krs_watch.proofs.QueuedLemmas.{queued_kept, queued_post}
 use Rattle.krs_watch.proofs.queues.WatchQueues.sweep.Goals as goal
 
 pub returns : goal.returns

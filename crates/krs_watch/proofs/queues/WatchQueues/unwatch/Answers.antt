@@ -1,12 +1,8 @@
-use Rattle.std.proofs.Common.{◌≡◌, ℕ, List, Some, Ok, ap, sym, ◌∙◌, rules}
+use Rattle.std.proofs.Common.{◌∙◌, ◌≡◌, ap, List, Ok, rules, Some, sym, ℕ}
 use Rattle.krs_types.specs.declared.note.Record.TheVariants.{Removal}
-use Rattle.krs_model.specs.Table.{Table, alter}
-use Rattle.krs_model.specs.State.{Queue}
-use Rattle.krs_model.specs.Queues.{Queues, Watch, watch_at, without_watch}
-use Rattle.krs_model.specs.Notes.Posting.{after_note}
-use Rattle.krs_model.specs.Asks.Watching.{Change, unwatched}
-use Rattle.krs_watch.proofs.ChangesLemmas.{ends_watch}
-use Rattle.krs_watch.proofs.QueuedLemmas.{queued_alter, queued_less}
+use Rattle.krs_model.specs.{Asks.Watching.{Change, unwatched}, Notes.Posting.after_note}
+use Rattle.krs_model.specs.{Queues.{Queues, Watch, watch_at, without_watch}, State.Queue, Table.{alter, Table}}
+use Rattle.krs_watch.proofs.{ChangesLemmas.ends_watch, QueuedLemmas.{queued_alter, queued_less}}
 use Rattle.krs_watch.proofs.queues.WatchQueues.unwatch.Goals as goal
 
 pub returns-in_default : goal.returns-in_default

@@ -1,6 +1,6 @@
 use Rattle.std.proofs.Common.{rules}
 use Rattle.krs_model.specs.Asks.Watching.{watched}
-use Rattle.krs_watch.proofs.QueuedLemmas.{queued_with, owned_there}
+use Rattle.krs_watch.proofs.QueuedLemmas.{owned_there, queued_with}
 use Rattle.krs_watch.proofs.queues.WatchQueues.watch.Goals as goal
 
 pub returns : goal.returns

@@ -1,4 +1,4 @@
-use Rattle.std.proofs.Common.{◌==◌, not, filter, ap, ◌∙◌}
+use Rattle.std.proofs.Common.{◌==◌, ◌∙◌, ap, filter, not}
 use Rattle.krs_watch.proofs.WatchesLemmas.{ends_one}
 use Rattle.krs_watch.proofs.watches.Watches.end_all_of.Goals as goal
 

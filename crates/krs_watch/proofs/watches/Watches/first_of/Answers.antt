@@ -1,6 +1,6 @@
-use Rattle.std.proofs.Common.{◌≡◌, ◌==◌, List, [], not, filter, ◌∙◌, sym, subst}
+use Rattle.std.proofs.Common.{[], ◌==◌, ◌∙◌, ◌≡◌, filter, List, not, subst, sym}
 use Rattle.krs_model.specs.Queues.{Watch}
-use Rattle.krs_watch.proofs.WatchesLemmas.{none_ends, from_first, queue_has_none}
+use Rattle.krs_watch.proofs.WatchesLemmas.{from_first, none_ends, queue_has_none}
 use Rattle.krs_watch.proofs.watches.Watches.first_of.Goals as goal
 
 pub returns-in_default-clause-none : goal.returns-in_default-clause-none

@@ -1,7 +1,7 @@
-use Rattle.std.proofs.Common.{◌≡◌, List, Some, None, ap, ◌∙◌, sym, subst}
+use Rattle.std.proofs.Common.{◌∙◌, ◌≡◌, ap, List, None, Some, subst, sym}
 use Rattle.krs_model.specs.Queues.{Watch, watch_at}
 use Rattle.krs_watch.specs.Watched.{AreListed}
-use Rattle.krs_watch.proofs.WatchesLemmas.{both_changed, taken_back, accepted, refused}
+use Rattle.krs_watch.proofs.WatchesLemmas.{accepted, both_changed, refused, taken_back}
 use Rattle.krs_watch.proofs.watches.Watches.insert.Goals as goal
 
 pub invariant_of-self-then-is_err : goal.invariant_of-self-then-is_err

@@ -1,10 +1,6 @@
-use Rattle.std.proofs.Common.{rules, ◌≡◌, List, [], ◌++◌, subst, sym}
-use Rattle.krs_wire.specs.declared.framed.Framed.{Framed}
-use Rattle.krs_wire.specs.declared.fault.WireFault.{WireFault}
-use Rattle.std.specs.Prelude.{Option}
-use Rattle.krs_wire.specs.Frame.{Frames}
-use Rattle.krs_wire.specs.Feeding.{end_of}
-use Rattle.krs_wire.proofs.CutLemmas.{feeds, refuses, is_nothing}
+use Rattle.std.proofs.Common.{[], ◌++◌, ◌≡◌, List, Option, rules, subst, sym}
+use Rattle.krs_wire.specs.{Feeding.end_of, Frame.Frames, declared.{fault.WireFault.WireFault, framed.Framed.Framed}}
+use Rattle.krs_wire.proofs.CutLemmas.{feeds, is_nothing, refuses}
 use Rattle.krs_wire.proofs.feed.Feed.feed_warning.Goals as goal
 
 pub returns-then-is_empty-clause-refused : goal.returns-then-is_empty-clause-refused

@@ -1,18 +1,12 @@
-use Rattle.std.proofs.Common.{◌≡◌, ◌<◌, ℕ, List, ◌∷◌, ◌++◌, set, ap, sym, ◌∙◌, []}
-use Rattle.std.proofs.Common.{subst, Some, length, length-set}
+use Rattle.std.proofs.Common.{[], ◌++◌, ◌<◌, ◌∙◌, ◌∷◌, ◌≡◌, ap, length, length-set, List, set, Some, subst, sym, ℕ}
 use lib.ListN.{get_elem?}
 use mathlib.Core.Option.{some}
-use Rattle.krs_model.specs.History.{event_of}
-use Rattle.krs_model.specs.Step.{Step}
 use Rattle.krs_types.specs.declared.event.Event.{Event}
-use Rattle.krs_world.specs.declared.view.Service.{Service}
-use Rattle.krs_world.specs.declared.lane.Lane.{Lane}
-use Rattle.krs_world.specs.declared.step.Kind.TheVariants.{Answer}
-use Rattle.krs_world.specs.Kept.{world_of, IsKept}
-use Rattle.krs_world.proofs.KeptHistory.{out_within, in_bounds}
-use Rattle.krs_world.proofs.ServedMoves.{room_refused}
-use Rattle.krs_world.proofs.AnsweredMoves.{answers_at}
-use Rattle.krs_world.proofs.Answering.{lane_here, moves, serves_none, answer_refused}
+use Rattle.krs_model.specs.{History.event_of, Step.Step}
+use Rattle.krs_world.specs.Kept.{IsKept, world_of}
+use Rattle.krs_world.specs.declared.{lane.Lane.Lane, step.Kind.TheVariants.Answer, view.Service.Service}
+use Rattle.krs_world.proofs.{AnsweredMoves.answers_at, Answering.{answer_refused, lane_here, moves, serves_none}}
+use Rattle.krs_world.proofs.{KeptHistory.{in_bounds, out_within}, ServedMoves.room_refused}
 use Rattle.krs_world.proofs.world.World.answer.Goals as goal
 
 one_call : (a b : Service) → Some a ≡ Some b → a ≡ b

@@ -1,14 +1,12 @@
-use Rattle.std.proofs.Common.{◌≡◌, ◌<◌, ◌≤◌, List, ap, sym, ◌∙◌, ℕ}
-use Rattle.std.proofs.Common.{subst, inl, inr, length}
+use Rattle.std.proofs.Common.{◌<◌, ◌∙◌, ◌≡◌, ◌≤◌, ap, inl, inr, length, List, subst, sym, ℕ}
 use borrow.Author.Tests.{true-ltb}
 use lib.ListN.{get_elem?}
 use mathlib.Core.Option.{some}
-use Rattle.krs_world.specs.declared.lane.Lane.{Lane}
-use Rattle.krs_world.specs.declared.lane.Slot.TheVariants as slots
-use Rattle.krs_world.specs.declared.step.Kind.TheVariants.{Collect}
-use Rattle.krs_world.proofs.PostedMoves.{collects, no_reply, no_collect}
+use Rattle.krs_world.specs.declared.{lane.Lane.Lane, step.Kind.TheVariants.Collect}
 use Rattle.krs_world.proofs.Answering.{lane_at, lanes_same, moves, moves_not, none_there}
+use Rattle.krs_world.proofs.PostedMoves.{collects, no_collect, no_reply}
 use Rattle.krs_world.proofs.world.World.collect.Goals as goal
+use Rattle.krs_world.specs.declared.lane.Slot.TheVariants as slots
 
 pub returns-in_default : goal.returns-in_default
 returns-in_default c = let w = c.self.inside in

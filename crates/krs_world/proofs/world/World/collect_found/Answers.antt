@@ -1,14 +1,9 @@
-use Rattle.std.proofs.Common.{◌≡◌, ◌<◌, ◌≤◌, List, sym}
-use Rattle.std.proofs.Common.{subst, length}
+use Rattle.std.proofs.Common.{◌<◌, ◌≡◌, ◌≤◌, Bool, length, List, not, subst, sym, true}
 use borrow.Author.Tests.{true-ltb}
 use lib.ListN.{get_elem?}
 use mathlib.Core.Option.{some}
-use Rattle.krs_world.specs.declared.lane.Lane.{Lane}
-use Rattle.krs_world.specs.declared.step.Kind.TheVariants.{CollectFound}
-use Rattle.krs_world.proofs.PostedMoves.{finds, no_finds}
-use Rattle.krs_world.proofs.Answering.{lane_at, moves, moves_not, none_there}
-use Rattle.krs_world.specs.World.{World, MovesBy}
-use Rattle.std.proofs.Common.{Bool, true, not}
+use Rattle.krs_world.specs.{World.{MovesBy, World}, declared.{lane.Lane.Lane, step.Kind.TheVariants.CollectFound}}
+use Rattle.krs_world.proofs.{Answering.{lane_at, moves, moves_not, none_there}, PostedMoves.{finds, no_finds}}
 use Rattle.krs_world.proofs.world.World.collect_found.Goals.{in-Answered, in_default-matches}
 use Rattle.krs_world.proofs.world.World.collect_found.Goals as goal
 

@@ -1,15 +1,12 @@
-use Rattle.std.proofs.Common.{◌≡◌, ◌<◌, ◌≤◌, ℕ, List, ap, sym, ◌∙◌}
-use Rattle.std.proofs.Common.{subst, Some, length}
+use Rattle.std.proofs.Common.{◌<◌, ◌∙◌, ◌≡◌, ◌≤◌, ap, length, List, Some, subst, sym, ℕ}
 use borrow.Author.Tests.{true-ltb}
 use lib.ListN.{get_elem?}
 use mathlib.Core.Option.{some, some-injective}
-use Rattle.krs_world.specs.declared.lane.Lane.{Lane}
-use Rattle.krs_world.specs.declared.lane.Slot.TheVariants as slots
-use Rattle.krs_world.specs.declared.step.Kind.TheVariants.{Grab}
-use Rattle.krs_world.proofs.KeptHistory.{out_at}
-use Rattle.krs_world.proofs.ServedMoves.{grabs_at, no_grab}
-use Rattle.krs_world.proofs.Answering.{lane_at, lanes_same, moves, moves_not, beyond_cell, busy}
+use Rattle.krs_world.specs.declared.{lane.Lane.Lane, step.Kind.TheVariants.Grab}
+use Rattle.krs_world.proofs.Answering.{beyond_cell, busy, lane_at, lanes_same, moves, moves_not}
+use Rattle.krs_world.proofs.{KeptHistory.out_at, ServedMoves.{grabs_at, no_grab}}
 use Rattle.krs_world.proofs.world.World.grab.Goals as goal
+use Rattle.krs_world.specs.declared.lane.Slot.TheVariants as slots
 
 pub returns-in_default-serving : goal.returns-in_default-serving
 returns-in_default-serving c = let w = c.self.inside in

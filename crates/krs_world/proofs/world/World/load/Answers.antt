@@ -1,14 +1,10 @@
-use Rattle.std.proofs.Common.{◌≡◌, ◌<◌, ◌≤◌, List, refl, ℕ, ◌∙◌}
-use Rattle.std.proofs.Common.{subst, inl, inr}
-use Rattle.std.proofs.Common.{length}
+use Rattle.std.proofs.Common.{◌<◌, ◌∙◌, ◌≡◌, ◌≤◌, inl, inr, length, List, refl, subst, ℕ}
 use borrow.Author.Tests.{true-ltb}
 use lib.ListN.{get_elem?}
 use mathlib.Core.Option.{some}
-use Rattle.krs_world.specs.declared.lane.Lane.{Lane}
-use Rattle.krs_world.specs.declared.step.Kind.TheVariants.{Load}
+use Rattle.krs_world.specs.declared.{lane.Lane.Lane, step.Kind.TheVariants.Load}
+use Rattle.krs_world.proofs.{Answering.{lane_at, lanes_same, loads_not, moves, unseated}, Moves.loads}
 use Rattle.krs_world.proofs.world.World.load.Goals as goal
-use Rattle.krs_world.proofs.Moves.{loads}
-use Rattle.krs_world.proofs.Answering.{unseated, lane_at, lanes_same, moves, loads_not}
 
 pub returns-in_default : goal.returns-in_default
 returns-in_default c = let w = c.self.inside in

@@ -1,13 +1,10 @@
-use Rattle.std.proofs.Common.{◌≡◌, ◌<◌, ◌≤◌, ℕ, List, ap, ◌∙◌, sym}
-use Rattle.std.proofs.Common.{subst, Some, Bool, true, false, cond, ◌==◌, length}
+use Rattle.std.proofs.Common.{◌<◌, ◌==◌, ◌∙◌, ◌≡◌, ◌≤◌, ap, Bool, cond, false, length, List, Some, subst, sym, true, ℕ}
 use borrow.Author.Tests.{true-ltb}
 use lib.ListN.{get_elem?}
 use mathlib.Core.Option.{some}
-use Rattle.krs_world.specs.declared.lane.Lane.{Lane}
-use Rattle.krs_world.specs.declared.step.Kind.TheVariants.{LookAt}
-use Rattle.krs_world.proofs.KeptHistory.{out_at, out_within}
-use Rattle.krs_world.proofs.ServedMoves.{looks, no_look, room_refused}
-use Rattle.krs_world.proofs.Answering.{lane_at, lane_here, moves, moves_not, beyond_cell, look_refused}
+use Rattle.krs_world.specs.declared.{lane.Lane.Lane, step.Kind.TheVariants.LookAt}
+use Rattle.krs_world.proofs.Answering.{beyond_cell, lane_at, lane_here, look_refused, moves, moves_not}
+use Rattle.krs_world.proofs.{KeptHistory.{out_at, out_within}, ServedMoves.{looks, no_look, room_refused}}
 use Rattle.krs_world.proofs.world.World.look_at.Goals as goal
 
 pub returns-in_default-get-clause-moved : goal.returns-in_default-get-clause-moved

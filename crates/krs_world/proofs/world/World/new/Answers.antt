@@ -1,9 +1,8 @@
-use Rattle.std.proofs.Common.{rules, ◌≡◌, ◌+◌, refl, ap, ◌∙◌, sym, subst, List, None}
+use Rattle.std.proofs.Common.{◌+◌, ◌∙◌, ◌≡◌, ap, List, None, refl, rules, subst, sym}
 use Rattle.krs_types.specs.declared.event.Event.{Event}
 use Rattle.krs_model.specs.State.{State}
-use Rattle.krs_world.specs.World.{new_world}
-use Rattle.krs_world.specs.Kept.{world_of, IsKept, AreFreshLanes}
-use Rattle.krs_world.proofs.Beginning.{new_is, new_kept, fresh_more}
+use Rattle.krs_world.specs.{Kept.{AreFreshLanes, IsKept, world_of}, World.new_world}
+use Rattle.krs_world.proofs.Beginning.{fresh_more, new_is, new_kept}
 use Rattle.krs_world.proofs.world.World.new.Goals as goal
 
 pub loop-lane-preserved : goal.loop-lane-preserved

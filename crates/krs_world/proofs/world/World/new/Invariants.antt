@@ -1,5 +1,4 @@
-use Rattle.std.proofs.Common.{◌≡◌}
-use Rattle.std.specs.Prelude.{vec_capacity}
+use Rattle.std.proofs.Common.{◌≡◌, vec_capacity}
 use Rattle.krs_world.specs.Kept.{AreFreshLanes}
 use Rattle.krs_world.proofs.world.World.new.Given as goal
 

@@ -1,15 +1,10 @@
-use Rattle.std.proofs.Common.{◌≡◌, ◌<◌, ℕ, List, ap, sym, ◌∙◌}
-use Rattle.std.proofs.Common.{subst, refl, length}
+use Rattle.std.proofs.Common.{◌<◌, ◌∙◌, ◌≡◌, ap, length, List, refl, subst, sym, ℕ}
 use lib.ListN.{get_elem?}
 use mathlib.Core.Option.{some, some-injective}
-use Rattle.krs_world.specs.declared.lane.Lane.{Lane}
-use Rattle.krs_world.specs.declared.lane.Slot.TheVariants as slots
-use Rattle.krs_world.specs.declared.step.Kind.TheVariants.{Post}
-use Rattle.krs_world.specs.Kept.{IsIdle}
-use Rattle.krs_world.proofs.KeptHistory.{in_bounds}
-use Rattle.krs_world.proofs.PostedMoves.{posts}
-use Rattle.krs_world.proofs.Answering.{lane_here, moves, posts_not}
+use Rattle.krs_world.specs.{Kept.IsIdle, declared.{lane.Lane.Lane, step.Kind.TheVariants.Post}}
+use Rattle.krs_world.proofs.{Answering.{lane_here, moves, posts_not}, KeptHistory.in_bounds, PostedMoves.posts}
 use Rattle.krs_world.proofs.world.World.post.Goals as goal
+use Rattle.krs_world.specs.declared.lane.Slot.TheVariants as slots
 
 pub returns-then-not-is_idle : goal.returns-then-not-is_idle
 returns-then-not-is_idle c = let w = c.self.inside in

@@ -1,17 +1,12 @@
-use Rattle.std.proofs.Common.{◌≡◌, ◌<◌, ℕ, List, ◌∷◌, ◌++◌, ap, sym, ◌∙◌, []}
-use Rattle.std.proofs.Common.{subst, refl, Some, length}
+use Rattle.std.proofs.Common.{[], ◌++◌, ◌<◌, ◌∙◌, ◌∷◌, ◌≡◌, ap, length, List, refl, Some, subst, sym, ℕ}
 use lib.ListN.{get_elem?}
 use mathlib.Core.Option.{some, some-injective}
 use Rattle.krs_types.specs.declared.event.Event.{Event}
 use Rattle.krs_model.specs.History.{event_of}
-use Rattle.krs_world.specs.declared.lane.Lane.{Lane}
-use Rattle.krs_world.specs.declared.lane.Slot.TheVariants as slots
-use Rattle.krs_world.specs.declared.step.Kind.TheVariants.{Put}
-use Rattle.krs_world.specs.Kept.{world_of, MayPut}
-use Rattle.krs_world.proofs.KeptHistory.{in_bounds}
-use Rattle.krs_world.proofs.Moves.{puts_at}
-use Rattle.krs_world.proofs.Answering.{lane_here, moves, puts_not, no_memory}
+use Rattle.krs_world.specs.{Kept.{MayPut, world_of}, declared.{lane.Lane.Lane, step.Kind.TheVariants.Put}}
+use Rattle.krs_world.proofs.{Answering.{lane_here, moves, no_memory, puts_not}, KeptHistory.in_bounds, Moves.puts_at}
 use Rattle.krs_world.proofs.world.World.put.Goals as goal
+use Rattle.krs_world.specs.declared.lane.Slot.TheVariants as slots
 
 pub returns-then-not-may_put-clause-moved : goal.returns-then-not-may_put-clause-moved
 returns-then-not-may_put-clause-moved c = let w = c.self.inside in

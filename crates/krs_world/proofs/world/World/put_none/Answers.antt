@@ -1,11 +1,8 @@
-use Rattle.std.proofs.Common.{◌≡◌, ◌<◌, ℕ, ap, ◌∙◌, sym, subst}
-use Rattle.std.proofs.Common.{Some, None, length}
+use Rattle.std.proofs.Common.{◌<◌, ◌∙◌, ◌≡◌, ap, length, None, Some, subst, sym, ℕ}
 use lib.ListN.{get_elem?}
 use mathlib.Core.Option.{some}
 use Rattle.krs_world.specs.declared.step.Kind.TheVariants.{Put}
-use Rattle.krs_world.proofs.KeptHistory.{out_within}
-use Rattle.krs_world.proofs.Moves.{puts_none}
-use Rattle.krs_world.proofs.Answering.{lane_here, moves, busy}
+use Rattle.krs_world.proofs.{Answering.{busy, lane_here, moves}, KeptHistory.out_within, Moves.puts_none}
 use Rattle.krs_world.proofs.world.World.put_none.Goals as goal
 
 pub returns-in_default-serving : goal.returns-in_default-serving

@@ -1,14 +1,10 @@
-use Rattle.std.proofs.Common.{◌≡◌, ◌+◌, ◌<◌, ◌≤◌, List, refl, ap, ◌∙◌}
-use Rattle.std.proofs.Common.{subst}
-use Rattle.std.proofs.Common.{length}
+use Rattle.std.proofs.Common.{◌+◌, ◌<◌, ◌∙◌, ◌≡◌, ◌≤◌, ap, length, List, refl, subst}
 use borrow.Author.Tests.{true-ltb}
 use lib.ListN.{get_elem?}
 use mathlib.Core.Option.{some}
-use Rattle.krs_world.specs.declared.lane.Lane.{Lane}
-use Rattle.krs_world.specs.declared.step.Kind.TheVariants.{TakeFound}
+use Rattle.krs_world.specs.declared.{lane.Lane.Lane, step.Kind.TheVariants.TakeFound}
+use Rattle.krs_world.proofs.{Answering.{found_full, greatest, lane_at, lanes_same, moves, unseated}, Moves.misses}
 use Rattle.krs_world.proofs.world.World.take_found.Goals as goal
-use Rattle.krs_world.proofs.Moves.{misses}
-use Rattle.krs_world.proofs.Answering.{unseated, lane_at, lanes_same, moves, found_full, greatest}
 
 pub returns-in_default-get-clause-moved : goal.returns-in_default-get-clause-moved
 returns-in_default-get-clause-moved c = let w = c.self.inside in

@@ -1,5 +1,5 @@
 use Rattle.std.proofs.Common.{◌≡◌, All}
-use Rattle.krs_session.specs.Over.{over_reads, over_empties, over_failures}
+use Rattle.krs_session.specs.Over.{over_empties, over_failures, over_reads}
 use Rattle.krs_session_tests.proofs.tests.session.growths.two_sessions.Given as goal
 
 -- nothing was read or written yet

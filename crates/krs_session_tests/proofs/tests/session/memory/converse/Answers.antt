@@ -1,4 +1,4 @@
-use Rattle.std.specs.Prelude.{[], ◌∷◌, ◌++◌}
+use Rattle.std.proofs.Common.{[], ◌++◌, ◌∷◌}
 use Rattle.krs_session_tests.proofs.tests.session.memory.converse.Goals as goal
 
 pub returns-clause-session : goal.returns-clause-session
