@@ -62,8 +62,8 @@ pub fn asks_as(ids: &Ids, is_of_user: bool) -> u32
     if is_of_user { ids.real } else { ids.files }
 }
 
-/// Whether a process that has joined a session itself, as a user with this uid, is in it still. It may be of further uids,
-/// as a login is.
+/// Whether a process that has joined a session itself, as a user with this uid, is in it still. It may be of further
+/// uids, as a login is.
 pub fn stays(process: &Process, uid: u32) -> bool
     ensures { result ≡ (process.now.uids.real == uid) }
 {
