@@ -3,7 +3,8 @@ use Rattle.krs_keys.specs.Hashed.{by_serial}
 use Rattle.krs_hold.specs.Chain.{Chained}
 use Rattle.krs_hold.proofs.{Anchoring.spares_all, Steps.{dropped_chain, dropped_exact, dropped_spares, dropped_weighs}}
 use Rattle.krs_hold.proofs.Steps.{IsRested, kept_chain, kept_exact, rest_weighs}
-use Rattle.krs_hold.proofs.{WatchedKeys.unwatched_goes, cascade.look.Goals.{else-has, then-has}}
+use Rattle.krs_hold.proofs.WatchedKeys.{unwatched_goes}
+use Rattle.krs_hold.proofs.cascade.look.Goals.{else-has, then-has}
 use Rattle.krs_hold.proofs.cascade.look.Goals as goal
 
 pub returns-then-holders-gt0-clause-chained : goal.returns-then-holders-gt0-clause-chained

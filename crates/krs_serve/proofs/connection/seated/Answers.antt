@@ -2,7 +2,8 @@ use Rattle.std.proofs.{Common.{[], ◌∙◌, ◌≡◌, ap, rules}, lemmas.List
 use Rattle.krs_model.specs.State.{starting_at}
 use Rattle.krs_desk.specs.Sitting.{IsIdleAt, Sitting}
 use Rattle.krs_serve.specs.Visits.{IsNew}
-use Rattle.krs_serve.proofs.{OneDeskLemmas.{just_none, visited_none}, connection.seated.Goals.{in-Some, in_default}}
+use Rattle.krs_serve.proofs.OneDeskLemmas.{just_none, visited_none}
+use Rattle.krs_serve.proofs.connection.seated.Goals.{in-Some, in_default}
 use Rattle.krs_serve.proofs.connection.seated.Goals as goal
 
 pub sitting_of-requires-clause-own : goal.sitting_of-requires-clause-own
