@@ -84,7 +84,9 @@ def try_managed(folder):
     scope = '[ "$*" = "--user --scope --quiet --collect -- $6 --hold ring --socket /sock" ] || exit 1'
     compare("by systemd", ["manager", words + own], begun_by(folder, f'{scope}\nshift 5\nexec "$@"'))
     compare("one that fails", ["manager", words], begun_by(folder, "exit 1"))
-    compare("one that hangs", ["manager", words], begun_by(folder, f"while [ -e {folder}/told ]; do sleep 0.1; done"))
+    # it ends on its line: the shell would read on in the next script, which comes into the same file
+    waits = f"while [ -e {folder}/told ]; do sleep 0.1; done; exit"
+    compare("one that hangs", ["manager", words], begun_by(folder, waits))
     if os.geteuid() == 0:
         os.chmod(folder, 0o777)
         os.rename(own, f"{folder}/4001")
