@@ -5,8 +5,8 @@ pub mod Lookups
 pub mod Searches
 pub mod Accepted
 pub mod Links
+pub mod Seen
 pub mod Adding
-pub mod Found
 pub mod Outcomes
 pub mod Sweeps
 pub mod Steps

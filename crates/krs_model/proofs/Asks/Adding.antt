@@ -12,8 +12,8 @@ use Rattle.krs_model.specs.Access.{is_alive, rights_on}
 use Rattle.krs_model.specs.Asks.Adding.{add, added, added_serial, admitted, by_match, first_content, if_room}
 use Rattle.krs_model.specs.Asks.Adding.{IsKeyringAt, Made, made, new_key, over_match, Place, place_of, Updated}
 use Rattle.krs_model.specs.Asks.Changing.{is_updatable, updated}
-use Rattle.krs_model.specs.{Asks.Linked.{link, name_of, unless}, Confidentiality.HasToItself}
-use Rattle.krs_model.specs.{Hiding.{blind, hidden_added, Hides, Hiding, serial_in}, Levels.is_in}
+use Rattle.krs_model.specs.{Asks.Linked.{name_of, unless}, Confidentiality.HasToItself}
+use Rattle.krs_model.specs.{Hiding.{hidden_added, Hides, Hiding, serial_in}, Levels.is_in}
 use Rattle.krs_model.specs.{Linking.{has_room, is_named, link_named, linking, ring_links}, Lookup.{context_of, look_up}}
 use Rattle.krs_model.specs.{Making.{made_for, with_new}, Notes.Telling.{about, about_added, about_link, named}}
 use Rattle.krs_model.specs.{Outcome.Outcome, Possession.{links_of_content, possessed}}
@@ -24,8 +24,8 @@ use Rattle.krs_model.proofs.Asks.Later.{bind_ok, changed_comes, Comes, comes_tra
 use Rattle.krs_model.proofs.Asks.LaterByAsk.{made_for_comes}
 use Rattle.krs_model.proofs.Asks.{Lawful.IsLawful, NewSerials.{IsWithin, place_is, same_counts, small_there}}
 use Rattle.krs_model.proofs.Asks.NotedKeys.{about_link_small, about_small, IsThere, there_ends}
-use Rattle.krs_model.proofs.Asks.{Outcomes.{meets_after, meets_ok}, Plain.{IsPlain, plain, plain_context, plain_kind}}
-use Rattle.krs_model.proofs.Asks.Plain.{plain_links, plain_look_up, plain_ok, plain_paid, plain_room}
+use Rattle.krs_model.proofs.Asks.{Outcomes.{meets_after, meets_ok}, Plain.{IsPlain, plain}}
+use Rattle.krs_model.proofs.Asks.Plain.{plain_ok}
 use Rattle.krs_model.proofs.{Hiding.Adding.{add_blind, IsHidden}, Isolation.Attachments.same_unattached}
 use Rattle.krs_model.proofs.Isolation.Guarded.{changed_guarded, Guarded, lessens_keeps, next_apart}
 use Rattle.krs_model.proofs.Isolation.Keys.{changed_enclosed, KeepsOwn, no_rights, not_found}
@@ -40,6 +40,10 @@ use Rattle.krs_model.proofs.Sound.{KeyChanges.updated_lessens, Links.named_same}
 use Rattle.krs_model.proofs.Sound.NewContexts.{empty_stands, made_for_stands, own_process_there, some_there}
 use Rattle.krs_model.proofs.Tables.Changes.{at_put_same}
 use Rattle.krs_types.specs.declared.note.KeyEvent.TheVariants as told_of
+use Rattle.krs_model.specs.{Access.is_over, Usable.IsUsable}
+use Rattle.std.proofs.Common.{not}
+use Rattle.krs_types.proofs.Names.{and_left, and_right}
+use Rattle.krs_model.proofs.Asks.Plain.{plains}
 
 -- the key comes first, then its link
 made_comes : (s : State) (ring : ℕ) (name : Name) (key : Key) → Comes s (made s ring name key)
@@ -120,15 +124,15 @@ plain_described Logon desc = search plain
 plain_described Keyring desc = search plain
 
 plain_checked : (kind : Kind) (desc payload : List ℕ) → IsPlain (checked kind desc payload)
-plain_checked kind desc payload = search (plain, plain_described, plain_paid)
+plain_checked kind desc payload = search (plains, plain_described)
 
 plain_admitted : (type_name desc payload : List ℕ) → IsPlain (admitted type_name desc payload)
 unfolding admitted
-plain_admitted type_name desc payload = search (plain, plain_kind, plain_checked)
+plain_admitted type_name desc payload = search (plains, plain_checked)
 
 plain_if_room :
     (s : State) (ring : ℕ × Key) (links : List ℕ) (displaced : Option ℕ) → IsPlain (if_room s ring links displaced)
-plain_if_room s ring links displaced = search (plain, plain_room)
+plain_if_room s ring links displaced = search plains
 
 plain_over :
     (s : State) (c : Context) (ring : ℕ × Key) (links : List ℕ) (k : ℕ) (o : Option Key)
@@ -143,7 +147,7 @@ plain_match s c ring links (Some k) = plain_over s c ring links k (at s.keys k)
 
 plain_place : (s : State) (c : Context) (name : Name) (ring : ℤ) → IsPlain (place_of s c name ring)
 unfolding place_of
-plain_place s c name ring = search (plain, plain_look_up, plain_links, plain_match)
+plain_place s c name ring = search (plains, plain_match)
 
 added_houses :
     (s t : State) (client context : ℕ) (op : Op) (c : Context) (name : Name) (payload : List ℕ) (place : Place)
@@ -244,9 +248,29 @@ room_makes s ring f links displaced h =
       | false ↦ λ e. cc
     ] room.2
 
--- the key that ADD updates grants WRITE
-abbrev Writes : State → Context → ℕ → Type 0
-Writes s c f = (key : Key) × (at s.keys f ≡ Some key) × (has_all (rights_on key c.caller (possessed s c f)) WRITE ≡ true)
+-- the key that ADD updates may be written
+abbrev pub Writes : State → Context → ℕ → Type 0
+Writes s c f = (key : Key) × IsUsable s c (Granted WRITE) (f, key)
+
+opposite : (b : Bool) → not b ≡ true → b ≡ false
+opposite true h = cc
+opposite false h = refl
+
+alive_writes :
+    (s : State) (c : Context) (found : ℕ) (key : Key) → at s.keys found ≡ Some key
+    → (is_alive s.clock key && is_updatable key.kind) ≡ true
+    → has_all (rights_on key c.caller (possessed s c found)) WRITE ≡ true → Writes s c found
+alive_writes s c found key there alive grants =
+    let over = is_over s.clock key.expiry in
+    let a = and_left (is_alive s.clock key) (is_updatable key.kind) alive in (
+      key,
+      record {
+        there = there;
+        live = opposite key.revoked (and_left (not key.revoked) (not over) a);
+        running = opposite over (and_right (not key.revoked) (not over) a);
+        granted = grants;
+      },
+    )
 
 match_writes :
     (s : State) (c : Context) (ring : ℕ × Key) (f : ℕ) (links : List ℕ) (found : ℕ) (o : Option Key)
@@ -254,16 +278,18 @@ match_writes :
 match_writes s c ring f links found None is h = absurd (room_makes s ring f links None h)
 match_writes s c ring f links found (Some key) is h =
     let grants = has_all (rights_on key c.caller (possessed s c found)) WRITE in
-    elim (is_alive s.clock key && is_updatable key.kind) as (λ b. cond b
+    let alive = is_alive s.clock key && is_updatable key.kind in
+    elim alive as (λ b. alive ≡ b → cond b
     (cond grants (Ok (Updated found)) (Err EACCES)) (if_room s ring links (Some found)) ≡ Ok (Updated f)
     → Writes s c f) [
-      | true ↦ λ e. elim grants as (λ b. grants ≡ b → cond b (Ok (Updated found)) (Err EACCES) ≡ Ok (Updated f)
+      | true ↦ λ a e. elim grants as (λ b. grants ≡ b → cond b (Ok (Updated found)) (Err EACCES) ≡ Ok (Updated f)
           → Writes s c f) [
-            | true ↦ λ t d. let same : found ≡ f = cc in subst (λ (z : ℕ). Writes s c z) same (key, is, t)
+            | true ↦ λ t d. let same : found ≡ f = cc in
+                subst (Writes s c) same (alive_writes s c found key is a t)
             | false ↦ λ t d. cc
           ] refl e
-      | false ↦ λ e. absurd (room_makes s ring f links (Some found) e)
-    ] h
+      | false ↦ λ a e. absurd (room_makes s ring f links (Some found) e)
+    ] refl h
 
 by_match_writes :
     (s : State) (c : Context) (ring : ℕ × Key) (f : ℕ) (links : List ℕ) (found : Option ℕ)
@@ -271,7 +297,7 @@ by_match_writes :
 by_match_writes s c ring f links None h = absurd (room_makes s ring f links None h)
 by_match_writes s c ring f links (Some found) h = match_writes s c ring f links found (at s.keys found) refl h
 
-place_writes :
+pub place_writes :
     (s : State) (c : Context) (name : Name) (id : ℤ) (f : ℕ) → place_of s c name id ≡ Ok (Updated f) → Writes s c f
 unfolding place_of
 place_writes s c name id f h =
@@ -280,7 +306,7 @@ place_writes s c name id f h =
     by_match_writes s c a.0 f b.0 (link_named s.keys name b.0) b.2
 
 -- nor is a key made in a keyring that may not be written
-place_found :
+pub place_found :
     (s : State) (c : Context) (name : Name) (id : ℤ) (r : ℕ) → place_of s c name id ≡ Ok (Made r)
     → (found : ℕ × Key) × (look_up s c id (Granted WRITE) ≡ Ok found) × (r ≡ found.0)
 unfolding place_of
@@ -296,8 +322,8 @@ added_same :
 added_same uid private s c name payload id (Updated serial) is other alone =
     let writes = place_writes s c name id serial is in
     other_same private s.keys serial (updated payload) (λ m.
-    let rights = no_rights uid private s c serial writes.0 alone.enclosed other.none other.apart m writes.1 in
-    true≢false (sym writes.2 ∙ ap (λ (n : ℕ). has_all n WRITE) rights.1))
+    let rights = no_rights uid private s c serial writes.0 alone.enclosed other.none other.apart m writes.1.there in
+    true≢false (sym writes.1.granted ∙ ap (λ (n : ℕ). has_all n WRITE) rights.1))
 added_same uid private s c name payload id (Made ring) is other alone =
     let n = s.next_serial in
     let key = new_key name payload c.caller.uid c.caller.gid in
@@ -316,7 +342,7 @@ unfolding add
 add_law s client context type_name desc payload ring = record {
   small = λ mid answer few h. added_small s mid (named s client context ring) answer few
       (add_there s mid client context type_name desc payload ring answer h);
-  plain = search (plain, plain_context, plain_admitted, plain_place);
+  plain = search (plains, plain_admitted, plain_place) depth 12;
   blind = λ hide hides.
       let meant = add s client context type_name desc payload ring in
       let other = hidden_added hide meant payload in

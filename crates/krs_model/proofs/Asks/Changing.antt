@@ -1,25 +1,27 @@
 -- What is proved of UPDATE, REVOKE, CHOWN, SET_PERM and SET_TIMEOUT.
-use Rattle.std.proofs.Common.{[], ◌==◌, ◌||◌, ◌∙◌, ◌∷◌, ◌≡◌, ap, arith, Err, List, None, Ok, refl, Result, sym, true, ℕ}
+use Rattle.std.proofs.Common.{[], ◌∙◌, ◌∷◌, ◌≡◌, ap, arith, Err, List, None, Ok, refl, Result, sym, true, ℕ}
 use Rattle.std.proofs.{Common.ℤ, lemmas.Bool.Decides.nat_tests}
 use Rattle.krs_types.specs.{Kind.paid, Perm.perm_of, Refusing.◌>>=◌, Rights.{SETATTR, WRITE}}
 use Rattle.krs_types.specs.declared.ask.Answer.TheVariants.{Nothing}
 use Rattle.krs_types.specs.declared.ask.Op.TheVariants.{Chown, Revoke, SetPerm, SetTimeout, Update}
-use Rattle.krs_types.specs.declared.{context.Context.Context, errno.Errno.{Errno, TheVariants.EACCES}, kind.Kind.Kind}
-use Rattle.krs_types.specs.declared.{kind.Kind.TheVariants.Keyring, rights.Want.TheVariants.{Either, Granted}}
-use Rattle.krs_model.specs.Asks.Changing.{changed, chown, emptied, expiry_after, if_may_own, if_owner, may_own, revoke}
-use Rattle.krs_model.specs.Asks.Changing.{revoked, set_perm, set_timeout, updatable, update, updated, with_expiry}
+use Rattle.krs_types.specs.declared.{context.Context.Context, errno.Errno.{Errno}, kind.Kind.Kind}
+use Rattle.krs_types.specs.declared.{kind.Kind.TheVariants.Keyring, rights.Want.TheVariants.{Granted}}
+use Rattle.krs_model.specs.Asks.Changing.{changed, chown, emptied, if_may_own, if_owner, revoke}
+use Rattle.krs_model.specs.Asks.Changing.{revoked, set_perm, set_timeout, updatable, update, updated}
 use Rattle.krs_model.specs.Asks.Changing.{with_owner, with_perm}
 use Rattle.krs_model.specs.Hiding.{blind, blind_content, blind_key, hidden_at, Hides, Hiding, over}
 use Rattle.krs_model.specs.{Lookup.{context_of, look_up}, Notes.Telling.named, Possession.links_of_content}
-use Rattle.krs_model.specs.{Search.found, Sound.is_links, State.{Content, Key, Links, Payload, State}}
+use Rattle.krs_model.specs.{Sound.is_links, State.{Content, Key, Links, Payload, State}}
 use Rattle.krs_model.proofs.Asks.Fares.{changed_fares}
 use Rattle.krs_model.proofs.Asks.{Lawful.IsLawful, NotedKeys.about_small, Outcomes.{meets_after, meets_ok}}
-use Rattle.krs_model.proofs.Asks.Plain.{plain, plain_context, plain_look_up, plain_paid}
 use Rattle.krs_model.proofs.Hiding.Accepted.{blind_done, done_changed, found_in, named_is, paid_blind}
-use Rattle.krs_model.proofs.Hiding.Over.{after, bound, either}
+use Rattle.krs_model.proofs.Hiding.Over.{after}
 use Rattle.krs_model.proofs.{Isolation.Guarded.none_found, Sound.{Changes.Lessens, Contents.form_stays}}
-use Rattle.krs_model.proofs.{Sound.KeyChanges.{leaves, updated_lessens}, Tables.Counts.{IsPart, none_part}}
+use Rattle.krs_model.proofs.{Sound.KeyChanges.{leaves}, Tables.Counts.{IsPart, none_part}}
 use Rattle.krs_types.specs.declared.note.KeyEvent.TheVariants as told_of
+use Rattle.krs_model.proofs.Hiding.Seen.{is_seen, steps}
+use Rattle.krs_model.proofs.Asks.Fares.{fares}
+use Rattle.krs_model.proofs.Asks.Plain.{plains}
 
 emptied_part : (content : Content) → IsPart (links_of_content (emptied content)) (links_of_content content)
 emptied_part (Payload bytes) = none_part []
@@ -48,6 +50,11 @@ emptied_blind : (h : List ℕ → List ℕ) (content : Content) → h [] ≡ []
     → emptied (blind_content h content) ≡ blind_content h (emptied content)
 emptied_blind h (Payload bytes) none = ap Payload (sym none)
 emptied_blind h (Links serials) none = refl
+
+revoked_blind : (hide : Hiding) → Hides hide → (n : ℕ) (v : Key)
+    → revoked (blind_key (hide n) v) ≡ blind_key (hide n) (revoked v)
+revoked_blind hide hides n v = ap (λ (content : Content). record v { revoked = true; content = content })
+    (emptied_blind (hide n) v.content (none_hidden hide n hides))
 
 -- an UPDATE with another payload, which the same types take, and which is the hidden one of the key that it finds
 update_blind :
@@ -78,51 +85,31 @@ pub update_law :
 unfolding update
 update_law s client context id payload = record {
   small = λ mid answer few h. about_small told_of.Updated (named s client context id);
-  plain = search (plain, plain_context, plain_look_up, plain_paid);
+  plain = search plains depth 12;
   blind = λ hide hides.
       update_blind hide s client context id payload (hidden_at hide (named s client context id) payload)
       (λ kind. at_fits hide (named s client context id) payload kind hides)
       (λ c found own there. ap (λ (serial : Result ℕ Errno). hidden_at hide serial payload)
       (named_is s client context id (Granted WRITE) c found own there));
-  fares =
-      meets_after (context_of s client context) _ (λ c own.
-      meets_after (look_up s c id (Granted WRITE)) _ (λ found is.
-      meets_after (updatable found.1.kind) _ (λ kind _.
-      meets_after (paid kind payload) _ (λ fit _.
-      meets_ok (changed_fares s client context _ c id (Granted WRITE) found (updated payload) own is refl
-      (updated_lessens payload) (λ v h. h) (λ uid private alone holds v m h. h))))));
+  fares = search fares depth 12;
 }
 
 pub revoke_law : (s : State) (client context : ℕ) (id : ℤ) → IsLawful s client context (Revoke id)
 unfolding revoke
 revoke_law s client context id = record {
   small = λ mid answer few h. about_small told_of.Revoked (named s client context id);
-  plain = search (plain, plain_context, plain_look_up);
+  plain = search plains depth 12;
   blind = λ hide hides.
-      found_in hide s client context id (Either WRITE SETATTR) (blind_done hide) _ _ (λ c found _ _.
-      done_changed hide s found.0 revoked revoked Nothing (λ v.
-      ap (λ (content : Content). record v { revoked = true; content = content })
-      (emptied_blind (hide found.0) v.content (none_hidden hide found.0 hides))));
-  fares =
-      meets_after (context_of s client context) _ (λ c own.
-      meets_after (look_up s c id (Either WRITE SETATTR)) _ (λ found is.
-      meets_ok (changed_fares s client context _ c id (Either WRITE SETATTR) found revoked own is refl revoked_lessens
-      (λ v h. refl) (λ uid private alone holds v m h. h))));
+      is_seen (blind_done hide) (search (steps, revoked_blind hide hides) depth 12);
+  fares = search (fares, revoked_lessens) depth 12;
 }
 
 pub chown_law : (s : State) (client context : ℕ) (id : ℤ) (to gid : ℕ) → IsLawful s client context (Chown id to gid)
 unfolding chown
 chown_law s client context id to gid = record {
   small = λ mid answer few h. about_small told_of.Setattr (named s client context id);
-  plain = search (plain, plain_context, plain_look_up);
-  blind = λ hide hides.
-      found_in hide s client context id (Granted SETATTR) (blind_done hide) _ _ (λ c found _ _.
-      let key = found.1 in
-      ap (λ (r : Result Key Errno). r >>= (λ own. Ok (changed (blind hide s) found.0 (with_owner to gid), Nothing)))
-      (either (blind_key (hide found.0)) (may_own c.caller to gid key) (Ok key) (Err EACCES)
-      (Ok (blind_key (hide found.0) key)) (Err EACCES) refl refl)
-      ∙ bound (blind_key (hide found.0)) (blind_done hide) (if_may_own c.caller to gid key) _ _
-      (λ own _. done_changed hide s found.0 (with_owner to gid) (with_owner to gid) Nothing (λ v. refl)));
+  plain = search plains depth 12;
+  blind = λ hide hides. is_seen (blind_done hide) (search steps depth 12);
   fares =
       meets_after (context_of s client context) _ (λ c own.
       meets_after (look_up s c id (Granted SETATTR)) _ (λ found is.
@@ -137,17 +124,8 @@ pub set_perm_law : (s : State) (client context : ℕ) (id : ℤ) (mask : ℕ) �
 unfolding set_perm
 set_perm_law s client context id mask = record {
   small = λ mid answer few h. about_small told_of.Setattr (named s client context id);
-  plain = search (plain, plain_context, plain_look_up) depth 12;
-  blind = λ hide hides.
-      found_in hide s client context id (Granted SETATTR) (blind_done hide) _ _ (λ c found _ _.
-      after (blind_done hide) (perm_of mask) _ _ (λ perm _.
-      let key = found.1 in
-      let test = (c.caller.uid == 0) || (c.caller.uid == key.uid) in
-      ap (λ (r : Result Key Errno). r >>= (λ own. Ok (changed (blind hide s) found.0 (with_perm perm), Nothing)))
-      (either (blind_key (hide found.0)) test (Ok key) (Err EACCES) (Ok (blind_key (hide found.0) key))
-      (Err EACCES) refl refl)
-      ∙ bound (blind_key (hide found.0)) (blind_done hide) (if_owner c.caller key) _ _
-      (λ own _. done_changed hide s found.0 (with_perm perm) (with_perm perm) Nothing (λ v. refl))));
+  plain = search plains depth 12;
+  blind = λ hide hides. is_seen (blind_done hide) (search steps depth 12);
   fares =
       meets_after (context_of s client context) _ (λ c own.
       meets_after (look_up s c id (Granted SETATTR)) _ (λ found is.
@@ -164,16 +142,7 @@ pub set_timeout_law :
 unfolding set_timeout
 set_timeout_law s client context id seconds = record {
   small = λ mid answer few h. about_small told_of.Setattr (named s client context id);
-  plain = search (plain, plain_context, plain_look_up);
-  blind = λ hide hides.
-      let expiry = expiry_after s.clock seconds in
-      found_in hide s client context id (Granted SETATTR) (blind_done hide) _ _ (λ c found _ _.
-      done_changed hide s found.0 (with_expiry expiry) (with_expiry expiry) Nothing (λ v. refl));
-  fares =
-      meets_after (context_of s client context) _ (λ c own.
-      meets_after (look_up s c id (Granted SETATTR)) _ (λ found is.
-      let expiry = expiry_after s.clock seconds in
-      let same = leaves (with_expiry expiry) (λ v. refl) (λ v name. refl) (λ v fits. fits) in
-      meets_ok (changed_fares s client context _ c id (Granted SETATTR) found (with_expiry expiry) own is refl same
-      (λ v h. h) (λ uid private alone holds v m h. h))));
+  plain = search plains depth 12;
+  blind = λ hide hides. is_seen (blind_done hide) (search steps depth 12);
+  fares = search fares depth 12;
 }

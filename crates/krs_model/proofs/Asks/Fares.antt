@@ -18,6 +18,11 @@ use Rattle.krs_model.proofs.Isolation.Links.{linked_guarded, made_alone, other_l
 use Rattle.krs_model.proofs.Isolation.Untouched.{KeysAfter, linked_same, made_same, not_into, other_same, same_trans}
 use Rattle.krs_model.proofs.{Lookups.Serials.refused_is, Sound.Changes.{changed_stands, Lessens, same_stands, Stands}}
 use Rattle.krs_model.proofs.Sound.{Links.{linkable_is, linked_into_stands}, NewContexts.made_for_stands}
+use Rattle.krs_model.proofs.Sound.KeyChanges.{leaves, unlinked_lessens, updated_lessens}
+use Rattle.krs_types.specs.declared.context.UidRings.{UidRings}
+use Rattle.krs_model.specs.{Confidentiality.AreUnattached, Table.Table}
+use Rattle.krs_model.proofs.Asks.Houses.{Houses}
+use Rattle.std.proofs.Common.{Option}
 
 -- what an accepted ask leaves before the sweep
 pub record Fares (s : State) (client context : ℕ) (op : Op) (new : State) : Type 0 where
@@ -58,7 +63,7 @@ changed_fares s client context op c id want found f own is wants less gone stays
 -- nothing changed
 pub same_fares : (s : State) (client context : ℕ) (op : Op) → Fares s client context op s
 same_fares s client context op = record {
-  comes = λ other. same_comes s s refl refl refl;
+  comes = λ other. same_comes s s refl refl refl refl;
   counts = λ placed. same_counts s s refl;
   houses = Same;
   stands = λ stands. stands;
@@ -79,6 +84,32 @@ queues_fares s client context op queues of_queues = record {
     made = alone.made;
     enclosed = λ p. alone.enclosed;
     unattached = same_unattached uid private s (with_queues s queues) refl refl refl alone.unattached;
+  };
+  keeps = λ uid private stands alone other. inl (λ k m. refl);
+}
+
+-- the store with other contexts, processes and uids
+abbrev pub housing : State → Table Context → Table (Option ℕ) → Table UidRings → ℕ → State
+housing s contexts processes uids next =
+    record s { contexts = contexts; processes = processes; uids = uids; next_context = next }
+
+-- contexts, processes and uids changed
+pub housed_fares :
+    (s : State) (client context : ℕ) (op : Op) (contexts : Table Context) (processes : Table (Option ℕ))
+    (uids : Table UidRings) (next : ℕ) → Houses s client context op contexts processes uids
+    → (Stands s → Stands (housing s contexts processes uids next))
+    → ((uid : ℕ) (private : ℕ → Bool) → Stands s → HasToItself uid private s
+    → AreUnattached uid private (housing s contexts processes uids next))
+    → Fares s client context op (housing s contexts processes uids next)
+housed_fares s client context op contexts processes uids next houses stands unattached = record {
+  comes = λ other. same_comes s (housing s contexts processes uids next) refl refl refl refl;
+  counts = λ placed. same_counts s (housing s contexts processes uids next) refl;
+  houses = houses;
+  stands = stands;
+  guards = λ uid private stands alone. record {
+    made = alone.made;
+    enclosed = λ p. alone.enclosed;
+    unattached = unattached uid private stands alone;
   };
   keeps = λ uid private stands alone other. inl (λ k m. refl);
 }
@@ -145,3 +176,18 @@ found_fares s client context op c id into answer own goes gives =
     (λ uid private stands alone holds m.
     other_linkable uid private made.0 made.1 serial key found (made_alone uid private s context c id alone)
     (other_made uid private s client context c id stands alone own (holds gives)) key_there same m))))))
+
+-- of these a search is made: what an ask leaves, step by step
+pub ruleset fares = (
+  fares_within,
+  found_fares,
+  meets_by,
+  meets_after,
+  meets_ok,
+  changed_fares,
+  same_fares,
+  queues_fares,
+  leaves,
+  unlinked_lessens,
+  updated_lessens,
+)

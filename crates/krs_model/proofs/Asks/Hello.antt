@@ -1,21 +1,22 @@
 -- What is proved of HELLO.
-use Rattle.std.proofs.Common.{[], ◌+◌, ◌<◌, ◌||◌, ◌∙◌, ◌∷◌, ◌≡◌, ◌≢◌, ap, arith, Bool, codes, cond, Err, false, inl}
+use Rattle.std.proofs.Common.{[], ◌+◌, ◌<◌, ◌||◌, ◌∙◌, ◌∷◌, ◌≡◌, ap, arith, Bool, codes, cond, Err, false, inl}
 use Rattle.std.proofs.Common.{inr, ltb-false, nat_lt, None, Ok, Option, refl, Some, subst, sym, true, true≢false, ℕ}
-use Rattle.krs_types.specs.{Caller.caller_check, declared.ask.{Answer.TheVariants.Number, Op.TheVariants.Hello}}
+use Rattle.krs_types.specs.{Caller.caller_check, declared.ask.{Op.TheVariants.Hello}}
 use Rattle.krs_types.specs.declared.{caller.Caller.Caller, context.UidRings.UidRings, errno.Errno.TheVariants.ENOSPC}
-use Rattle.krs_model.specs.Asks.{Adding.made, Hello.first_session}
+use Rattle.krs_model.specs.Asks.{Hello.first_session}
 use Rattle.krs_model.specs.Asks.Hello.{has_context_left, has_numbers, hello, uid_ring, with_context, with_uid}
 use Rattle.krs_model.specs.{Asks.Leaving.left, Confidentiality.{AreEnclosed, AreUnattached, HasToItself}}
 use Rattle.krs_model.specs.{Hiding.{blind, Hiding}, Making.with_new, State.{Key, State}, Table.{at, put, Table}}
 use Rattle.krs_model.proofs.Asks.Houses.{Begins, Enters, HousesIn, Named}
 use Rattle.krs_model.proofs.Asks.Later.{Comes, comes_trans, same_comes, with_new_comes}
 use Rattle.krs_model.proofs.Asks.{Lawful.IsLawful, NewSerials.{IsWithin, same_counts}, Outcomes.{meets_after, meets_ok}}
-use Rattle.krs_model.proofs.{Asks.Plain.plain, Hiding.{Accepted.{accepted, blind_done}, Keys.put_blind, Over.after}}
+use Rattle.krs_model.proofs.{Asks.Plain.plain, Hiding.{Accepted.{blind_done}, Keys.put_blind}}
 use Rattle.krs_model.proofs.Isolation.Attachments.{entered_unattached, first_session_apart, with_uid_unattached}
 use Rattle.krs_model.proofs.Isolation.Guarded.{next_apart, uid_placed, uid_processes}
 use Rattle.krs_model.proofs.Isolation.{Keys.put_enclosed, Untouched.{AreSame, put_same, same_trans}}
 use Rattle.krs_model.proofs.{Reach.Levels.only_in, Sound.Changes.Stands}
 use Rattle.krs_model.proofs.Sound.NewContexts.{entered_stands, session_there, uid_there, with_uid_stands}
+use Rattle.krs_model.proofs.Hiding.Seen.{is_seen, steps}
 
 -- the keyrings of a uid come one by one
 with_uid_comes : (s : State) (c : Caller) (rings : Option UidRings) → Comes s (with_uid s c rings)
@@ -24,16 +25,16 @@ with_uid_comes s c None =
     let one = with_new s (uid_ring (codes "_uid.") [] c) in
     let two = with_new one (uid_ring (codes "_uid_ses.") (n ∷ []) c) in
     let next : n + 2 ≡ (n + 1) + 1 = omega arith in
-    let both = comes_trans one two _ (with_new_comes one _) (same_comes two (with_uid s c None) refl next refl) in
+    let both = comes_trans one two _ (with_new_comes one _) (same_comes two (with_uid s c None) refl next refl refl) in
     comes_trans s one _ (with_new_comes s _) both
-with_uid_comes s c (Some rings) = same_comes s s refl refl refl
+with_uid_comes s c (Some rings) = same_comes s s refl refl refl refl
 
 entered_comes :
     (s : State) (client : ℕ) (c : Caller) (rings : Option UidRings) (session : Option ℕ)
     → Comes s (with_context (with_uid s c rings) client c session)
 entered_comes s client c rings session =
     let with_rings = with_uid s c rings in
-    comes_trans s with_rings _ (with_uid_comes s c rings) (same_comes with_rings _ refl refl refl)
+    comes_trans s with_rings _ (with_uid_comes s c rings) (same_comes with_rings _ refl refl refl refl)
 
 or_false : (a b : Bool) → (a || b) ≡ false → b ≡ false
 or_false true b h = cc
@@ -54,11 +55,11 @@ uid_within s c None x h =
     ] refl h
 
 hello_ends :
-    (s : State) (client context : ℕ) (c : Caller) (rings : Option UidRings) → at s.uids c.uid ≡ rings
-    → HousesIn s client context (Hello c)
+    (s : State) (client context : ℕ) (c : Caller) (rings : Option UidRings) (room : Unit {0}) → at s.uids c.uid ≡ rings
+    → has_context_left s client ≡ Ok room → HousesIn s client context (Hello c)
     (with_context (with_uid s c rings) client c (first_session s.next_serial rings))
-hello_ends s client context c (Some rings) is = Enters c rings.session (Named c rings refl is)
-hello_ends s client context c None is = Begins c _ _ refl is
+hello_ends s client context c (Some rings) room is left = Enters c rings.session room (Named c rings refl is) left
+hello_ends s client context c None room is left = Begins c _ _ room refl is left
 
 -- HELLO
 with_uid_blind : (hide : Hiding) (s : State) (c : Caller) (rings : Option UidRings)
@@ -126,23 +127,17 @@ unfolding hello
 hello_law s client context caller = record {
   small = λ mid answer few h. tt;
   plain = search plain;
-  blind = λ hide hides.
-      let rings = at s.uids caller.uid in
-      after (blind_done hide) (caller_check caller) _ _ (λ known _.
-      after (blind_done hide) (has_context_left s client) _ _ (λ room _.
-      after (blind_done hide) (has_numbers s rings) _ _ (λ numbers _.
-      ap (λ (t : State). accepted (with_context t client caller (first_session s.next_serial rings)) (Number s.next_context))
-      (with_uid_blind hide s caller rings))));
+  blind = λ hide hides. is_seen (blind_done hide) (simp with_uid_blind (search steps depth 12));
   fares =
       let rings = at s.uids caller.uid in
       let with_rings = with_uid s caller rings in
       meets_after (caller_check caller) _ (λ known _.
-      meets_after (has_context_left s client) _ (λ room _.
+      meets_after (has_context_left s client) _ (λ room has_room.
       meets_after (has_numbers s rings) _ (λ left is.
       meets_ok (record {
         comes = λ other. entered_comes s client caller rings (first_session s.next_serial rings);
         counts = λ placed. uid_within s caller rings left is;
-        houses = hello_ends s client context caller rings refl;
+        houses = hello_ends s client context caller rings room refl has_room;
         stands = λ stands. entered_stands with_rings client caller (first_session s.next_serial rings)
             (λ k i. session_there s caller rings k refl stands i) (uid_there s caller rings refl)
             (with_uid_stands s caller rings stands);

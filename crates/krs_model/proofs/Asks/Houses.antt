@@ -4,12 +4,13 @@ use Rattle.krs_types.specs.{KeyId.key_id_of, Rights.SEARCH, declared.ask.Op.Op}
 use Rattle.krs_types.specs.declared.ask.Op.TheVariants.{Exec, Exit, Fork, Hello, Invalidate, Leave, Thread}
 use Rattle.krs_types.specs.declared.{caller.Caller.Caller, context.{Context.Context, UidRings.UidRings}}
 use Rattle.krs_types.specs.declared.{errno.Errno.Errno, key_id.KeyId.KeyId, rights.Want.TheVariants.Granted}
-use Rattle.krs_model.specs.Asks.Entering.{execed, thread, without_thread}
+use Rattle.krs_model.specs.Asks.Entering.{execed, without_thread}
 use Rattle.krs_model.specs.Asks.{Invalidating.{context_without, detached, rings_without}, Leaving.{exited, left}}
 use Rattle.krs_model.specs.{Asks.Linked.linked_into, Lookup.{context_of, look_up}, Making.{made_for, thread_to}}
 use Rattle.krs_model.specs.{Search.found, State.{Key, State}, Table.{alter, at, map_values, put, Table}}
 use Rattle.krs_model.proofs.Asks.LaterByAsk.{linked_into_is}
 use Rattle.krs_model.proofs.MadeKeyring.Which.{IsMade, made_for_is, NoneMade, ProcessMade, ThreadMade}
+use Rattle.krs_model.specs.Asks.Hello.{has_context_left}
 
 -- a context in a process of its own
 abbrev pub entering : State → ℕ → Caller → Option ℕ → Context
@@ -34,15 +35,18 @@ pub data Houses (s : State) (client context : ℕ) (op : Op)
     : Table Context → Table (Option ℕ) → Table UidRings → Type 0 where
   Same : Houses s client context op s.contexts s.processes s.uids
   Begins :
-      (c : Caller) (session : Option ℕ) (rings : UidRings) → op ≡ Hello c → at s.uids c.uid ≡ None
+      (c : Caller) (session : Option ℕ) (rings : UidRings) (room : Unit {0}) → op ≡ Hello c → at s.uids c.uid ≡ None
+      → has_context_left s client ≡ Ok room
       → Houses s client context op (put s.contexts s.next_context (entering s client c session))
       (put s.processes s.next_context None) (put s.uids c.uid rings)
   Enters :
-      (c : Caller) (session : Option ℕ) → EntersAs s client context op c session
+      (c : Caller) (session : Option ℕ) (room : Unit {0}) → EntersAs s client context op c session
+      → has_context_left s client ≡ Ok room
       → Houses s client context op (put s.contexts s.next_context (entering s client c session))
       (put s.processes s.next_context None) s.uids
   Threads :
-      (c : Context) → op ≡ Thread → context_of s client context ≡ Ok c
+      (c : Context) (room : Unit {0}) → op ≡ Thread → context_of s client context ≡ Ok c
+      → has_context_left s client ≡ Ok room
       → Houses s client context op (put s.contexts s.next_context (without_thread c)) s.processes s.uids
   Alters :
       (c : Context) (f : Context → Context) → context_of s client context ≡ Ok c → StaysWhose f

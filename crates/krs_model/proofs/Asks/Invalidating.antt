@@ -3,15 +3,13 @@ use Rattle.std.proofs.Common.{◌∙◌, ◌≡◌, ap, arith, inr, None, Option
 use Rattle.std.proofs.Common.{ℤ}
 use Rattle.krs_types.specs.{Rights.SEARCH, declared.ask.Answer.TheVariants.Nothing}
 use Rattle.krs_types.specs.declared.{ask.Op.TheVariants.Invalidate, rights.Want.TheVariants.Granted}
-use Rattle.krs_model.specs.Asks.Adding.{made}
 use Rattle.krs_model.specs.Asks.Invalidating.{context_without, detached, invalidate, invalidated, rings_without}
-use Rattle.krs_model.specs.Asks.Leaving.{left}
 use Rattle.krs_model.specs.{Asks.Linked.without_link, Hiding.{blind, Hiding}, Lookup.{context_of, look_up}}
-use Rattle.krs_model.specs.{Notes.Telling.named, Queues.queues_of, Search.found, Sound.AllAttached, State.{Key, State}}
+use Rattle.krs_model.specs.{Notes.Telling.named, Queues.queues_of, Sound.AllAttached, State.{Key, State}}
 use Rattle.krs_model.specs.{Sweep.{context_roots, process_roots, uid_roots}, Table.{at, map_values, Table}}
 use Rattle.krs_model.proofs.Asks.{Houses.Detaches, Later.{Comes, is_gone}, Lawful.IsLawful, NewSerials.same_counts}
 use Rattle.krs_model.proofs.Asks.NotedKeys.{about_small}
-use Rattle.krs_model.proofs.Asks.{Outcomes.{meets_after, meets_ok}, Plain.{plain, plain_context, plain_look_up}}
+use Rattle.krs_model.proofs.Asks.{Outcomes.{meets_after, meets_ok}}
 use Rattle.krs_model.proofs.Hiding.Accepted.{accepted, blind_done, found_in}
 use Rattle.krs_model.proofs.{Hiding.{Keys.map_blind, Links.without_blind}, Isolation.Attachments.invalidated_unattached}
 use Rattle.krs_model.proofs.{Isolation.Keys.mapped_enclosed, Sound.Attached.{attached_by, attached_mapped}}
@@ -21,6 +19,7 @@ use Rattle.krs_model.proofs.Sound.{Contexts.mapped_housed, KeyChanges.{both_in, 
 use Rattle.krs_model.proofs.Sound.NewContexts.{ArePlaced, in_placed, placed_in}
 use Rattle.krs_model.proofs.Tables.{Changes.at_map, Counts.part_in}
 use Rattle.krs_types.specs.declared.note.KeyEvent.TheVariants as told_of
+use Rattle.krs_model.proofs.Asks.Plain.{plains}
 
 gone_mapped : (f : Key → Key) (o : Option Key) → ((v : Key) → (f v).revoked ≡ v.revoked) → is_gone o ≡ true
     → is_gone (option_map f o) ≡ true
@@ -31,8 +30,8 @@ gone_mapped f (Some v) same h = same v ∙ h
 mapped_comes :
     (old new : State) (f : Key → Key) → ((v : Key) → (f v).revoked ≡ v.revoked)
     → new.keys ≡ map_values f old.keys → new.next_serial ≡ old.next_serial → queues_of new ≡ queues_of old
-    → Comes old new
-mapped_comes old new f same keys next queues = record {
+    → new.clock ≡ old.clock → Comes old new
+mapped_comes old new f same keys next queues clock = record {
   follows = record {
     next = omega arith;
     unused = λ below. rw (keys, next) (λ k le. at_map f old.keys k ∙ ap (option_map f) (below k le));
@@ -40,6 +39,7 @@ mapped_comes old new f same keys next queues = record {
     gone = λ k lt h. rw (keys, at_map f old.keys k) (gone_mapped f (at old.keys k) same h);
   };
   queues = queues;
+  clock = clock;
   there = λ k h. rw keys (there_map f old.keys k h);
 }
 
@@ -76,7 +76,7 @@ pub invalidate_law : (s : State) (client context : ℕ) (id : ℤ) → IsLawful 
 unfolding invalidate
 invalidate_law s client context id = record {
   small = λ mid answer few h. about_small told_of.Invalidated (named s client context id);
-  plain = search (plain, plain_context, plain_look_up);
+  plain = search plains depth 12;
   blind = λ hide hides.
       found_in hide s client context id (Granted SEARCH) (blind_done hide) _ _ (λ c found _ _.
       ap (λ (t : State). accepted t Nothing) (invalidated_blind hide s found.0));
@@ -84,7 +84,7 @@ invalidate_law s client context id = record {
       meets_after (context_of s client context) _ (λ c own.
       meets_after (look_up s c id (Granted SEARCH)) _ (λ gone is.
       meets_ok (record {
-        comes = λ other. mapped_comes s (invalidated s gone.0) (without_link gone.0) (λ v. refl) refl refl refl;
+        comes = λ other. mapped_comes s (invalidated s gone.0) (without_link gone.0) (λ v. refl) refl refl refl refl;
         counts = λ placed. same_counts s (invalidated s gone.0) refl;
         houses = Detaches c id gone refl own is;
         stands = λ stands. invalidated_stands s gone.0 stands;

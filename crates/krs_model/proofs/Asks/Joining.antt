@@ -5,22 +5,24 @@ use Rattle.std.proofs.lemmas.{Bool.Decides.nat_tests, Option.none-some}
 use Rattle.krs_types.specs.Perm.{named_session_mask, session_mask}
 use Rattle.krs_types.specs.{Rights.{has_all, SEARCH}, declared.ask.Answer.TheVariants.Number}
 use Rattle.krs_types.specs.declared.{ask.Op.TheVariants.Join, caller.Caller.Caller, context.Context.Context}
-use Rattle.krs_model.specs.Asks.Adding.{made}
 use Rattle.krs_model.specs.Asks.Joining.{is_joinable, join, joinable, joined_to, session_joined, session_named}
 use Rattle.krs_model.specs.{Asks.Joining.{session_ring, session_to}, Confidentiality.{AreUnattached, HasToItself}}
-use Rattle.krs_model.specs.Hiding.{blind, blind_key, blind_keys, Hiding, over}
-use Rattle.krs_model.specs.{Lookup.context_of, Making.{own_ring, with_new, within_serials}, Outcome.Outcome}
+use Rattle.krs_model.specs.Hiding.{blind, blind_key, blind_keys, Hiding}
+use Rattle.krs_model.specs.{Lookup.context_of, Making.{own_ring, with_new}, Outcome.Outcome}
 use Rattle.krs_model.specs.{Search.found, State.{Key, State}, Table.{at, put, Rises, Table}}
 use Rattle.krs_model.proofs.Asks.{Fares.{Fares, fares_within}, Houses.Alters, Joins.{found_least, passed_may}}
 use Rattle.krs_model.proofs.Asks.Later.{comes_trans, same_comes, with_new_comes}
 use Rattle.krs_model.proofs.Asks.{Lawful.IsLawful, NewSerials.IsWithin, Outcomes.{Meets, meets_after, meets_ok}}
-use Rattle.krs_model.proofs.Asks.Plain.{IsPlain, plain, plain_context, plain_ok, plain_within}
+use Rattle.krs_model.proofs.Asks.Plain.{IsPlain, plain, plain_ok}
 use Rattle.krs_model.proofs.Hiding.Accepted.{blind_done}
-use Rattle.krs_model.proofs.Hiding.{Keys.put_blind, Links.within_blind, Lookups.blind_found, Over.after}
+use Rattle.krs_model.proofs.Hiding.{Keys.put_blind, Lookups.blind_found}
 use Rattle.krs_model.proofs.Isolation.Attachments.{joined_unattached, own_joined_unattached, same_unattached}
 use Rattle.krs_model.proofs.Isolation.{Guarded.next_apart, Keys.no_class, Links.{later_made, new_enclosed}}
 use Rattle.krs_model.proofs.{Isolation.Untouched.put_same, Lookups.Serials.own_there}
 use Rattle.krs_model.proofs.Sound.NewContexts.{joinable_there, joined_stands, new_joined_stands, session_ring_empty}
+use Rattle.krs_model.proofs.Asks.Fares.{housed_fares}
+use Rattle.krs_model.proofs.Asks.Plain.{plains}
+use Rattle.krs_model.proofs.Hiding.Seen.{is_seen, IsSeen, steps}
 
 plain_session_named : (name : List ℕ) → IsPlain (session_named name)
 plain_session_named name = search plain
@@ -64,27 +66,18 @@ ring_stays h name c =
     ]
 
 joined_blind : (hide : Hiding) (s : State) (number : ℕ) (c : Context) (name : List ℕ) (o : Option (ℕ × Key))
-    → session_joined (blind hide s) number c name (option_map (blind_found hide) o)
-    ≡ over (blind_done hide) (session_joined s number c name o)
-joined_blind hide s number c name (Some found) = refl
+    → IsSeen (blind_done hide) (session_joined (blind hide s) number c name (option_map (blind_found hide) o))
+    (session_joined s number c name o)
+joined_blind hide s number c name (Some found) = record { is = refl }
 joined_blind hide s number c name None =
     let n = s.next_serial in
     let ring = session_ring name c.caller in
     let t = joined_to (with_new s ring) number n in
     let to : Table Key → Outcome = λ es. Ok (record t { keys = es }, Number n) in
-    ap (λ (key : Key). to (put (blind_keys hide s.keys) n key)) (sym (ring_stays (hide n) name c.caller))
-    ∙ ap to (put_blind hide s.keys n ring)
-
-join_blind : (hide : Hiding) (s : State) (client context : ℕ) (name : List ℕ)
-    → join (blind hide s) client context name ≡ over (blind_done hide) (join s client context name)
-unfolding join context_of
-join_blind hide s client context name =
-    after (blind_done hide) (context_of s client context) _ _ (λ c _.
-    after (blind_done hide) (session_named name) _ _ (λ fit _.
-    ap (λ (o : Option (ℕ × Key)). within_serials (blind hide s) (session_joined (blind hide s) context c name o))
-    (joinable_blind hide s c.caller name)
-    ∙ (ap (within_serials (blind hide s)) (joined_blind hide s context c name (joinable s c.caller name))
-    ∙ within_blind hide s (session_joined s context c name (joinable s c.caller name)))))
+    record {
+      is = ap (λ (key : Key). to (put (blind_keys hide s.keys) n key)) (sym (ring_stays (hide n) name c.caller))
+          ∙ ap to (put_blind hide s.keys n ring);
+    }
 
 joinable_first :
     (s : State) (c : Context) (name : List ℕ) (found : ℕ × Key) → joinable s c.caller name ≡ Some found
@@ -123,25 +116,18 @@ joined_fares :
     → context_of s client context ≡ Ok c → joinable s c.caller name ≡ answer
     → Meets (λ (new : State). IsWithin s new → Fares s client context (Join name) new)
     (session_joined s context c name answer)
-joined_fares s client context c name (Some found) own is = meets_ok (λ within. record {
-  comes = λ other. same_comes s (joined_to s context found.0) refl refl refl;
-  counts = λ placed. within;
-  houses = Alters c (session_to found.0) own (record { client = λ v. refl; process = λ v. refl; caller = λ v. refl });
-  stands = λ stands. joined_stands s context found.0 (joinable_there s c.caller name found is) stands;
-  guards = λ uid private stands alone. record {
-    made = alone.made;
-    enclosed = λ p. alone.enclosed;
-    unattached = found_joined uid private s context c name found stands.rising alone
-        (own_there s client context c own) is;
-  };
-  keeps = λ uid private stands alone other. inl (λ k m. refl);
-})
+joined_fares s client context c name (Some found) own is = meets_ok (λ within.
+    housed_fares s client context _ _ _ _ _
+    (Alters c (session_to found.0) own (record { client = λ v. refl; process = λ v. refl; caller = λ v. refl }))
+    (λ stands. joined_stands s context found.0 (joinable_there s c.caller name found is) stands)
+    (λ uid private stands alone. found_joined uid private s context c name found stands.rising alone
+    (own_there s client context c own) is))
 joined_fares s client context c name None own is =
     let ring = session_ring name c.caller in
     let one = with_new s ring in
     meets_ok (λ within. record {
       comes = λ other. comes_trans s one (joined_to one context s.next_serial) (with_new_comes s ring)
-          (same_comes one (joined_to one context s.next_serial) refl refl refl);
+          (same_comes one (joined_to one context s.next_serial) refl refl refl refl);
       counts = λ placed. within;
       houses = Alters c (session_to s.next_serial) own (record { client = λ v. refl; process = λ v. refl; caller = λ v. refl });
       stands = λ stands. new_joined_stands s context name c.caller stands;
@@ -159,8 +145,8 @@ pub join_law : (s : State) (client context : ℕ) (name : List ℕ) → IsLawful
 unfolding join
 join_law s client context name = record {
   small = λ mid answer few h. tt;
-  plain = search (plain, plain_context, plain_session_named, plain_within, plain_joined);
-  blind = λ hide hides. join_blind hide s client context name;
+  plain = search (plains, plain_session_named, plain_joined) depth 12;
+  blind = λ hide hides. is_seen (blind_done hide) (simp joinable_blind (search (joined_blind, steps) depth 12));
   fares =
       meets_after (context_of s client context) _ (λ c own.
       meets_after (session_named name) _ (λ fit _.

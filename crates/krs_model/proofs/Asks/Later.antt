@@ -101,18 +101,20 @@ sweep_follows old new s =
     let next : new.next_serial ≡ old.next_serial = ap (λ (t : State). t.next_serial) s.rest in
     follows_trans old less new (filtered_follows old s.kept) (same_follows less new s.keys next)
 
--- what comes from a state by an ask of keys: its queues and watches stay, and each of its keys is there
+-- what comes from a state by an ask of keys: its queues, watches and clock stay, and each of its keys is there
 pub record Comes (old new : State) : Type 0 where
   pub follows : Follows old new
   pub queues : queues_of new ≡ queues_of old
+  pub clock : new.clock ≡ old.clock
   pub there : (k : ℕ) → IsSome (at old.keys k) → IsSome (at new.keys k)
 
 pub same_comes :
     (old new : State) → new.keys ≡ old.keys → new.next_serial ≡ old.next_serial → queues_of new ≡ queues_of old
-    → Comes old new
-same_comes old new keys next queues = record {
+    → new.clock ≡ old.clock → Comes old new
+same_comes old new keys next queues clock = record {
   follows = same_follows old new keys next;
   queues = queues;
+  clock = clock;
   there = λ k h. rw keys h;
 }
 
@@ -120,6 +122,7 @@ pub comes_trans : (a b c : State) → Comes a b → Comes b c → Comes a c
 comes_trans a b c f g = record {
   follows = follows_trans a b c f.follows g.follows;
   queues = g.queues ∙ f.queues;
+  clock = g.clock ∙ f.clock;
   there = λ k h. g.there k (f.there k h);
 }
 
@@ -127,6 +130,7 @@ pub with_new_comes : (s : State) (key : Key) → Comes s (with_new s key)
 with_new_comes s key = record {
   follows = with_new_follows s key;
   queues = refl;
+  clock = refl;
   there = λ k h. there_put s.keys s.next_serial k key h;
 }
 
@@ -136,6 +140,7 @@ pub changed_comes :
 changed_comes s serial f stays = record {
   follows = changed_follows s serial f stays;
   queues = refl;
+  clock = refl;
   there = λ k h. there_alter s.keys serial f k h;
 }
 

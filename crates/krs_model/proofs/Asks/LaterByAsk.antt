@@ -3,8 +3,8 @@ use Rattle.std.proofs.Common.{◌&&◌, ◌==◌, ◌≡◌, Bool, codes, cond, 
 use Rattle.std.proofs.Common.{ℕ, ℤ}
 use Rattle.krs_types.specs.{KeyId.key_id_of, Refusing.◌>>=◌, declared.context.Context.Context}
 use Rattle.krs_types.specs.declared.{errno.Errno.{Errno, TheVariants.{EEXIST, EPERM}}, key_id.KeyId.KeyId}
-use Rattle.krs_model.specs.Asks.{Adding.made, Changing.changed, Linked.if_linked}
-use Rattle.krs_model.specs.Asks.Linked.{link_check, linked, linked_into, name_of, nestable, unless, without_link}
+use Rattle.krs_model.specs.Asks.{Changing.changed, Linked.if_linked}
+use Rattle.krs_model.specs.Asks.Linked.{link_check, linked_into, name_of, nestable, unless, without_link}
 use Rattle.krs_model.specs.{Asks.Moving.{moved, moved_over}, Linking.{has_room, link_named, linking, ring_links}}
 use Rattle.krs_model.specs.Making.{made_for, special_ring, with_new, with_process, with_thread}
 use Rattle.krs_model.specs.{Search.found, State.{Key, State}}
@@ -15,13 +15,13 @@ use Rattle.krs_model.proofs.MadeKeyring.Which.{IsMade, made_for_is, NoneMade, Pr
 is_made_comes :
     (s : State) (number : ℕ) (c : Context) (id : Result KeyId Errno) (made : State × Context)
     → IsMade s number c id made → Comes s made.0
-is_made_comes s number c id _ NoneMade = same_comes s s refl refl refl
+is_made_comes s number c id _ NoneMade = same_comes s s refl refl refl refl
 is_made_comes s number c id _ (ThreadMade is none) =
     let one = with_new s (special_ring (codes "_tid") c.caller) in
-    comes_trans s one _ (with_new_comes s _) (same_comes one (with_thread s number c) refl refl refl)
+    comes_trans s one _ (with_new_comes s _) (same_comes one (with_thread s number c) refl refl refl refl)
 is_made_comes s number c id _ (ProcessMade is none) =
     let one = with_new s (special_ring (codes "_pid") c.caller) in
-    comes_trans s one _ (with_new_comes s _) (same_comes one (with_process s c) refl refl refl)
+    comes_trans s one _ (with_new_comes s _) (same_comes one (with_process s c) refl refl refl refl)
 
 pub made_for_comes : (s : State) (number : ℕ) (c : Context) (id : ℤ) → Comes s (made_for s number c id).0
 made_for_comes s number c id =

@@ -1,34 +1,30 @@
 -- What is proved of EXIT and LEAVE.
-use Rattle.std.proofs.Common.{[], ◌==◌, ◌||◌, ◌∙◌, ◌∷◌, ◌≡◌, ap, Bool, cond, false, inl, IsSome, List, option_to_list}
+use Rattle.std.proofs.Common.{◌==◌, ◌∙◌, ◌≡◌, ap, Bool, cond, false, inl, IsSome, List, option_to_list}
 use Rattle.std.proofs.Common.{refl, subst, sym, true, true≢false, ℕ}
 use Rattle.std.specs.{List.list_any, Map.values_of}
 use Rattle.krs_types.specs.declared.ask.Answer.TheVariants.{Nothing}
 use Rattle.krs_types.specs.declared.{ask.Op.TheVariants.{Exit, Leave}, context.Context.Context}
-use Rattle.krs_model.specs.Asks.Adding.{made}
 use Rattle.krs_model.specs.{Asks.Leaving.{exit, exited, has_process, has_uid, left}, Confidentiality.HasToItself}
-use Rattle.krs_model.specs.{Hiding.{blind, Hiding, over}, Levels.is_in, Lookup.context_of, Sound.AllAttached}
+use Rattle.krs_model.specs.{Hiding.{blind, Hiding}, Levels.is_in, Lookup.context_of, Sound.AllAttached}
 use Rattle.krs_model.specs.{State.State, Sweep.{context_roots, process_roots, uid_roots}, Table.{at, Table, without}}
-use Rattle.krs_model.proofs.Asks.{Houses.{Departs, Exits}, Later.same_comes, Lawful.IsLawful}
+use Rattle.krs_model.proofs.Asks.{Houses.{Departs, Exits}, Lawful.IsLawful}
 use Rattle.krs_model.proofs.Asks.{NewSerials.{IsWithin, same_counts}, Outcomes.{meets_after, meets_ok}}
-use Rattle.krs_model.proofs.{Asks.Plain.{plain, plain_context, plain_ok}, Hiding.Accepted.{accepted, blind_done}}
-use Rattle.krs_model.proofs.{Hiding.Over.after, Isolation.Attachments.{exited_unattached, left_unattached}}
+use Rattle.krs_model.proofs.{Asks.Plain.{plain_ok}, Hiding.Accepted.{accepted, blind_done}}
+use Rattle.krs_model.proofs.{Isolation.Attachments.{exited_unattached, left_unattached}}
 use Rattle.krs_model.proofs.Isolation.{Guarded.Guarded, Untouched.AreSame}
 use Rattle.krs_model.proofs.Sound.Attached.{attached_by, attached_fewer, attached_without, attachments, context_keys}
 use Rattle.krs_model.proofs.Sound.Attached.{in_context, in_process, in_uid, own_process, uid_keys}
 use Rattle.krs_model.proofs.Sound.Changes.{kept_some, same_stands, Stands}
 use Rattle.krs_model.proofs.Sound.Contexts.{exited_housed, left_housed, there_unless}
 use Rattle.krs_model.proofs.{Sound.NewContexts.{ArePlaced, in_placed, placed_in}, Tables.Changes.at_kept}
+use Rattle.krs_model.proofs.Isolation.Attachments.{process_of_one}
+use Rattle.krs_model.proofs.Hiding.Seen.{is_seen, steps}
+use Rattle.krs_model.proofs.Asks.Fares.{housed_fares}
+use Rattle.krs_model.proofs.Asks.Plain.{plains}
 
 left_within : (s : State) (client : ℕ) → IsWithin s (left s client)
 unfolding left
 left_within s client = same_counts s (left s client) refl
-
--- a process has a context
-process_of_one :
-    (es : Table Context) (p : ℕ)
-    → list_any (λ c. c.process == p) (values_of es) ≡ is_in p (attachments own_process es)
-process_of_one [] p = refl
-process_of_one (e ∷ es) p = ap (λ (b : Bool). (e.1.process == p) || b) (process_of_one es p)
 
 left_stands : (s : State) (client : ℕ) → Stands s → Stands (left s client)
 unfolding left
@@ -72,11 +68,6 @@ exited_stands s number c stands =
     (exited_housed s.contexts s.processes s.uids s.next_context number c.process c.caller.uid
     (has_process after.contexts c.process) stands.housed) stands
 
-exit_blind : (hide : Hiding) (s : State) (client context : ℕ)
-    → exit (blind hide s) client context ≡ over (blind_done hide) (exit s client context)
-unfolding exit context_of
-exit_blind hide s client context = after (blind_done hide) (context_of s client context) _ _ (λ c _. refl)
-
 left_blind : (hide : Hiding) (s : State) (client : ℕ) → left (blind hide s) client ≡ blind hide (left s client)
 unfolding left
 left_blind hide s client = refl
@@ -99,22 +90,13 @@ pub exit_law : (s : State) (client context : ℕ) → IsLawful s client context 
 unfolding exit
 exit_law s client context = record {
   small = λ mid answer few h. tt;
-  plain = search (plain, plain_context);
-  blind = λ hide hides. exit_blind hide s client context;
+  plain = search plains depth 12;
+  blind = λ hide hides. is_seen (blind_done hide) (search steps);
   fares =
       meets_after (context_of s client context) _ (λ c own.
-      meets_ok (record {
-        comes = λ other. same_comes s (exited s context c) refl refl refl;
-        counts = λ placed. same_counts s (exited s context c) refl;
-        houses = Exits c refl own;
-        stands = λ stands. exited_stands s context c stands;
-        guards = λ uid private stands alone. record {
-          made = alone.made;
-          enclosed = λ p. alone.enclosed;
-          unattached = exited_unattached uid private s context c stands.housed.uids_rise alone.unattached;
-        };
-        keeps = λ uid private stands alone other. inl (λ k m. refl);
-      }));
+      meets_ok (housed_fares s client context _ _ _ _ _ (Exits c refl own) (λ stands. exited_stands s context c stands)
+      (λ uid private stands alone.
+      exited_unattached uid private s context c stands.housed.uids_rise alone.unattached)));
 }
 
 pub leave_law : (s : State) (client context : ℕ) → IsLawful s client context Leave

@@ -1,29 +1,29 @@
 -- What is proved of LINK, UNLINK and CLEAR.
-use Rattle.std.proofs.Common.{[], ◌∙◌, ◌≡◌, ap, Bool, IsSome, List, Ok, refl, Result, subst, true, ℕ, ℤ}
-use Rattle.krs_types.specs.Refusing.{◌>>=◌, or_refuse}
+use Rattle.std.proofs.Common.{[], ◌≡◌, Bool, IsSome, List, Ok, refl, subst, true, ℕ, ℤ}
+use Rattle.krs_types.specs.Refusing.{or_refuse}
 use Rattle.krs_types.specs.{Rights.{LINK, WRITE}, declared.ask.Answer.{Answer, TheVariants.Nothing}}
 use Rattle.krs_types.specs.declared.{ask.Op.TheVariants.{Clear, Link, Unlink}, context.Context.Context}
-use Rattle.krs_types.specs.declared.{errno.Errno.{Errno, TheVariants.ENOKEY}, rights.Want.TheVariants.Granted}
-use Rattle.krs_model.specs.Asks.Adding.{made}
+use Rattle.krs_types.specs.declared.{errno.Errno.{TheVariants.ENOKEY}, rights.Want.TheVariants.Granted}
 use Rattle.krs_model.specs.Asks.{Changing.changed, Linked.{clear, cleared, cleared_content, if_linked, link, linked}}
 use Rattle.krs_model.specs.{Asks.Linked.{linked_into, name_of, unlink, without_link}, Confidentiality.HasToItself}
-use Rattle.krs_model.specs.{Hiding.{blind, blind_content, blind_key, Hiding, over}, Linking.{linking, ring_links}}
-use Rattle.krs_model.specs.{Lookup.{context_of, look_up, serial_of}, Making.{made_for, within_serials}}
-use Rattle.krs_model.specs.{Notes.Telling.named, Outcome.Outcome, Possession.links_of_content, Search.found}
+use Rattle.krs_model.specs.{Hiding.{blind_content}, Linking.{linking, ring_links}}
+use Rattle.krs_model.specs.{Lookup.{context_of, look_up, serial_of}, Making.{made_for}}
+use Rattle.krs_model.specs.{Notes.Telling.named, Possession.links_of_content, Search.found}
 use Rattle.krs_model.specs.{Sound.is_links, State.{Content, Key, Links, Payload, State}, Table.at}
-use Rattle.krs_model.proofs.Asks.Fares.{changed_fares, fares_within, linked_fares}
+use Rattle.krs_model.proofs.Asks.Fares.{fares_within, linked_fares}
 use Rattle.krs_model.proofs.Asks.{Later.{bind_ok, same_ok, same_state, within_ok}, LaterByAsk.linked_into_is}
 use Rattle.krs_model.proofs.Asks.{Lawful.IsLawful, NewSerials.small_there, NotedKeys.{about_link_small, about_small}}
-use Rattle.krs_model.proofs.Asks.{Outcomes.{meets_after, meets_ok}, Plain.{plain, plain_context, plain_linked_into}}
-use Rattle.krs_model.proofs.Asks.Plain.{plain_links, plain_look_up, plain_serial, plain_within}
-use Rattle.krs_model.proofs.Hiding.Accepted.{accepted, blind_done, done_changed, found_in}
-use Rattle.krs_model.proofs.Hiding.Links.{linked_into_blind, made_blind, same_ring_links, within_blind, without_blind}
-use Rattle.krs_model.proofs.Hiding.{Lookups.{blind_found, look_up_blind, there_blind}, Over.{after, bound}}
+use Rattle.krs_model.proofs.Asks.{Outcomes.{meets_after, meets_ok}}
+use Rattle.krs_model.proofs.Hiding.Accepted.{blind_done}
+use Rattle.krs_model.proofs.Hiding.Links.{made_blind, without_blind}
 use Rattle.krs_model.proofs.Isolation.{Keys.not_found, Links.{IsOther, made_alone, other_made}}
 use Rattle.krs_model.proofs.Lookups.{Laws.look_up_usable, Serials.{found_serial, refused_is}}
 use Rattle.krs_model.proofs.{MadeKeyring.Which.made_still, Sound.{Changes.{Lessens, there_alter}, Contents.form_stays}}
-use Rattle.krs_model.proofs.{Sound.KeyChanges.unlinked_lessens, Tables.Counts.{IsPart, none_part}}
+use Rattle.krs_model.proofs.{Tables.Counts.{IsPart, none_part}}
 use Rattle.krs_types.specs.declared.note.KeyEvent.TheVariants as told_of
+use Rattle.krs_model.proofs.Asks.Fares.{fares}
+use Rattle.krs_model.proofs.Asks.Plain.{plains}
+use Rattle.krs_model.proofs.Hiding.Seen.{is_seen, steps}
 
 -- the key that LINK links, and the one that UNLINK takes out
 link_there :
@@ -88,51 +88,10 @@ cleared_lessens = record {
   fits = form_stays cleared (λ v. cleared_form v.content) (λ v. refl);
 }
 
-linked_ask_blind : (hide : Hiding) (s : State) (c : Context) (key ring : ℤ)
-    → linked (blind hide s) c key ring ≡ over (blind_done hide) (linked s c key ring)
-linked_ask_blind hide s c key ring =
-    let end : ℕ × Key → ℕ × Key → Outcome = λ into found.
-    linked_into (blind hide s) into found >>= (λ new. accepted new Nothing) in
-    let next : ℕ × Key → Outcome = λ into. look_up (blind hide s) c key (Granted LINK) >>= end into in
-    ap (λ (r : Result (ℕ × Key) Errno). r >>= next) (look_up_blind hide s c ring (Granted WRITE))
-    ∙ bound (blind_found hide) (blind_done hide) (look_up s c ring (Granted WRITE)) _ _ (λ into _.
-    ap (λ (r : Result (ℕ × Key) Errno). r >>= end (blind_found hide into)) (look_up_blind hide s c key (Granted LINK))
-    ∙ bound (blind_found hide) (blind_done hide) (look_up s c key (Granted LINK)) _ _ (λ found _.
-    ap (λ (r : Result State Errno). r >>= (λ new. accepted new Nothing)) (linked_into_blind hide s into found)
-    ∙ bound (blind hide) (blind_done hide) (linked_into s into found) _ _ (λ new _. refl)))
-
 cleared_blind : (h : List ℕ → List ℕ) (content : Content)
     → cleared_content (blind_content h content) ≡ blind_content h (cleared_content content)
 cleared_blind h (Payload bytes) = refl
 cleared_blind h (Links serials) = refl
-
-unlink_blind : (hide : Hiding) (s : State) (client context : ℕ) (key ring : ℤ)
-    → unlink (blind hide s) client context key ring ≡ over (blind_done hide) (unlink s client context key ring)
-unfolding unlink serial_of
-unlink_blind hide s client context key ring =
-    found_in hide s client context ring (Granted WRITE) (blind_done hide) _ _ (λ c from _ _.
-    after (blind_done hide) (serial_of s c key) _ _ (λ serial _.
-    let end : List ℕ → Outcome = λ links.
-    if_linked serial links >>= (λ linked. accepted (changed (blind hide s) from.0 (without_link serial)) Nothing) in
-    ap (λ (r : Result Key Errno). r >>= (λ there. ring_links (blind_content (hide from.0) from.1.content) >>= end))
-    (there_blind hide s ENOKEY serial)
-    ∙ bound (blind_key (hide serial)) (blind_done hide) (or_refuse ENOKEY (at s.keys serial)) _ _ (λ there _.
-    ap (λ (r : Result (List ℕ) Errno). r >>= end) (same_ring_links (hide from.0) from.1.content)
-    ∙ after (blind_done hide) (ring_links from.1.content) _ _ (λ links _.
-    after (blind_done hide) (if_linked serial links) _ _ (λ linked _.
-    done_changed hide s from.0 (without_link serial) (without_link serial) Nothing (without_blind
-    (hide from.0) serial))))))
-
-link_blind : (hide : Hiding) (s : State) (client context : ℕ) (key ring : ℤ)
-    → link (blind hide s) client context key ring ≡ over (blind_done hide) (link s client context key ring)
-unfolding link context_of
-link_blind hide s client context key ring =
-    after (blind_done hide) (context_of s client context) _ _ (λ c _.
-    let made = made_for s context c ring in
-    ap (λ (m : State × Context). within_serials (blind hide s) (linked m.0 m.1 key ring))
-    (made_blind hide s context c ring)
-    ∙ (ap (within_serials (blind hide s)) (linked_ask_blind hide made.0 made.1 key ring)
-    ∙ within_blind hide s (linked made.0 made.1 key ring)))
 
 other_found :
     (uid : ℕ) (private : ℕ → Bool) (s : State) (c : Context) (id : ℤ) (found : ℕ × Key) → HasToItself uid private s
@@ -145,8 +104,8 @@ unfolding link
 link_law s client context key ring = record {
   small = λ mid answer few h. about_link_small told_of.Linked (named s client context ring) (named s client context key)
       (λ k is. small_there mid.keys k few (link_there s mid client context key ring answer k h is));
-  plain = search (plain, plain_context, plain_within, plain_look_up, plain_linked_into) depth 12;
-  blind = λ hide hides. link_blind hide s client context key ring;
+  plain = search plains depth 12;
+  blind = λ hide hides. is_seen (blind_done hide) (simp made_blind (search steps depth 12));
   fares =
       meets_after (context_of s client context) _ (λ c own.
       let made = made_for s context c ring in
@@ -167,35 +126,16 @@ unlink_law s client context key ring = record {
   small = λ mid answer few h.
       about_link_small told_of.Unlinked (named s client context ring) (named s client context key)
       (λ k is. small_there mid.keys k few (unlink_there s mid client context key ring answer k h is));
-  plain = search (plain, plain_context, plain_look_up, plain_serial, plain_links) depth 12;
-  blind = λ hide hides. unlink_blind hide s client context key ring;
-  fares =
-      meets_after (context_of s client context) _ (λ c own.
-      meets_after (look_up s c ring (Granted WRITE)) _ (λ from is.
-      meets_after (serial_of s c key) _ (λ serial _.
-      meets_after (or_refuse ENOKEY (at s.keys serial)) _ (λ there _.
-      meets_after (ring_links from.1.content) _ (λ links _.
-      meets_after (if_linked serial links) _ (λ linked _.
-      meets_ok (changed_fares s client context _ c ring (Granted WRITE) from (without_link serial) own is refl
-      (unlinked_lessens serial) (λ v h. h) (λ uid private alone holds v m h. h))))))));
+  plain = search plains depth 12;
+  blind = λ hide hides. is_seen (blind_done hide) (search (steps, without_blind) depth 12);
+  fares = search fares depth 12;
 }
 
 pub clear_law : (s : State) (client context : ℕ) (id : ℤ) → IsLawful s client context (Clear id)
 unfolding clear
 clear_law s client context id = record {
   small = λ mid answer few h. about_small told_of.Cleared (named s client context id);
-  plain = search (plain, plain_context, plain_look_up, plain_links);
-  blind = λ hide hides.
-      found_in hide s client context id (Granted WRITE) (blind_done hide) _ _ (λ c found _ _.
-      ap (λ (r : Result (List ℕ) Errno). r >>= (λ links. accepted (changed (blind hide s) found.0 cleared) Nothing))
-      (same_ring_links (hide found.0) found.1.content)
-      ∙ after (blind_done hide) (ring_links found.1.content) _ _ (λ links _.
-      done_changed hide s found.0 cleared cleared Nothing (λ v.
-      ap (λ (content : Content). record v { content = content }) (cleared_blind (hide found.0) v.content))));
-  fares =
-      meets_after (context_of s client context) _ (λ c own.
-      meets_after (look_up s c id (Granted WRITE)) _ (λ found is.
-      meets_after (ring_links found.1.content) _ (λ links _.
-      meets_ok (changed_fares s client context _ c id (Granted WRITE) found cleared own is refl cleared_lessens
-      (λ v h. h) (λ uid private alone holds v m h. h)))));
+  plain = search plains depth 12;
+  blind = λ hide hides. is_seen (blind_done hide) (search (steps, cleared_blind) depth 12);
+  fares = search (fares, cleared_lessens) depth 12;
 }

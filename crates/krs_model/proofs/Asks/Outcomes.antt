@@ -20,6 +20,13 @@ pub meets_after :
 meets_after (Ok x) f h = h x refl
 meets_after (Err e) f h = record { meets = λ t a no. cc }
 
+-- of a step of several, test by test
+pub meets_nested :
+    {P : State → Type 0} {A B : Type 0} (r : Result A Errno) (f : A → Result B Errno) (k : B → Outcome)
+    → Meets P (r >>= (λ x. f x >>= k)) → Meets P ((r >>= f) >>= k)
+meets_nested (Ok x) f k h = h
+meets_nested (Err e) f k h = h
+
 pub meets_within :
     {P : State → Type 0} (old : State) (r : Outcome) → Meets P r → Meets P (within_serials old r)
 meets_within old r h = record { meets = λ t a e. h.meets t a (within_ok old r (t, a) e) }

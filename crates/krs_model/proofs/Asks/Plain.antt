@@ -107,3 +107,19 @@ plain_fault false false false = refl
 pub plain_into : (s : State) (c : Context) (into : ℕ × Key) (answer : Result ℕ Errno) → IsPlain answer
     → IsPlain (found_into s c into answer)
 plain_into s c into answer h = plain_after answer _ h (λ serial. search (plain, plain_linked_into) depth 12)
+
+-- the steps that asks share
+pub ruleset plains = (
+  plain_context,
+  plain_serial,
+  plain_look_up,
+  plain_within,
+  plain_kind,
+  plain_paid,
+  plain_links,
+  plain_room,
+  plain_linked_into,
+  plain_sought,
+  plain_into,
+  plain,
+)

@@ -8,11 +8,13 @@ use Rattle.krs_model.specs.Asks.Reading.{describe, read, readable}
 use Rattle.krs_model.specs.Hiding.{blind, blind_answer, blind_content, Hiding, over, told, told_at, told_of}
 use Rattle.krs_model.specs.Lookup.{context_of, look_up}
 use Rattle.krs_model.specs.{Notes.Telling.named, Search.found, State.{Content, Key, Links, Payload, State}}
-use Rattle.krs_model.proofs.Asks.{Fares.same_fares, Lawful.IsLawful, Outcomes.{meets_after, meets_ok}}
-use Rattle.krs_model.proofs.Asks.Plain.{IsPlain, plain, plain_context, plain_err, plain_look_up, plain_ok}
+use Rattle.krs_model.proofs.Asks.{Lawful.IsLawful}
+use Rattle.krs_model.proofs.Asks.Plain.{IsPlain, plain_err, plain_ok}
 use Rattle.krs_model.proofs.Hiding.Accepted.{accepted, blind_done, found_in, named_is}
 use Rattle.krs_model.proofs.{Hiding.Over.bound, Lookups.Laws.look_up_usable}
 use Rattle.krs_model.specs.Asks.Reading as reading
+use Rattle.krs_model.proofs.Asks.Fares.{fares}
+use Rattle.krs_model.proofs.Asks.Plain.{plains}
 
 plain_readable : (kind : Kind) (content : Content) → IsPlain (reading.readable kind content)
 plain_readable User (Payload bytes) = plain_ok
@@ -46,7 +48,7 @@ pub read_law : (s : State) (client context : ℕ) (id : ℤ) → IsLawful s clie
 unfolding read
 read_law s client context id = record {
   small = λ mid answer few h. tt;
-  plain = search (plain, plain_context, plain_look_up, plain_readable);
+  plain = search (plains, plain_readable) depth 12;
   blind = λ hide hides.
       let view = blind_read hide s client context id in
       found_in hide s client context id ToRead view _ _ (λ c found own there.
@@ -56,19 +58,14 @@ read_law s client context id = record {
       ∙ bound (told_of h found.1.kind) view (readable found.1.kind found.1.content) _ _ (λ bytes _.
       ap (λ (told : List ℕ). accepted (blind hide s) (Bytes told))
       (sym (told_is hide s client context id c found bytes own there))));
-  fares =
-      meets_after (context_of s client context) _ (λ c _.
-      meets_after (look_up s c id ToRead) _ (λ found _.
-      meets_after (readable found.1.kind found.1.content) _ (λ bytes _. meets_ok (same_fares s client context _))));
+  fares = search fares depth 12;
 }
 
 pub describe_law : (s : State) (client context : ℕ) (id : ℤ) → IsLawful s client context (Describe id)
 unfolding describe
 describe_law s client context id = record {
   small = λ mid answer few h. tt;
-  plain = search (plain, plain_context, plain_look_up);
+  plain = search plains depth 12;
   blind = λ hide hides. found_in hide s client context id (Granted VIEW) (blind_done hide) _ _ (λ c found _ _. refl);
-  fares =
-      meets_after (context_of s client context) _ (λ c _.
-      meets_after (look_up s c id (Granted VIEW)) _ (λ found _. meets_ok (same_fares s client context _)));
+  fares = search fares depth 12;
 }

@@ -1,28 +1,29 @@
 -- What is proved of WATCH and the asks of queues.
 use Rattle.std.proofs.Common.{[], ◌∙◌, ◌∷◌, ◌≡◌, ◌≤◌, ap, Bool, cond, Err, false, is_some, IsSome, leb-true, length}
-use Rattle.std.proofs.Common.{List, nat_le, nat_lt, negsuc, None, not, Ok, Option, pos, refl, Result, Some, subst, suc}
+use Rattle.std.proofs.Common.{List, nat_le, nat_lt, negsuc, None, not, Ok, Option, pos, refl, Some, subst, suc}
 use Rattle.std.proofs.Common.{true, zero, ℕ, ℤ}
-use Rattle.krs_types.specs.Refusing.{◌>>=◌}
 use Rattle.krs_types.specs.{Rights.VIEW, declared.ask.Answer.{Answer, TheVariants.{Bytes, Nothing, Number}}}
 use Rattle.krs_types.specs.declared.ask.Op.TheVariants.{CloseQueue, OpenQueue, ReadQueue, SetFilter, Watch}
 use Rattle.krs_types.specs.declared.context.Context.{Context}
 use Rattle.krs_types.specs.declared.errno.Errno.{Errno, TheVariants.{EBUSY, EINVAL, ENFILE, ENOSPC}}
 use Rattle.krs_types.specs.declared.{note.{FilterEntry.FilterEntry, Record.Record}, rights.Want.TheVariants.Granted}
-use Rattle.krs_model.specs.Asks.Adding.{made}
-use Rattle.krs_model.specs.Asks.{Leaving.left, Linked.unless, Watching.{after_read, close_queue, closed, filtered}}
+use Rattle.krs_model.specs.Asks.{Linked.unless, Watching.{after_read, close_queue, closed, filtered}}
 use Rattle.krs_model.specs.Asks.Watching.{open_queue, opened, read_out, read_queue, set_filter, unwatched, watch}
 use Rattle.krs_model.specs.Asks.Watching.{watch_id_of, watched, with_filter, with_queue, with_watching, without_queue}
-use Rattle.krs_model.specs.{Hiding.{blind, Hiding, over}, Lookup.{context_of, look_up, serial_of}}
+use Rattle.krs_model.specs.{Lookup.{context_of, look_up, serial_of}}
 use Rattle.krs_model.specs.Notes.{Bytes.bytes_of_all, Filter.{filter_of, is_good_filter}, Front.{front, readable}}
 use Rattle.krs_model.specs.Notes.{Telling.named, Waiting.is_capacity}
-use Rattle.krs_model.specs.{Outcome.Outcome, Queues.{queue_of, Queues, queues_of, watch_at, with_queues, with_watch}}
-use Rattle.krs_model.specs.{Search.found, State.{Key, Queue, State}, Table.{alter, at, Table}}
+use Rattle.krs_model.specs.{Queues.{queue_of, Queues, queues_of, watch_at, with_queues, with_watch}}
+use Rattle.krs_model.specs.{State.{Queue, State}, Table.{alter, at, Table}}
 use Rattle.krs_model.proofs.Asks.Done.{Closes, Effect, end_of, ends_as, Filters, Opens, queue_there, readable_is, Reads}
-use Rattle.krs_model.proofs.Asks.{Done.{unwatched_is, Unwatches, Watches}, Fares.queues_fares, Later.{bind_ok, same_ok}}
-use Rattle.krs_model.proofs.Asks.{Lawful.IsLawful, Outcomes.{meets_after, meets_ok}}
-use Rattle.krs_model.proofs.Asks.Plain.{IsPlain, plain, plain_context, plain_err, plain_look_up, plain_ok}
-use Rattle.krs_model.proofs.Hiding.{Accepted.{accepted, blind_done}, Lookups.{blind_found, look_up_blind}}
-use Rattle.krs_model.proofs.{Hiding.Over.{after, bound}, Lookups.{Laws.look_up_usable, Serials.found_serial}}
+use Rattle.krs_model.proofs.Asks.{Done.{unwatched_is, Unwatches, Watches}, Later.{bind_ok, same_ok}}
+use Rattle.krs_model.proofs.Asks.{Lawful.IsLawful}
+use Rattle.krs_model.proofs.Asks.Plain.{IsPlain, plain, plain_err, plain_ok}
+use Rattle.krs_model.proofs.Hiding.{Accepted.{blind_done}}
+use Rattle.krs_model.proofs.{Hiding.Over.{after}, Lookups.{Laws.look_up_usable, Serials.found_serial}}
+use Rattle.krs_model.proofs.Hiding.Seen.{is_seen, steps}
+use Rattle.krs_model.proofs.Asks.Fares.{fares}
+use Rattle.krs_model.proofs.Asks.Plain.{plains}
 
 unless_ok : (bad : Bool) (error : Errno) (x : Unit {0}) → unless bad error ≡ Ok x → bad ≡ false
 unless_ok true error x h = cc
@@ -192,26 +193,9 @@ watches s client context id watch_id number new answer h =
 plain_queue : (queues : Table Queue) (client number : ℕ) → IsPlain (queue_of queues client number)
 plain_queue queues client number = search plain
 
-plain_open : (s : State) (client capacity : ℕ) → IsPlain (open_queue s client capacity)
-unfolding open_queue opened
-plain_open s client capacity = search plain depth 12
-
-plain_set_filter :
-    (s : State) (client number : ℕ) (entries : List FilterEntry) → IsPlain (set_filter s client number entries)
-unfolding set_filter filtered
-plain_set_filter s client number entries = search (plain, plain_queue)
-
 plain_front : (room : ℕ) (waiting : List Record) → IsPlain (readable room waiting)
 plain_front room [] = plain_err refl
 plain_front room (note ∷ waiting) = search plain
-
-plain_read_queue : (s : State) (client number room : ℕ) → IsPlain (read_queue s client number room)
-unfolding read_queue read_out
-plain_read_queue s client number room = search (plain, plain_queue, plain_front)
-
-plain_close : (s : State) (client number : ℕ) → IsPlain (close_queue s client number)
-unfolding close_queue closed
-plain_close s client number = search (plain, plain_queue)
 
 plain_watch_id : (id : ℤ) → IsPlain (watch_id_of id)
 plain_watch_id (pos n) = search plain
@@ -224,79 +208,52 @@ unfolding watched unwatched
 plain_watching s client number key (Some id) = search (plain, plain_queue)
 plain_watching s client number key None = search (plain, plain_queue)
 
-watch_blind : (hide : Hiding) (s : State) (client context : ℕ) (id : ℤ) (number : ℕ) (watch_id : ℤ)
-    → watch (blind hide s) client context id number watch_id
-    ≡ over (blind_done hide) (watch s client context id number watch_id)
-unfolding watch context_of
-watch_blind hide s client context id number watch_id =
-    after (blind_done hide) (context_of s client context) _ _ (λ c _.
-    after (blind_done hide) (watch_id_of watch_id) _ _ (λ asked _.
-    let end : ℕ × Key → Outcome = λ found.
-    with_watching (queues_of s) client number found.0 asked
-    >>= (λ q. accepted (with_queues (blind hide s) q) Nothing) in
-    ap (λ (r : Result (ℕ × Key) Errno). r >>= end) (look_up_blind hide s c id (Granted VIEW))
-    ∙ bound (blind_found hide) (blind_done hide) (look_up s c id (Granted VIEW)) _ _ (λ found _.
-    after (blind_done hide) (with_watching (queues_of s) client number found.0 asked) _ _ (λ q _. refl))))
-
 pub watch_law :
     (s : State) (client context : ℕ) (id : ℤ) (queue : ℕ) (watch_id : ℤ)
     → IsLawful s client context (Watch id queue watch_id)
 unfolding watch
 watch_law s client context id queue watch_id = record {
   small = λ mid answer few h. tt;
-  plain = search (plain, plain_context, plain_watch_id, plain_look_up, plain_watching);
-  blind = λ hide hides. watch_blind hide s client context id queue watch_id;
-  fares =
-      meets_after (context_of s client context) _ (λ c _.
-      meets_after (watch_id_of watch_id) _ (λ asked _.
-      meets_after (look_up s c id (Granted VIEW)) _ (λ found _.
-      meets_after (with_watching (queues_of s) client queue found.0 asked) _ (λ queues _.
-      meets_ok (queues_fares s client context (Watch id queue watch_id) queues refl)))));
+  plain = search (plains, plain_watch_id, plain_watching) depth 12;
+  blind = λ hide hides. is_seen (blind_done hide) (search steps depth 12);
+  fares = search fares depth 12;
 }
 
 pub open_queue_law : (s : State) (client context : ℕ) (capacity : ℕ) → IsLawful s client context (OpenQueue capacity)
-unfolding open_queue
+unfolding open_queue opened
 open_queue_law s client context capacity = record {
   small = λ mid answer few h. tt;
-  plain = plain_open s client capacity;
+  plain = search plains depth 12;
   blind = λ hide hides. after (blind_done hide) (opened (queues_of s) client capacity) _ _ (λ x _. refl);
-  fares =
-      meets_after (opened (queues_of s) client capacity) _ (λ made _.
-      meets_ok (queues_fares s client context (OpenQueue capacity) made.0 refl));
+  fares = search fares depth 12;
 }
 
 pub set_filter_law :
     (s : State) (client context : ℕ) (queue : ℕ) (entries : List FilterEntry)
     → IsLawful s client context (SetFilter queue entries)
-unfolding set_filter
+unfolding set_filter filtered
 set_filter_law s client context queue entries = record {
   small = λ mid answer few h. tt;
-  plain = plain_set_filter s client queue entries;
+  plain = search (plains, plain_queue) depth 12;
   blind = λ hide hides. after (blind_done hide) (filtered (queues_of s) client queue entries) _ _ (λ x _. refl);
-  fares =
-      meets_after (filtered (queues_of s) client queue entries) _ (λ set _.
-      meets_ok (queues_fares s client context (SetFilter queue entries) set.0 refl));
+  fares = search fares depth 12;
 }
 
 pub read_queue_law :
     (s : State) (client context : ℕ) (queue room : ℕ) → IsLawful s client context (ReadQueue queue room)
-unfolding read_queue
+unfolding read_queue read_out
 read_queue_law s client context queue room = record {
   small = λ mid answer few h. tt;
-  plain = plain_read_queue s client queue room;
+  plain = search (plains, plain_queue, plain_front) depth 12;
   blind = λ hide hides. after (blind_done hide) (read_out (queues_of s) client queue room) _ _ (λ x _. refl);
-  fares =
-      meets_after (read_out (queues_of s) client queue room) _ (λ taken _.
-      meets_ok (queues_fares s client context (ReadQueue queue room) taken.0 refl));
+  fares = search fares depth 12;
 }
 
 pub close_queue_law : (s : State) (client context : ℕ) (queue : ℕ) → IsLawful s client context (CloseQueue queue)
-unfolding close_queue
+unfolding close_queue closed
 close_queue_law s client context queue = record {
   small = λ mid answer few h. tt;
-  plain = plain_close s client queue;
+  plain = search (plains, plain_queue) depth 12;
   blind = λ hide hides. after (blind_done hide) (closed (queues_of s) client queue) _ _ (λ x _. refl);
-  fares =
-      meets_after (closed (queues_of s) client queue) _ (λ left _.
-      meets_ok (queues_fares s client context (CloseQueue queue) left.0 refl));
+  fares = search fares depth 12;
 }

@@ -31,12 +31,18 @@ abbrev pub accepted : State → Answer → Outcome
 accepted s answer = Ok (s, answer)
 
 -- a change of one key that leaves what is hidden hidden
+pub changed_blind :
+    (hide : Hiding) (s : State) (n : ℕ) (f g : Key → Key)
+    → ((v : Key) → g (blind_key (hide n) v) ≡ blind_key (hide n) (f v))
+    → changed (blind hide s) n g ≡ blind hide (changed s n f)
+changed_blind hide s n f g same = ap (λ (es : Table Key). record s { keys = es }) (alter_blind hide s.keys n f g same)
+
 pub done_changed :
     (hide : Hiding) (s : State) (n : ℕ) (f g : Key → Key) (answer : Answer)
     → ((v : Key) → g (blind_key (hide n) v) ≡ blind_key (hide n) (f v))
     → accepted (changed (blind hide s) n g) answer ≡ over (blind_done hide) (accepted (changed s n f) answer)
 done_changed hide s n f g answer same =
-    ap (λ (es : Table Key). accepted (record s { keys = es }) answer) (alter_blind hide s.keys n f g same)
+    ap (λ (t : State). accepted t answer) (changed_blind hide s n f g same)
 
 pub paid_blind : (h : List ℕ → List ℕ) (payload other : List ℕ) (content : Content) → other ≡ h payload
     → paid_with other (blind_content h content) ≡ blind_content h (paid_with payload content)

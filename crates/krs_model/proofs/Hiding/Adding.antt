@@ -48,7 +48,7 @@ as_it_is (Ok x) = refl
 as_it_is (Err e) = refl
 
 -- the added key goes where it went
-same_place : (hide : Hiding) (s : State) (c : Context) (name : Name) (ring : ℤ)
+pub same_place : (hide : Hiding) (s : State) (c : Context) (name : Name) (ring : ℤ)
     → place_of (blind hide s) c name ring ≡ over (λ place. place) (place_of s c name ring)
 unfolding place_of
 same_place hide s c name ring =

@@ -4,10 +4,10 @@ use Rattle.std.proofs.Common.{ℕ, ℤ}
 use Rattle.krs_types.specs.{Refusing.{◌>>=◌, or_refuse}, Rights.allows, declared.context.Context.Context}
 use Rattle.krs_types.specs.declared.errno.Errno.{Errno, TheVariants.{EACCES, EKEYEXPIRED, EKEYREVOKED, ENOKEY}}
 use Rattle.krs_types.specs.declared.rights.Want.{Want}
-use Rattle.krs_model.specs.{Access.{is_over, rights_on}, Hiding.{blind, blind_content, blind_key, Hiding, over}}
+use Rattle.krs_model.specs.{Access.{is_over, rights_on}, Hiding.{blind, blind_content, blind_key, blind_keys, Hiding, over}}
 use Rattle.krs_model.specs.{Levels.{is_in, levels}, Lookup.{if_usable, look_up, serial_of}}
 use Rattle.krs_model.specs.Possession.{attached, followed, followed_in, is_followed, links_of_content, possessed}
-use Rattle.krs_model.specs.{State.{Content, Key, Links, Payload, State}, Table.at}
+use Rattle.krs_model.specs.{State.{Content, Key, Links, Payload, State}, Table.{at, Table}}
 use Rattle.krs_model.proofs.Hiding.{Keys.{at_blind, seen}, Over.{after, bound, either}}
 
 -- a content links what it did
@@ -55,11 +55,11 @@ same_usable hide s c want n key =
     (either (blind_found hide) (allows want (rights_on key c.caller mine) mine) (Ok (n, key)) (Err EACCES)
     (Ok (n, hidden)) (Err EACCES) refl refl))
 
-pub there_blind : (hide : Hiding) (s : State) (e : Errno) (k : ℕ)
-    → or_refuse e (at (blind hide s).keys k) ≡ over (blind_key (hide k)) (or_refuse e (at s.keys k))
-there_blind hide s e k =
-    ap (or_refuse e) (at_blind hide s.keys k)
-    ∙ (elim (at s.keys k) as (λ (o : Option Key). or_refuse e (option_map (blind_key (hide k)) o)
+pub there_blind : (hide : Hiding) (keys : Table Key) (e : Errno) (k : ℕ)
+    → or_refuse e (at (blind_keys hide keys) k) ≡ over (blind_key (hide k)) (or_refuse e (at keys k))
+there_blind hide keys e k =
+    ap (or_refuse e) (at_blind hide keys k)
+    ∙ (elim (at keys k) as (λ (o : Option Key). or_refuse e (option_map (blind_key (hide k)) o)
     ≡ over (blind_key (hide k)) (or_refuse e o)) [
       | None ↦ refl
       | Some v ↦ refl
@@ -72,6 +72,6 @@ pub look_up_blind :
 unfolding look_up serial_of
 look_up_blind hide s c id want =
     after (blind_found hide) (serial_of s c id) _ _ (λ n _.
-    ap (λ (r : Result Key Errno). r >>= if_usable (blind hide s) c want n) (there_blind hide s ENOKEY n)
+    ap (λ (r : Result Key Errno). r >>= if_usable (blind hide s) c want n) (there_blind hide s.keys ENOKEY n)
     ∙ bound (blind_key (hide n)) (blind_found hide) (or_refuse ENOKEY (at s.keys n)) _ _
     (λ key _. same_usable hide s c want n key))

@@ -14,7 +14,7 @@ use Rattle.krs_model.specs.{Confidentiality.KeepsPrivate, History.IsLegal, Looku
 use Rattle.krs_model.specs.Notes.Posting.{after_note, after_notes, records_for}
 use Rattle.krs_model.specs.{Revocation.Reads, Sound.IsSound, State.{Queue, raised, starting_at, State}}
 use Rattle.krs_model.specs.Step.{Ends, LacksMemory, outcome_of, posts_by, Serves, Step}
-use Rattle.krs_model.specs.Table.{alter, at, IsDistinct, put, Table, without}
+use Rattle.krs_model.specs.Table.{alter, at, IsDistinct, put, Table}
 use Rattle.krs_model.proofs.Asks.Houses.{Alters, Begins, Departs, Detaches, entering, Enters, EntersAs, Execs, Exits}
 use Rattle.krs_model.proofs.Asks.Houses.{Forked, Houses, Named, Rings, Same, StaysWhose, Threads}
 use Rattle.krs_model.proofs.Asks.Later.{bind_ok, same_ok, same_state}
@@ -51,7 +51,7 @@ left_nothing s client = record {
   queues = λ n q there. apart q.client client (passed (λ e. not (e.1.client == client)) s.queues n q there).1;
 }
 
-notes_client : (notes : List Record) (queue : Queue) → (after_notes notes queue).client ≡ queue.client
+pub notes_client : (notes : List Record) (queue : Queue) → (after_notes notes queue).client ≡ queue.client
 notes_client [] queue = refl
 notes_client (note ∷ notes) queue = notes_client notes (after_note note queue)
 
@@ -134,7 +134,8 @@ own_is_client client found c h =
       | false ↦ λ t i. cc
     ] refl h
 
-own_client :
+-- a context that a client may ask in is its own
+pub own_client :
     (s : State) (client number : ℕ) (c : Context) → context_of s client number ≡ Ok c → c.client ≡ client
 unfolding context_of
 own_client s client number c h =
@@ -207,11 +208,11 @@ houses_whence :
     → (m : ℕ) (c : Context) → at contexts m ≡ Some c → Whence s.contexts client op c
 unfolding left
 houses_whence s client context op _ _ _ distinct Same m c there = inr (m, c, there, refl, refl)
-houses_whence s client context op _ _ _ distinct (Begins caller session rings is none) m c there =
+houses_whence s client context op _ _ _ distinct (Begins caller session rings room is none left) m c there =
     named_whence s client op caller session m c is there
-houses_whence s client context op _ _ _ distinct (Enters caller session who) m c there =
+houses_whence s client context op _ _ _ distinct (Enters caller session room who left) m c there =
     enters_whence s client context op caller session m c who there
-houses_whence s client context op _ _ _ distinct (Threads d is own) m c there =
+houses_whence s client context op _ _ _ distinct (Threads d room is own left) m c there =
     ⊎_elim
     (λ (first : without_thread d ≡ c). inr (
       context,
@@ -265,7 +266,7 @@ step_comes old new event sound step m c there =
     ended_comes (raised old event.moment) new event.lane event.ask.context event.ask.op event.reply
     (rises_distinct old.contexts sound.housed.contexts_rise) step m c there
 
-stayed_more :
+pub stayed_more :
     (client : ℕ) (events : List Event) (event : Event) → HasStayed client events
     → (event.lane ≡ client → event.ask.op ≡ Leave → ⊥) → HasStayed client (events ++ event ∷ [])
 stayed_more client [] event h unlike = (unlike, tt)

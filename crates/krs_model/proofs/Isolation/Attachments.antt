@@ -433,7 +433,8 @@ was_unless es k q false x apart h =
     ⊎_elim (λ (same : q ≡ k). absurd (apart refl same)) (λ other. sym (at_without_other es k q other) ∙ h)
     (at_or_apart q k)
 
-process_of_one :
+-- a process has a context
+pub process_of_one :
     (es : Table Context) (p : ℕ)
     → list_any (λ c. c.process == p) (values_of es) ≡ is_in p (attachments own_process es)
 process_of_one [] p = refl

@@ -3,7 +3,7 @@ use Rattle.std.proofs.Common.{[], ⊎_elim, ◌&&◌, ◌+◌, ◌==◌, ◌||�
 use Rattle.std.proofs.Common.{false, inr, IsSome, leb-true, length, List, nat_le, nat_lt, None, Ok, Option, refl}
 use Rattle.std.proofs.Common.{Result, Some, subst, sym, true, true≢false, ℕ, ℤ}
 use Rattle.std.proofs.lemmas.{Bool.Decides.nat_tests, Option.same_Some}
-use Rattle.krs_types.specs.{Caller.caller_check, KeyId.key_id_of, Perm.{group_byte, other_byte}, Rights.{SEARCH, WRITE}}
+use Rattle.krs_types.specs.{KeyId.key_id_of, Perm.{group_byte, other_byte}, Rights.{WRITE}}
 use Rattle.krs_types.specs.declared.ask.Answer.{Answer}
 use Rattle.krs_types.specs.declared.{ask.Op.{Op, TheVariants.{Add, GetId, Hello, Join}}, caller.Caller.Caller}
 use Rattle.krs_types.specs.declared.{context.{Context.Context, UidRings.UidRings}, errno.Errno.Errno, event.Event.Event}
@@ -11,8 +11,8 @@ use Rattle.krs_types.specs.declared.{key_id.KeyId.KeyId, kind.Kind.{Kind, TheVar
 use Rattle.krs_types.specs.declared.{name.Name.Name, rights.Want.TheVariants.Granted}
 use Rattle.krs_model.specs.Asks.Adding.{add, added, admitted, first_perm, Made, new_key, Place, place_of, Updated}
 use Rattle.krs_model.specs.Asks.{Changing.updated, Finding.{get_id, made_where}}
-use Rattle.krs_model.specs.Asks.Hello.{has_context_left, has_numbers, hello, uid_ring, with_uid}
-use Rattle.krs_model.specs.Asks.Joining.{join, joinable, session_joined, session_named, session_ring}
+use Rattle.krs_model.specs.Asks.Hello.{hello, uid_ring, with_uid}
+use Rattle.krs_model.specs.Asks.Joining.{join, session_joined, session_ring}
 use Rattle.krs_model.specs.Confidentiality.{ActsAs, AreEnclosed, HasToItself, is_own, IsFor, IsGivenAway, IsWithin}
 use Rattle.krs_model.specs.{Confidentiality.{MakesForItself, may_make, with_made}, Levels.is_in}
 use Rattle.krs_model.specs.{Linking.{is_named, link_named, ring_links}, Lookup.{context_of, look_up, serial_of}}
@@ -67,15 +67,14 @@ put_own uid set es n key private own alone = record {
       (λ same. alone.linked j k m (subst (LinksTo k) same i)) (at_put es n j key);
 }
 
-made_own :
+pub made_own :
     (uid : ℕ) (key : Key) → key.uid ≡ uid → group_byte key.perm ≡ 0 → other_byte key.perm ≡ 0 → is_own uid key ≡ true
 made_own uid key own group other = grind (arith, nat_tests)
 
-first_own :
-    (uid : ℕ) (kind : Kind) → (group_byte (first_perm kind) ≡ 0) × (other_byte (first_perm kind) ≡ 0)
-first_own uid User = (refl, refl)
-first_own uid Logon = (refl, refl)
-first_own uid Keyring = (refl, refl)
+pub first_own : (kind : Kind) → (group_byte (first_perm kind) ≡ 0) × (other_byte (first_perm kind) ≡ 0)
+first_own User = (refl, refl)
+first_own Logon = (refl, refl)
+first_own Keyring = (refl, refl)
 
 -- these keys are the uid's own, and linked among themselves
 abbrev Encloses : ℕ → (ℕ → Bool) → State → Type 0
@@ -114,15 +113,13 @@ where_own :
 where_own uid set true s number c id next own alone = made_for_own uid set s number c id next own alone
 where_own uid set false s number c id next own alone = alone
 
+ruleset keeping = (meets_after, meets_within, meets_ok, same_owner)
+
 get_id_keeps :
     (uid : ℕ) (set : ℕ → Bool) (s : State) (client context : ℕ) (id : ℤ) (create : Bool) → ActsAs uid s client context
     → set s.next_serial ≡ true → AreEnclosed uid set s.keys → Meets (Encloses uid set) (get_id s client context id create)
 unfolding get_id
-get_id_keeps uid set s client context id create ask next alone =
-    meets_after (context_of s client context) _ (λ c own.
-    let made = made_where create s context c id in
-    let still = where_own uid set create s context c id next (same_owner uid s client context c ask own) alone in
-    meets_within s _ (meets_after (look_up made.0 made.1 id (Granted SEARCH)) _ (λ key _. meets_ok still)))
+get_id_keeps uid set s client context id create ask next alone = search (keeping, where_own) depth 12
 
 session_own : (uid : ℕ) (name : List ℕ) (c : Caller) → c.uid ≡ uid → is_own uid (session_ring name c) ≡ true
 session_own uid name c own =
@@ -145,11 +142,7 @@ join_keeps :
     (uid : ℕ) (set : ℕ → Bool) (s : State) (client context : ℕ) (name : List ℕ) → ActsAs uid s client context
     → set s.next_serial ≡ true → AreEnclosed uid set s.keys → Meets (Encloses uid set) (join s client context name)
 unfolding join
-join_keeps uid set s client context name ask next alone =
-    meets_after (context_of s client context) _ (λ c own.
-    meets_after (session_named name) _ (λ fit _.
-    meets_within s _ (joined_keeps uid set s context c name (joinable s c.caller name) next
-    (same_owner uid s client context c ask own) alone)))
+join_keeps uid set s client context name ask next alone = search (joined_keeps, keeping) depth 12
 
 uid_keeps :
     (uid : ℕ) (set : ℕ → Bool) (s : State) (c : Caller) (rings : Option UidRings) → set s.next_serial ≡ true
@@ -167,12 +160,7 @@ hello_keeps :
     (uid : ℕ) (set : ℕ → Bool) (s : State) (client : ℕ) (c : Caller) → c.uid ≡ uid → set s.next_serial ≡ true
     → set (s.next_serial + 1) ≡ true → AreEnclosed uid set s.keys → Meets (Encloses uid set) (hello s client c)
 unfolding hello
-hello_keeps uid set s client c own here next alone =
-    let rings = at s.uids c.uid in
-    meets_after (caller_check c) _ (λ known _.
-    meets_after (has_context_left s client) _ (λ room _.
-    meets_after (has_numbers s rings) _ (λ numbers _.
-    meets_ok (uid_keeps uid set s c rings here next own alone))))
+hello_keeps uid set s client c own here next alone = search (keeping, uid_keeps) depth 12
 
 -- where a key is made, it is in the keyring that the id names
 made_named :
@@ -196,7 +184,7 @@ added_keeps uid set s c name payload id (Updated serial) is within next own alon
 added_keeps uid set s c name payload id (Made ring) is within next own alone =
     let n = s.next_serial in
     let key = new_key name payload c.caller.uid c.caller.gid in
-    let rights = first_own uid name.kind in
+    let rights = first_own name.kind in
     let displaced : ℕ → Bool = λ k. is_named name (at s.keys k) in
     let private : set ring ≡ true = within ring (made_named s c name id ring is) in
     let keeps : KeepsOwn uid set ring (with_linked displaced n) = record {

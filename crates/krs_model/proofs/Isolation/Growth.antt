@@ -118,13 +118,16 @@ acts_leave :
     → AreUnattached uid private s → AreUnattached uid private new
 acts_leave uid private s new client context op _ _ _ sound may other acts a b d Same alone =
     same_unattached uid private s new a b d alone
-acts_leave uid private s new client context op _ _ _ sound may other acts a b d (Begins c session rings is none) alone =
+acts_leave uid private s new client context op _ _ _ sound may other acts a b d
+    (Begins c session rings room is none left) alone =
     absurd (true≢false (sym (ap is_hello is) ∙ other))
-acts_leave uid private s new client context op _ _ _ sound may other acts a b d (Enters _ _ (Named c rings is known)) alone =
+acts_leave uid private s new client context op _ _ _ sound may other acts a b d
+    (Enters _ _ _ (Named c rings is known) _) alone =
     absurd (true≢false (sym (ap is_hello is) ∙ other))
-acts_leave uid private s new client context op _ _ _ sound may other acts a b d (Enters _ _ (Forked c is own)) alone =
+acts_leave uid private s new client context op _ _ _ sound may other acts a b d
+    (Enters _ _ _ (Forked c is own) _) alone =
     absurd (true≢false (sym may ∙ ap may_make is))
-acts_leave uid private s new client context op _ _ _ sound may other acts a b d (Threads c is own) alone =
+acts_leave uid private s new client context op _ _ _ sound may other acts a b d (Threads c room is own left) alone =
     absurd (true≢false (sym may ∙ ap may_make is))
 acts_leave uid private s new client context op _ _ _ sound may other acts a b d (Alters c f own stays) alone =
     let owner = ap (λ (z : Caller). z.uid) (stays.caller c) ∙ same_owner uid s client context c acts own in

@@ -108,7 +108,7 @@ linked_guarded uid private P s into found new apart linked alone =
     } in
     subst (Guarded uid private P) is.is (changed_guarded uid private P s into.0 f keeps alone)
 
-linkable_grants :
+pub linkable_grants :
     (s : State) (c : Context) (serial : ℕ) (key : Key) (found : ℕ × Key) → if_linkable s c serial key ≡ Ok found
     → has_all (rights_on key c.caller (possessed s c serial)) LINK ≡ true
 linkable_grants s c serial key found h =

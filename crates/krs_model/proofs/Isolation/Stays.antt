@@ -175,7 +175,7 @@ houses_stay uid private s client context op _ _ _ sound alone outside Same = rec
   by_process = λ p k m there. there;
   by_uid = λ v k rings m there i. entry s.uids _ v rings there i;
 }
-houses_stay uid private s client context op _ _ _ sound alone outside (Begins c session rings is none) =
+houses_stay uid private s client context op _ _ _ sound alone outside (Begins c session rings room is none left) =
     let n = s.next_context in record {
       by_context = λ q k d m there i.
           entry _ _ q d (put_stays s.contexts n q _ d (sound.housed.unused n (omega arith)) there) i;
@@ -183,7 +183,7 @@ houses_stay uid private s client context op _ _ _ sound alone outside (Begins c 
           put_stays s.processes n p None (Some k) (sound.housed.no_process n (omega arith)) there;
       by_uid = λ v k were m there i. entry _ _ v were (put_stays s.uids c.uid v rings were none there) i;
     }
-houses_stay uid private s client context op _ _ _ sound alone outside (Enters c session who) =
+houses_stay uid private s client context op _ _ _ sound alone outside (Enters c session room who left) =
     let n = s.next_context in record {
       by_context = λ q k d m there i.
           entry _ _ q d (put_stays s.contexts n q _ d (sound.housed.unused n (omega arith)) there) i;
@@ -191,7 +191,7 @@ houses_stay uid private s client context op _ _ _ sound alone outside (Enters c 
           put_stays s.processes n p None (Some k) (sound.housed.no_process n (omega arith)) there;
       by_uid = λ v k rings m there i. entry s.uids _ v rings there i;
     }
-houses_stay uid private s client context op _ _ _ sound alone outside (Threads c is own) = record {
+houses_stay uid private s client context op _ _ _ sound alone outside (Threads c room is own left) = record {
   by_context = λ q k d m there i. entry _ _ q d
       (put_stays s.contexts s.next_context q _ d (sound.housed.unused s.next_context (omega arith)) there) i;
   by_process = λ p k m there. there;

@@ -4,7 +4,6 @@ use Rattle.std.proofs.Common.{⊎_elim, ◌∙◌, ◌≡◌, ◌⊎◌, Bool, c
 use Rattle.krs_types.specs.{KeyId.key_id_of, Rights.{SEARCH, WRITE}, declared.ask.Op.Op}
 use Rattle.krs_types.specs.declared.{ask.Op.TheVariants.Invalidate, context.Context.Context, errno.Errno.Errno}
 use Rattle.krs_types.specs.declared.{key_id.KeyId.KeyId, rights.Want.TheVariants.Granted}
-use Rattle.krs_model.specs.Asks.Leaving.{left}
 use Rattle.krs_model.specs.{Asks.Linked.{linked_into, name_of, without_link}, Confidentiality.HasToItself}
 use Rattle.krs_model.specs.{Linking.is_named, Lookup.{context_of, look_up}, Making.{made_for, special_ring}}
 use Rattle.krs_model.specs.{Search.found, State.{Key, State}, Table.{alter, at, map_values, put, Table}}

@@ -270,7 +270,7 @@ pub houses_in_use :
     (uids : Table UidRings) → Stands s → AreInUse s.contexts s.processes s.uids
     → Houses s client context op contexts processes uids → AreInUse contexts processes uids
 houses_in_use s client context op _ _ _ stands used Same = used
-houses_in_use s client context op _ _ _ stands used (Begins c session rings is none) =
+houses_in_use s client context op _ _ _ stands used (Begins c session rings room is none left) =
     let new = entering s client c session in
     let n = s.next_context in
     let unused = stands.housed.unused n (omega arith) in
@@ -285,7 +285,7 @@ houses_in_use s client context op _ _ _ stands used (Begins c session rings is n
           (at_put s.uids c.uid uid rings);
       alike = entering_alike s client c session stands used;
     }
-houses_in_use s client context op _ _ _ stands used (Enters c session who) =
+houses_in_use s client context op _ _ _ stands used (Enters c session room who left) =
     let new = entering s client c session in
     let n = s.next_context in
     let unused = stands.housed.unused n (omega arith) in
@@ -297,7 +297,7 @@ houses_in_use s client context op _ _ _ stands used (Enters c session who) =
       owner = λ uid there. still_put s.contexts n new (λ v. v.caller.uid ≡ uid) unused (used.owner uid there);
       alike = entering_alike s client c session stands used;
     }
-houses_in_use s client context op _ _ _ stands used (Threads c by own) =
+houses_in_use s client context op _ _ _ stands used (Threads c room by own left) =
     let new = without_thread c in
     let n = s.next_context in
     let unused = stands.housed.unused n (omega arith) in
