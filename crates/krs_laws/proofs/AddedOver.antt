@@ -1,61 +1,25 @@
 -- What ADD overwrote leaves no trace.
-use Rattle.std.proofs.Common.{◌&&◌, ◌+◌, ◌<◌, ◌∙◌, ◌≡◌, ◌≤◌, ap, arith, Bool, codes, cond, Err, false, List, nat_le}
-use Rattle.std.proofs.Common.{None, Ok, Option, refl, Result, Some, subst, sym, true, ℕ, ℤ}
+use Rattle.std.proofs.Common.{◌+◌, ◌<◌, ◌∙◌, ◌≡◌, ◌≤◌, ap, arith, Bool, codes, cond, false, List, nat_le}
+use Rattle.std.proofs.Common.{None, Ok, refl, Result, Some, subst, sym, true, ℕ, ℤ}
 use Rattle.std.proofs.lemmas.{Bool.Decides.nat_tests, Option.none-some}
-use Rattle.krs_types.specs.{KeyId.key_id_of, Rights.{has_all, WRITE}, declared.ask.Answer.Answer}
+use Rattle.krs_types.specs.{KeyId.key_id_of, declared.ask.Answer.Answer}
 use Rattle.krs_types.specs.declared.{ask.{Answer.TheVariants.Number, Op.{Op, TheVariants.Add}}, context.Context.Context}
-use Rattle.krs_types.specs.declared.{errno.Errno.{Errno, TheVariants.EACCES}, key_id.KeyId.KeyId, name.Name.Name}
+use Rattle.krs_types.specs.declared.{errno.Errno.{Errno}, key_id.KeyId.KeyId, name.Name.Name}
 use Rattle.krs_types.specs.declared.note.KeyEvent.TheVariants.{Linked, Updated as UpdatedNote}
-use Rattle.krs_types.specs.declared.rights.Want.TheVariants.{Granted}
-use Rattle.krs_model.specs.Access.{is_alive, rights_on}
-use Rattle.krs_model.specs.Asks.Adding.{add, added, added_in, added_serial, admitted, by_match, if_room, Made}
-use Rattle.krs_model.specs.Asks.{Adding.{over_match, Place, place_of, Updated}, Changing.is_updatable}
-use Rattle.krs_model.specs.{Hiding.{blind, blind_content, blind_keys, Hiding, over}, Linking.{link_named, ring_links}}
-use Rattle.krs_model.specs.{Lookup.{context_of, look_up, serial_of}, Making.{made_for, special_ring}}
+use Rattle.krs_model.specs.Asks.Adding.{add, added, added_in, added_serial, admitted, Made}
+use Rattle.krs_model.specs.Asks.{Adding.{Place, place_of, Updated}}
+use Rattle.krs_model.specs.{Hiding.{blind, Hiding, over}}
+use Rattle.krs_model.specs.{Lookup.{context_of, serial_of}, Making.{made_for, special_ring}}
 use Rattle.krs_model.specs.{Notes.Telling.{about, about_link, named}, Outcome.Outcome, Secrecy.HidesOnly}
 use Rattle.krs_model.specs.{State.{Key, raised, State}, Step.{Ends, Step}, Table.{at, IsBelow, IsDistinct, put, Table}}
 use Rattle.krs_model.proofs.Asks.Later.{bind_ok, same_ok}
-use Rattle.krs_model.proofs.Hiding.{Keys.seen, Links.{made_blind, same_link_named, same_ring_links}}
-use Rattle.krs_model.proofs.Hiding.{Lookups.{blind_found, look_up_blind, same_possessed}, Sweeps.same_there}
+use Rattle.krs_model.proofs.Hiding.{Links.{made_blind}}
+use Rattle.krs_model.proofs.Hiding.{Sweeps.same_there}
 use Rattle.krs_model.proofs.MadeKeyring.Which.{IsMade, made_for_is, NoneMade, ProcessMade, ThreadMade}
 use Rattle.krs_model.proofs.Tables.{Distinct.put_distinct, Entries.rises_distinct}
 use Rattle.krs_laws.specs.Overwritten.{AddsForget}
 use Rattle.krs_laws.proofs.Overwriting.{AsksAlike, served_same, then_ok, updated_keys}
-
--- ---- where an added key goes
-
-over_same :
-    (hide : Hiding) (s : State) (c : Context) (ring : ℕ × Key) (links : List ℕ) (found : ℕ) (o : Option Key)
-    → over_match (blind hide s) c (blind_found hide ring) links found o ≡ over_match s c ring links found o
-over_same hide s c ring links found None = refl
-over_same hide s c ring links found (Some key) = λ i.
-    cond (is_alive s.clock key && is_updatable key.kind)
-    (cond (has_all (rights_on key c.caller (same_possessed hide s c found i)) WRITE) (Ok (Updated found)) (Err EACCES))
-    (if_room s ring links (Some found))
-
-match_same :
-    (hide : Hiding) (s : State) (c : Context) (ring : ℕ × Key) (links : List ℕ) (match : Option ℕ)
-    → by_match (blind hide s) c (blind_found hide ring) links match ≡ by_match s c ring links match
-match_same hide s c ring links None = refl
-match_same hide s c ring links (Some found) =
-    over_same hide s c ring links found (at (blind_keys hide s.keys) found)
-    ∙ seen hide s.keys (over_match s c ring links found) found (λ v. refl)
-
--- it goes there, whatever is hidden
-place_same :
-    (hide : Hiding) (s : State) (c : Context) (name : Name) (ring : ℤ) (place : Place)
-    → place_of s c name ring ≡ Ok place → place_of (blind hide s) c name ring ≡ Ok place
-unfolding place_of
-place_same hide s c name ring place h =
-    let a = bind_ok (look_up s c ring (Granted WRITE)) _ place h in
-    let found = a.0 in
-    let b = bind_ok (ring_links found.1.content) _ place a.2 in
-    then_ok (look_up (blind hide s) c ring (Granted WRITE)) _ (blind_found hide found) place
-    (look_up_blind hide s c ring (Granted WRITE) ∙ ap (over (blind_found hide)) a.1)
-    (then_ok (ring_links (blind_content (hide found.0) found.1.content)) _ b.0 place
-    (same_ring_links (hide found.0) found.1.content ∙ b.1)
-    (match_same hide s c found b.0 (link_named (blind hide s).keys name b.0)
-    ∙ (ap (by_match s c found b.0) (same_link_named hide s.keys name b.0) ∙ b.2)))
+use Rattle.krs_model.proofs.Hiding.Adding.{same_place}
 
 -- ---- the state that it meets, with a keyring made where it wants one
 
@@ -124,7 +88,7 @@ add_same hide s client context type_name desc payload ring serial mid below abov
     (then_ok (admitted type_name desc payload) _ b.0 end b.1
     (ap (λ (x : State × Context). added_in x.0 x.1 b.0 payload ring) (made_blind hide s context a.0 ring)
     ∙ then_ok (place_of (blind hide made.0) made.1 b.0 ring) _ d.0 end
-    (place_same hide made.0 made.1 b.0 ring d.0 d.1)
+    (same_place hide made.0 made.1 b.0 ring ∙ ap (over (λ (p : Place). p)) d.1)
     (ap (λ (x : State × Answer). Ok x) (added_same hide made.0 made.1 b.0 payload serial d.0 in_made only is) ∙ d.2)))
 
 add_alike :

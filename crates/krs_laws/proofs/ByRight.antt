@@ -3,31 +3,31 @@ use Rattle.std.proofs.Common.{[], ⊎_elim, ◌&&◌, ◌+◌, ◌==◌, ◌||�
 use Rattle.std.proofs.Common.{false, filter, inl, inr, IsSome, length, List, nat_lt, None, Ok, Option, option_map, refl}
 use Rattle.std.proofs.Common.{Result, Some, subst, sym, true, true≢false, ℕ, ℤ}
 use Rattle.std.proofs.lemmas.{Bool.Decides.nat_tests, Option.{none-some, same_Some}}
-use Rattle.krs_types.specs.{Caller.{caller_check, is_of_group}, Growth.has_destination, Kind.paid, Perm.perm_of}
-use Rattle.krs_types.specs.{Refusing.or_refuse, Rights.{LINK, SEARCH, SETATTR, VIEW, WRITE}, declared.ask.Answer.Answer}
+use Rattle.krs_types.specs.{Caller.{is_of_group}, Growth.has_destination, Perm.perm_of}
+use Rattle.krs_types.specs.{Rights.{LINK, SEARCH, SETATTR, WRITE}, declared.ask.Answer.Answer}
 use Rattle.krs_types.specs.declared.ask.Op.{Op, TheVariants.{Add, Chown, Clear, CloseQueue, Describe, Exec, Exit, Fork}}
 use Rattle.krs_types.specs.declared.ask.Op.TheVariants.{GetId, Hello, Invalidate, Join, Leave, Link, Move, OpenQueue}
 use Rattle.krs_types.specs.declared.ask.Op.TheVariants.{Read, ReadQueue, Request, RestrictKeyring, Revoke, Search}
 use Rattle.krs_types.specs.declared.ask.Op.TheVariants.{SetFilter, SetPerm, SetTimeout, Thread, Unlink, Update, Watch}
 use Rattle.krs_types.specs.declared.caller.Caller.{Caller}
 use Rattle.krs_types.specs.declared.{context.{Context.Context, UidRings.UidRings}, errno.Errno.Errno}
-use Rattle.krs_types.specs.declared.{errno.Errno.TheVariants.{EACCES, EEXIST, EINVAL, ENOKEY}, event.Event.Event}
-use Rattle.krs_types.specs.declared.{note.FilterEntry.FilterEntry, rights.Want.TheVariants.{Either, Granted, ToRead}}
+use Rattle.krs_types.specs.declared.{errno.Errno.TheVariants.{EACCES, EINVAL}, event.Event.Event}
+use Rattle.krs_types.specs.declared.{rights.Want.TheVariants.{Either, Granted}}
 use Rattle.krs_model.specs.Asks.Adding.{add, admitted, place_of}
-use Rattle.krs_model.specs.Asks.Changing.{chown, emptied, expiry_after, if_may_own, if_owner, may_own, or_left, revoke}
-use Rattle.krs_model.specs.Asks.Changing.{revoked, set_perm, set_timeout, updatable, update, with_expiry, with_owner}
-use Rattle.krs_model.specs.Asks.{Changing.with_perm, Entering.{exec, fork, if_context_number, thread}}
+use Rattle.krs_model.specs.Asks.Changing.{chown, emptied, if_may_own, if_owner, may_own, or_left, revoke}
+use Rattle.krs_model.specs.Asks.Changing.{revoked, set_perm, set_timeout, update, with_expiry, with_owner}
+use Rattle.krs_model.specs.Asks.{Changing.with_perm, Entering.{exec, fork, thread}}
 use Rattle.krs_model.specs.Asks.Finding.{get_id, made_where, request, search_from, sought_name}
-use Rattle.krs_model.specs.Asks.Hello.{has_context_left, has_numbers, hello, uid_ring, with_uid}
+use Rattle.krs_model.specs.Asks.Hello.{hello, uid_ring, with_uid}
 use Rattle.krs_model.specs.Asks.Invalidating.{invalidate}
-use Rattle.krs_model.specs.Asks.Joining.{join, joinable, session_joined, session_named, session_ring}
-use Rattle.krs_model.specs.Asks.{Leaving.{exit, left}, Linked.{clear, cleared_content, if_linked, link, linked_into}}
+use Rattle.krs_model.specs.Asks.Joining.{join, session_joined, session_ring}
+use Rattle.krs_model.specs.Asks.{Leaving.{exit, left}, Linked.{clear, cleared_content, link, linked_into}}
 use Rattle.krs_model.specs.Asks.{Linked.{unless, unlink, without_link}, Moving.{move_link, moved}}
-use Rattle.krs_model.specs.Asks.{Reading.{describe, read}, Restricting.{no_type, restrict_keyring, restricted}}
-use Rattle.krs_model.specs.Asks.Watching.{close_queue, closed, filtered, open_queue, opened, read_out, read_queue}
-use Rattle.krs_model.specs.{Asks.Watching.{set_filter, watch, watch_id_of, with_watching}, Levels.is_in}
-use Rattle.krs_model.specs.{Linking.ring_links, Lookup.{context_of, look_up, serial_of}, Making.{made_for, own_ring}}
-use Rattle.krs_model.specs.{Possession.links_of_content, Queues.queues_of, Search.{found, requested}, Sound.IsSound}
+use Rattle.krs_model.specs.Asks.{Reading.{describe, read}, Restricting.{restrict_keyring, restricted}}
+use Rattle.krs_model.specs.Asks.Watching.{close_queue, open_queue, read_queue}
+use Rattle.krs_model.specs.{Asks.Watching.{set_filter, watch}, Levels.is_in}
+use Rattle.krs_model.specs.{Linking.ring_links, Lookup.{context_of, look_up}, Making.{made_for, own_ring}}
+use Rattle.krs_model.specs.{Possession.links_of_content, Search.{found, requested}, Sound.IsSound}
 use Rattle.krs_model.specs.{State.{Content, Key, Links, Payload, raised, State}, Step.{Ends, outcome_of, Serves, Step}}
 use Rattle.krs_model.specs.{Sweep.{Attached, IsHeld, Linked, PicksHeld, roots}, Table.{at, map_values, put, Table}}
 use Rattle.krs_model.proofs.Asks.{Fares.meets_by, LaterByAsk.moved_is, Laws.law_of}
@@ -41,9 +41,10 @@ use Rattle.krs_laws.specs.Integrity.{AllChangesAreByRight, AsksAs, ChangesByRigh
 use Rattle.krs_laws.specs.Integrity.{IsMadeBy, Kept, Unlinked}
 use Rattle.krs_laws.proofs.Rightly.{linkable_made, mapped_is, right_found, right_made, Rightly, rightly_changed}
 use Rattle.krs_laws.proofs.Rightly.{rightly_put, rightly_same, rightly_written}
-use Rattle.krs_laws.proofs.RightlyAsked.{added_rightly, found_rightly, linked_rightly, links_nothing, made_own}
+use Rattle.krs_laws.proofs.RightlyAsked.{added_rightly, found_rightly, linked_rightly, links_nothing}
+use Rattle.krs_model.proofs.Isolation.Births.{made_own}
 use Rattle.krs_laws.proofs.RightlyAsked.{made_rightly, moved_rightly, ring_made, unlinked_rightly, updated_then}
-use Rattle.krs_model.specs.Asks.Reading as reading
+use Rattle.krs_laws.proofs.KeyLimits.{both}
 
 -- by right, where the store stands
 abbrev ByRight : State → ℕ → ℕ → Op → State → Type 0
@@ -172,10 +173,6 @@ left_or_own caller gid there h =
     ])
     (true_or (or_left gid there == there) (is_of_group caller gid) h)
 
-both : (a b : Bool) → (a && b) ≡ true → (a ≡ true) × (b ≡ true)
-both true b h = (refl, h)
-both false b h = absurd (true≢false (sym h))
-
 may_own_so :
     (caller : Caller) (uid gid : ℕ) (key : Key) → may_own caller uid gid key ≡ true → OwnsSo caller uid gid key
 may_own_so caller uid gid key h =
@@ -194,115 +191,48 @@ may_own_is caller uid gid key x h =
       | false ↦ λ t e. cc
     ] refl h
 
+abbrev GivenSo : State → ℕ → ℕ → ℕ → ℕ → Key → Type 0
+GivenSo s client context n gid v =
+    (or_left gid v.gid ≡ v.gid)
+    ⊎ ((given : HasRight s client context (Granted SETATTR) n)
+    × ((given.whose.caller.uid ≡ 0) ⊎ (is_of_group given.whose.caller (or_left gid v.gid) ≡ true)))
+
 given_by_right :
     (s : State) (client context : ℕ) (n uid gid : ℕ) (v : Key) (right : HasRight s client context (Granted SETATTR) n)
     → OwnsSo right.whose.caller uid gid v → IsByRight s client context n v (with_owner uid gid v)
-given_by_right s client context n uid gid v right (inl root) = record {
-  kind = refl;
-  desc = refl;
-  joined = refl;
-  content = Kept refl;
-  uid = inr (right, root);
-  gid = inr (right, inl root);
-  perm = inl refl;
-  expiry = inl refl;
-  revoked = inl refl;
-  closed = inl refl;
-}
-given_by_right s client context n uid gid v right (inr kept) = record {
-  kind = refl;
-  desc = refl;
-  joined = refl;
-  content = Kept refl;
-  uid = inl kept.0;
-  gid = ⊎_elim (λ (e : or_left gid v.gid ≡ v.gid). inl e)
-      (λ (member : is_of_group right.whose.caller (or_left gid v.gid) ≡ true). inr (right, inr member)) kept.1;
-  perm = inl refl;
-  expiry = inl refl;
-  revoked = inl refl;
-  closed = inl refl;
-}
+given_by_right s client context n uid gid v right (inl root) =
+    let so : GivenSo s client context n gid v = inr (right, inl root) in search (Kept, inl, inr)
+given_by_right s client context n uid gid v right (inr kept) =
+    let so : GivenSo s client context n gid v =
+    ⊎_elim (λ (e : or_left gid v.gid ≡ v.gid). inl e)
+    (λ (member : is_of_group right.whose.caller (or_left gid v.gid) ≡ true). inr (right, inr member)) kept.1 in
+    search (Kept, inl, inr)
 
 masked_by_right :
     (s : State) (client context n perm : ℕ) (v : Key) (right : HasRight s client context (Granted SETATTR) n)
     → (right.whose.caller.uid ≡ 0) ⊎ (right.whose.caller.uid ≡ v.uid)
     → IsByRight s client context n v (with_perm perm v)
-masked_by_right s client context n perm v right own = record {
-  kind = refl;
-  desc = refl;
-  joined = refl;
-  content = Kept refl;
-  uid = inl refl;
-  gid = inl refl;
-  perm = inr (right, own);
-  expiry = inl refl;
-  revoked = inl refl;
-  closed = inl refl;
-}
+masked_by_right s client context n perm v right own = search (Kept, inl, inr)
 
 timed_by_right :
     (s : State) (client context n : ℕ) (expiry : Option ℕ) (v : Key) → HasRight s client context (Granted SETATTR) n
     → IsByRight s client context n v (with_expiry expiry v)
-timed_by_right s client context n expiry v right = record {
-  kind = refl;
-  desc = refl;
-  joined = refl;
-  content = Kept refl;
-  uid = inl refl;
-  gid = inl refl;
-  perm = inl refl;
-  expiry = inr (inl right);
-  revoked = inl refl;
-  closed = inl refl;
-}
+timed_by_right s client context n expiry v right = search (Kept, inl, inr)
 
 revoked_by_right :
     (s : State) (client context n : ℕ) (v : Key) → HasRight s client context (Either WRITE SETATTR) n
     → IsByRight s client context n v (revoked v)
-revoked_by_right s client context n v right = record {
-  kind = refl;
-  desc = refl;
-  joined = refl;
-  content = Emptied right refl;
-  uid = inl refl;
-  gid = inl refl;
-  perm = inl refl;
-  expiry = inl refl;
-  revoked = inr (refl, right);
-  closed = inl refl;
-}
+revoked_by_right s client context n v right = search (Emptied, inl, inr)
 
 closed_by_right :
     (s : State) (client context n : ℕ) (v : Key) → HasRight s client context (Granted SETATTR) n
     → IsByRight s client context n v (restricted v)
-closed_by_right s client context n v right = record {
-  kind = refl;
-  desc = refl;
-  joined = refl;
-  content = Kept refl;
-  uid = inl refl;
-  gid = inl refl;
-  perm = inl refl;
-  expiry = inl refl;
-  revoked = inl refl;
-  closed = inr (refl, right);
-}
+closed_by_right s client context n v right = search (Kept, inl, inr)
 
 unlinked_by_right :
     (s : State) (client context n gone : ℕ) (v : Key) → HasRight s client context (Granted SEARCH) gone
     → IsByRight s client context n v (without_link gone v)
-unlinked_by_right s client context n gone v right = record {
-  kind = refl;
-  desc = refl;
-  joined = refl;
-  content = Unlinked gone right refl;
-  uid = inl refl;
-  gid = inl refl;
-  perm = inl refl;
-  expiry = inl refl;
-  revoked = inl refl;
-  closed = inl refl;
-}
+unlinked_by_right s client context n gone v right = search (Unlinked, inl)
 
 mapped_none : (f : Key → Key) (o : Option Key) (key : Key) → o ≡ None → option_map f o ≡ Some key → ⊥
 mapped_none f None key none h = none-some key h
@@ -330,26 +260,6 @@ detached_rightly s client context op gone right = record {
 -- the whole of it, ask by ask: a further ask has a line here
 abbrev Comes : State → ℕ → ℕ → Op → Type 0
 Comes s client context op = Meets (ByRight s client context op) (outcome_of s client context op)
-
-update_rightly : (s : State) (client context : ℕ) (id : ℤ) (payload : List ℕ) → Comes s client context (Update id payload)
-unfolding update
-update_rightly s client context id payload =
-    meets_after (context_of s client context) _ (λ c own.
-    meets_after (look_up s c id (Granted WRITE)) _ (λ there is.
-    meets_after (updatable there.1.kind) _ (λ kind _.
-    meets_after (paid kind payload) _ (λ fit _.
-    meets_ok (updated_then s client context _ s.keys there.0 payload
-    (λ old _. right_found s client context c id (Granted WRITE) there own is) (rightly_same s client context _))))))
-
-revoke_rightly : (s : State) (client context : ℕ) (id : ℤ) → Comes s client context (Revoke id)
-unfolding revoke
-revoke_rightly s client context id =
-    meets_after (context_of s client context) _ (λ c own.
-    meets_after (look_up s c id (Either WRITE SETATTR)) _ (λ there is.
-    meets_ok (rightly_changed s client context _ there.0 revoked
-    (λ v _. revoked_by_right s client context there.0 v
-    (right_found s client context c id (Either WRITE SETATTR) there own is))
-    (λ j v i. emptied_links v.content j i))))
 
 chown_rightly : (s : State) (client context : ℕ) (id : ℤ) (uid gid : ℕ) → Comes s client context (Chown id uid gid)
 unfolding chown
@@ -380,45 +290,6 @@ set_perm_rightly s client context id mask =
     (owner_is c.caller there.1 x allowed)))
     (λ j v i. i))))))
 
-set_timeout_rightly :
-    (s : State) (client context : ℕ) (id : ℤ) (seconds : ℕ) → Comes s client context (SetTimeout id seconds)
-unfolding set_timeout
-set_timeout_rightly s client context id seconds =
-    meets_after (context_of s client context) _ (λ c own.
-    meets_after (look_up s c id (Granted SETATTR)) _ (λ there is.
-    let expiry = expiry_after s.clock seconds in
-    meets_ok (rightly_changed s client context _ there.0 (with_expiry expiry)
-    (λ v _. timed_by_right s client context there.0 expiry v
-    (right_found s client context c id (Granted SETATTR) there own is))
-    (λ j v i. i))))
-
-restrict_rightly :
-    (s : State) (client context : ℕ) (ring : ℤ) (type_name : List ℕ)
-    → Comes s client context (RestrictKeyring ring type_name)
-unfolding restrict_keyring
-restrict_rightly s client context ring type_name =
-    meets_after (context_of s client context) _ (λ c own.
-    meets_after (no_type type_name) _ (λ untyped _.
-    meets_after (look_up s c ring (Granted SETATTR)) _ (λ there is.
-    meets_after (ring_links there.1.content) _ (λ links _.
-    meets_after (unless there.1.closed EEXIST) _ (λ unclosed _.
-    meets_ok (rightly_changed s client context _ there.0 restricted
-    (λ v _. closed_by_right s client context there.0 v
-    (right_found s client context c ring (Granted SETATTR) there own is))
-    (λ j v i. i)))))))
-
-unlink_rightly : (s : State) (client context : ℕ) (key ring : ℤ) → Comes s client context (Unlink key ring)
-unfolding unlink
-unlink_rightly s client context key ring =
-    meets_after (context_of s client context) _ (λ c own.
-    meets_after (look_up s c ring (Granted WRITE)) _ (λ from is.
-    meets_after (serial_of s c key) _ (λ serial _.
-    meets_after (or_refuse ENOKEY (at s.keys serial)) _ (λ there _.
-    meets_after (ring_links from.1.content) _ (λ links _.
-    meets_after (if_linked serial links) _ (λ linked _.
-    meets_ok (unlinked_rightly s client context _ s.keys from.0 serial
-    (λ old _. right_found s client context c ring (Granted WRITE) from own is) (rightly_same s client context _))))))))
-
 clear_rightly : (s : State) (client context : ℕ) (id : ℤ) → Comes s client context (Clear id)
 unfolding clear
 clear_rightly s client context id =
@@ -428,14 +299,6 @@ clear_rightly s client context id =
     meets_ok (rightly_written s client context _ s.keys there.0 cleared_content
     (λ old _. right_found s client context c id (Granted WRITE) there own is)
     (λ k v i. inl (cleared_links v.content k i)) (rightly_same s client context _)))))
-
-invalidate_rightly : (s : State) (client context : ℕ) (id : ℤ) → Comes s client context (Invalidate id)
-unfolding invalidate
-invalidate_rightly s client context id =
-    meets_after (context_of s client context) _ (λ c own.
-    meets_after (look_up s c id (Granted SEARCH)) _ (λ gone is.
-    meets_ok (detached_rightly s client context _ gone.0
-    (right_found s client context c id (Granted SEARCH) gone own is))))
 
 link_rightly : (s : State) (client context : ℕ) (key ring : ℤ) → Stands s → Comes s client context (Link key ring)
 unfolding link
@@ -500,15 +363,6 @@ where_rightly :
 where_rightly true s client context op c id none asks = made_rightly s client context op c id none asks
 where_rightly false s client context op c id none asks = rightly_same s client context op
 
-get_id_rightly :
-    (s : State) (client context : ℕ) (id : ℤ) (create : Bool) → Stands s → Comes s client context (GetId id create)
-unfolding get_id
-get_id_rightly s client context id create stands =
-    meets_after (context_of s client context) _ (λ c own.
-    let made = made_where create s context c id in
-    meets_within s _ (meets_after (look_up made.0 made.1 id (Granted SEARCH)) _ (λ key _.
-    meets_ok (where_rightly create s client context _ c id (next_none s stands) (c, own, refl)))))
-
 search_rightly :
     (s : State) (client context : ℕ) (head : ℤ) (type_name desc : List ℕ) (dest : ℤ) → Stands s
     → Comes s client context (Search head type_name desc dest)
@@ -546,130 +400,63 @@ request_rightly s client context type_name desc dest stands =
     (made_rightly s client context _ c dest none (c, own, refl)))))
     (meets_after (requested s c name) _ (λ serial _. meets_ok (rightly_same s client context _))))))
 
-join_rightly : (s : State) (client context : ℕ) (name : List ℕ) → Stands s → Comes s client context (Join name)
-unfolding join
-join_rightly s client context name stands =
-    meets_after (context_of s client context) _ (λ c own.
-    meets_after (session_named name) _ (λ fit _.
-    meets_within s _ (joined_rightly s client context _ c name (joinable s c.caller name) stands (c, own, refl))))
-
-hello_rightly : (s : State) (client context : ℕ) (caller : Caller) → Stands s → Comes s client context (Hello caller)
-unfolding hello
-hello_rightly s client context caller stands =
-    meets_after (caller_check caller) _ (λ known _.
-    meets_after (has_context_left s client) _ (λ room _.
-    meets_after (has_numbers s (at s.uids caller.uid)) _ (λ numbers _.
-    meets_ok (uid_rightly s client context caller (at s.uids caller.uid) stands))))
-
-thread_rightly : (s : State) (client context : ℕ) → Comes s client context Thread
-unfolding thread
-thread_rightly s client context =
-    meets_after (context_of s client context) _ (λ c _.
-    meets_after (has_context_left s client) _ (λ room _.
-    meets_after (if_context_number s) _ (λ left _. meets_ok (rightly_same s client context _))))
-
-fork_rightly : (s : State) (client context : ℕ) → Comes s client context Fork
-unfolding fork
-fork_rightly s client context =
-    meets_after (context_of s client context) _ (λ c _.
-    meets_after (has_context_left s client) _ (λ room _.
-    meets_after (if_context_number s) _ (λ left _. meets_ok (rightly_same s client context _))))
-
-exec_rightly : (s : State) (client context : ℕ) → Comes s client context Exec
-unfolding exec
-exec_rightly s client context =
-    meets_after (context_of s client context) _ (λ c _. meets_ok (rightly_same s client context _))
-
-exit_rightly : (s : State) (client context : ℕ) → Comes s client context Exit
-unfolding exit
-exit_rightly s client context =
-    meets_after (context_of s client context) _ (λ c _. meets_ok (rightly_same s client context _))
-
-leave_rightly : (s : State) (client context : ℕ) → Comes s client context Leave
-unfolding left
-leave_rightly s client context = meets_ok (rightly_same s client context _)
-
-read_rightly : (s : State) (client context : ℕ) (id : ℤ) → Comes s client context (Read id)
-unfolding read
-read_rightly s client context id =
-    meets_after (context_of s client context) _ (λ c _.
-    meets_after (look_up s c id ToRead) _ (λ there _.
-    meets_after (reading.readable there.1.kind there.1.content) _ (λ bytes _. meets_ok (rightly_same s client context _))))
-
-describe_rightly : (s : State) (client context : ℕ) (id : ℤ) → Comes s client context (Describe id)
-unfolding describe
-describe_rightly s client context id =
-    meets_after (context_of s client context) _ (λ c _.
-    meets_after (look_up s c id (Granted VIEW)) _ (λ there _. meets_ok (rightly_same s client context _)))
-
-watch_rightly :
-    (s : State) (client context : ℕ) (id : ℤ) (queue : ℕ) (watch_id : ℤ) → Comes s client context (Watch id queue watch_id)
-unfolding watch
-watch_rightly s client context id queue watch_id =
-    meets_after (context_of s client context) _ (λ c _.
-    meets_after (watch_id_of watch_id) _ (λ asked _.
-    meets_after (look_up s c id (Granted VIEW)) _ (λ there _.
-    meets_after (with_watching (queues_of s) client queue there.0 asked) _ (λ queues _.
-    meets_ok (rightly_same s client context _)))))
-
-open_rightly : (s : State) (client context capacity : ℕ) → Comes s client context (OpenQueue capacity)
-unfolding open_queue
-open_rightly s client context capacity =
-    meets_after (opened (queues_of s) client capacity) _ (λ made _. meets_ok (rightly_same s client context _))
-
-filter_rightly :
-    (s : State) (client context queue : ℕ) (entries : List FilterEntry) → Comes s client context (SetFilter queue entries)
-unfolding set_filter
-filter_rightly s client context queue entries =
-    meets_after (filtered (queues_of s) client queue entries) _ (λ set _. meets_ok (rightly_same s client context _))
-
-read_queue_rightly : (s : State) (client context queue room : ℕ) → Comes s client context (ReadQueue queue room)
-unfolding read_queue
-read_queue_rightly s client context queue room =
-    meets_after (read_out (queues_of s) client queue room) _ (λ taken _. meets_ok (rightly_same s client context _))
-
-close_rightly : (s : State) (client context queue : ℕ) → Comes s client context (CloseQueue queue)
-unfolding close_queue
-close_rightly s client context queue =
-    meets_after (closed (queues_of s) client queue) _ (λ left _. meets_ok (rightly_same s client context _))
+ruleset rights = (
+  meets_after,
+  meets_within,
+  meets_ok,
+  rightly_same,
+  uid_rightly,
+  updated_then,
+  unlinked_rightly,
+  detached_rightly,
+  rightly_changed,
+  right_found,
+  revoked_by_right,
+  timed_by_right,
+  closed_by_right,
+  emptied_links,
+)
 
 all_rightly : (s : State) (client context : ℕ) (op : Op) → Stands s → Comes s client context op
-all_rightly s client context (Hello caller) stands = hello_rightly s client context caller stands
-all_rightly s client context Thread stands = thread_rightly s client context
-all_rightly s client context Fork stands = fork_rightly s client context
-all_rightly s client context Exec stands = exec_rightly s client context
-all_rightly s client context (GetId id create) stands = get_id_rightly s client context id create stands
-all_rightly s client context (Join name) stands = join_rightly s client context name stands
+unfolding
+    hello thread fork exec get_id join update revoke invalidate set_timeout unlink restrict_keyring read
+    describe watch open_queue set_filter read_queue close_queue exit left
+all_rightly s client context (Hello caller) stands = search rights depth 12
+all_rightly s client context Thread stands = search rights depth 12
+all_rightly s client context Fork stands = search rights depth 12
+all_rightly s client context Exec stands = search rights depth 12
+all_rightly s client context (GetId id create) stands = search (where_rightly, next_none, rights) depth 12
+all_rightly s client context (Join name) stands = search (joined_rightly, rights) depth 12
 all_rightly s client context (Search head type_name desc dest) stands =
     search_rightly s client context head type_name desc dest stands
 all_rightly s client context (Request type_name desc dest) stands =
     request_rightly s client context type_name desc dest stands
 all_rightly s client context (Add type_name desc payload ring) stands =
     add_rightly s client context type_name desc payload ring stands
-all_rightly s client context (Update id payload) stands = update_rightly s client context id payload
-all_rightly s client context (Revoke id) stands = revoke_rightly s client context id
-all_rightly s client context (Invalidate id) stands = invalidate_rightly s client context id
+all_rightly s client context (Update id payload) stands = search rights depth 12
+all_rightly s client context (Revoke id) stands = search rights depth 12
+all_rightly s client context (Invalidate id) stands = search rights depth 12
 all_rightly s client context (Chown id uid gid) stands = chown_rightly s client context id uid gid
 all_rightly s client context (SetPerm id mask) stands = set_perm_rightly s client context id mask
-all_rightly s client context (SetTimeout id seconds) stands = set_timeout_rightly s client context id seconds
+all_rightly s client context (SetTimeout id seconds) stands = search rights depth 12
 all_rightly s client context (Link key ring) stands = link_rightly s client context key ring stands
-all_rightly s client context (Unlink key ring) stands = unlink_rightly s client context key ring
+all_rightly s client context (Unlink key ring) stands = search rights depth 12
 all_rightly s client context (Move key from to flags) stands = move_rightly s client context key from to flags stands
 all_rightly s client context (Clear id) stands = clear_rightly s client context id
-all_rightly s client context (RestrictKeyring ring type_name) stands = restrict_rightly s client context ring type_name
-all_rightly s client context (Read id) stands = read_rightly s client context id
-all_rightly s client context (Describe id) stands = describe_rightly s client context id
-all_rightly s client context (Watch id queue watch_id) stands = watch_rightly s client context id queue watch_id
-all_rightly s client context (OpenQueue capacity) stands = open_rightly s client context capacity
-all_rightly s client context (SetFilter queue entries) stands = filter_rightly s client context queue entries
-all_rightly s client context (ReadQueue queue room) stands = read_queue_rightly s client context queue room
-all_rightly s client context (CloseQueue queue) stands = close_rightly s client context queue
-all_rightly s client context Exit stands = exit_rightly s client context
-all_rightly s client context Leave stands = leave_rightly s client context
+all_rightly s client context (RestrictKeyring ring type_name) stands = search rights depth 12
+all_rightly s client context (Read id) stands = search rights depth 12
+all_rightly s client context (Describe id) stands = search rights depth 12
+all_rightly s client context (Watch id queue watch_id) stands = search rights depth 12
+all_rightly s client context (OpenQueue capacity) stands = search rights depth 12
+all_rightly s client context (SetFilter queue entries) stands = search rights depth 12
+all_rightly s client context (ReadQueue queue room) stands = search rights depth 12
+all_rightly s client context (CloseQueue queue) stands = search rights depth 12
+all_rightly s client context Exit stands = search rights depth 12
+all_rightly s client context Leave stands = search rights depth 12
 
 -- ---- a step
 
-kept_is : (b : Bool) (o : Option Key) (key : Key) → cond b o None ≡ Some key → o ≡ Some key
+pub kept_is : (b : Bool) (o : Option Key) (key : Key) → cond b o None ≡ Some key → o ≡ Some key
 kept_is true o key h = h
 kept_is false o key h = absurd (none-some key h)
 

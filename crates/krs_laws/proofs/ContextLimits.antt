@@ -4,15 +4,15 @@ use Rattle.std.proofs.Common.{nat_cmp, nat_le, not, Ok, Option, refl, subst, sym
 use Rattle.std.specs.BTreeMap.{is_at}
 use Rattle.std.specs.{Map.values_of, Ordering.match_ordering, declared.cmp.Ordering.TheVariants.{Equal, Greater, Less}}
 use Rattle.std.proofs.lemmas.{Bool.Decides.nat_tests, List.Sums.sum_by-cons}
-use Rattle.krs_types.specs.{Caller.caller_check, declared.{ask.{Answer.Answer, Op.Op}, caller.Caller.Caller}}
+use Rattle.krs_types.specs.{declared.{ask.{Op.Op}}}
 use Rattle.krs_types.specs.declared.{context.{Context.Context, UidRings.UidRings}, errno.Errno.TheVariants.EINVAL}
-use Rattle.krs_model.specs.Asks.Entering.{fork, thread, without_thread}
-use Rattle.krs_model.specs.Asks.Hello.{context_count, has_context_left, hello}
-use Rattle.krs_model.specs.{Asks.{Invalidating.context_without, Leaving.left}, Lookup.context_of, State.State}
-use Rattle.krs_model.specs.{Step.outcome_of, Table.{alter, map_values, put, Table, without}}
-use Rattle.krs_model.proofs.Asks.Houses.{Alters, Begins, Departs, Detaches, entering, Enters, EntersAs, Execs, Exits}
-use Rattle.krs_model.proofs.Asks.{Houses.{Forked, Houses, Named, Rings, Same, Threads}, Later.bind_ok}
-use Rattle.krs_laws.proofs.Owners.{own_client}
+use Rattle.krs_model.specs.Asks.Entering.{without_thread}
+use Rattle.krs_model.specs.Asks.Hello.{context_count, has_context_left}
+use Rattle.krs_model.specs.{Asks.{Invalidating.context_without, Leaving.left}, State.State}
+use Rattle.krs_model.specs.{Table.{alter, map_values, put, Table, without}}
+use Rattle.krs_model.proofs.Asks.Houses.{Alters, Begins, Departs, Detaches, entering, Enters, Execs, Exits}
+use Rattle.krs_model.proofs.Asks.{Houses.{Houses, Rings, Same, Threads}}
+use Rattle.krs_model.proofs.History.Belongings.{own_client}
 
 -- 1 where the context is the client's
 abbrev one_of : ℕ → Context → ℕ
@@ -81,30 +81,6 @@ few_left s client x h =
       | false ↦ λ t yes. grind (arith, nat_tests)
     ] refl h
 
-hello_left : (s : State) (client : ℕ) (caller : Caller) (end : State × Answer) → hello s client caller ≡ Ok end
-    → context_count client s.contexts < 64
-unfolding hello
-hello_left s client caller end h =
-    let a = bind_ok (caller_check caller) _ end h in
-    let b = bind_ok (has_context_left s client) _ end a.2 in
-    few_left s client b.0 b.1
-
-thread_left : (s : State) (client context : ℕ) (end : State × Answer) → thread s client context ≡ Ok end
-    → context_count client s.contexts < 64
-unfolding thread
-thread_left s client context end h =
-    let a = bind_ok (context_of s client context) _ end h in
-    let b = bind_ok (has_context_left s client) _ end a.2 in
-    few_left s client b.0 b.1
-
-fork_left : (s : State) (client context : ℕ) (end : State × Answer) → fork s client context ≡ Ok end
-    → context_count client s.contexts < 64
-unfolding fork
-fork_left s client context end h =
-    let a = bind_ok (context_of s client context) _ end h in
-    let b = bind_ok (has_context_left s client) _ end a.2 in
-    few_left s client b.0 b.1
-
 -- a further context of the client
 put_few : (s : State) (client other n : ℕ) (c : Context) → c.client ≡ client → context_count client s.contexts < 64
     → context_count other s.contexts ≤ 64 → context_count other (put s.contexts n c) ≤ 64
@@ -121,41 +97,32 @@ put_few s client other n c mine left few =
       | false ↦ λ t le. omega arith
     ] refl more
 
-enters_left : (s : State) (client context : ℕ) (op : Op) (caller : Caller) (session : Option ℕ) (end : State × Answer)
-    → EntersAs s client context op caller session → outcome_of s client context op ≡ Ok end
-    → context_count client s.contexts < 64
-enters_left s client context op _ _ end (Named caller rings is known) h =
-    hello_left s client caller end (subst (λ (o : Op). outcome_of s client context o ≡ Ok end) is h)
-enters_left s client context op _ _ end (Forked d is own) h =
-    fork_left s client context end (subst (λ (o : Op). outcome_of s client context o ≡ Ok end) is h)
-
 pub houses_few :
     (s : State) (client context : ℕ) (op : Op) (contexts : Table Context) (processes : Table (Option ℕ))
-    (uids : Table UidRings) (end : State × Answer) → outcome_of s client context op ≡ Ok end
-    → Houses s client context op contexts processes uids → (other : ℕ) → context_count other s.contexts ≤ 64
-    → context_count other contexts ≤ 64
+    (uids : Table UidRings) → Houses s client context op contexts processes uids → (other : ℕ)
+    → context_count other s.contexts ≤ 64 → context_count other contexts ≤ 64
 unfolding left
-houses_few s client context op _ _ _ end h Same other few = few
-houses_few s client context op _ _ _ end h (Begins caller session rings is none) other few =
+houses_few s client context op _ _ _ Same other few = few
+houses_few s client context op _ _ _ (Begins caller session rings room is none left) other few =
     put_few s client other s.next_context (entering s client caller session) refl
-    (hello_left s client caller end (subst (λ (o : Op). outcome_of s client context o ≡ Ok end) is h)) few
-houses_few s client context op _ _ _ end h (Enters caller session who) other few =
+    (few_left s client room left) few
+houses_few s client context op _ _ _ (Enters caller session room who left) other few =
     put_few s client other s.next_context (entering s client caller session) refl
-    (enters_left s client context op caller session end who h) few
-houses_few s client context op _ _ _ end h (Threads d is own) other few =
+    (few_left s client room left) few
+houses_few s client context op _ _ _ (Threads d room is own left) other few =
     put_few s client other s.next_context (without_thread d) (own_client s client context d own)
-    (thread_left s client context end (subst (λ (o : Op). outcome_of s client context o ≡ Ok end) is h)) few
-houses_few s client context op _ _ _ end h (Alters d f own stays) other few =
+    (few_left s client room left) few
+houses_few s client context op _ _ _ (Alters d f own stays) other few =
     omega (arith, alter_count other s.contexts context f stays.client)
-houses_few s client context op _ _ _ end h (Rings d n own) other few = few
-houses_few s client context op _ _ _ end h (Execs d is own) other few =
+houses_few s client context op _ _ _ (Rings d n own) other few = few
+houses_few s client context op _ _ _ (Execs d is own) other few =
     let same = alter_count other s.contexts context without_thread (λ c. refl) in
     let less = filter_count other (λ e. not (e.1.process == d.process) || (e.0 == context))
     (alter s.contexts context without_thread) in
     omega arith
-houses_few s client context op _ _ _ end h (Detaches d id gone is own found) other few =
+houses_few s client context op _ _ _ (Detaches d id gone is own found) other few =
     omega (arith, map_count other s.contexts (context_without gone.0) (λ c. refl))
-houses_few s client context op _ _ _ end h (Exits d is own) other few =
+houses_few s client context op _ _ _ (Exits d is own) other few =
     omega (arith, without_count other s.contexts context)
-houses_few s client context op _ _ _ end h (Departs is) other few =
+houses_few s client context op _ _ _ (Departs is) other few =
     omega (arith, filter_count other (λ e. not (e.1.client == client)) s.contexts)

@@ -23,31 +23,38 @@ use Rattle.krs_model.proofs.{Sound.Changes.{at_change, at_put, IsChanged, IsPut}
 use Rattle.krs_laws.specs.Limits.{IsShort}
 use Rattle.krs_laws.proofs.Rightly.{mapped_is}
 
-abbrev pub AllShort : Table Key → Type 0
-AllShort keys = (k : ℕ) (key : Key) → at keys k ≡ Some key → IsShort key.content
+pub record AllShort (keys : Table Key) : Type 0 where
+  pub each : (k : ℕ) (key : Key) → at keys k ≡ Some key → IsShort key.content
 
 pub short_put : (keys : Table Key) (n : ℕ) (v : Key) → IsShort v.content → AllShort keys → AllShort (put keys n v)
-short_put keys n v short all k key there =
-    ⊎_elim (λ (r : IsPut keys n v k). subst (λ (z : Key). IsShort z.content) (same_Some v key (sym r.1 ∙ there)) short)
-    (λ e. all k key (sym e ∙ there)) (at_put keys n k v)
+short_put keys n v short all = record {
+  each = λ k key there.
+      ⊎_elim (λ (r : IsPut keys n v k).
+      subst (λ (z : Key). IsShort z.content) (same_Some v key (sym r.1 ∙ there)) short)
+      (λ e. all.each k key (sym e ∙ there)) (at_put keys n k v);
+}
 
 pub short_alter :
     (keys : Table Key) (n : ℕ) (f : Key → Key)
     → ((v : Key) → at keys n ≡ Some v → IsShort v.content → IsShort (f v).content) → AllShort keys
     → AllShort (alter keys n f)
-short_alter keys n f stays all k key there =
-    ⊎_elim (λ (r : IsChanged keys n f k).
-    let w = mapped_is f (at keys k) key (sym r.1 ∙ there) in
-    subst (λ (z : Key). IsShort z.content) w.2
-    (stays w.0 (subst (λ (z : ℕ). at keys z ≡ Some w.0) r.0 w.1) (all k w.0 w.1)))
-    (λ e. all k key (sym e ∙ there)) (at_change keys n k f)
+short_alter keys n f stays all = record {
+  each = λ k key there.
+      ⊎_elim (λ (r : IsChanged keys n f k).
+      let w = mapped_is f (at keys k) key (sym r.1 ∙ there) in
+      subst (λ (z : Key). IsShort z.content) w.2
+      (stays w.0 (subst (λ (z : ℕ). at keys z ≡ Some w.0) r.0 w.1) (all.each k w.0 w.1)))
+      (λ e. all.each k key (sym e ∙ there)) (at_change keys n k f);
+}
 
 pub short_map :
     (keys : Table Key) (f : Key → Key) → ((v : Key) → IsShort v.content → IsShort (f v).content) → AllShort keys
     → AllShort (map_values f keys)
-short_map keys f stays all k key there =
-    let w = mapped_is f (at keys k) key (sym (at_map f keys k) ∙ there) in
-    subst (λ (z : Key). IsShort z.content) w.2 (stays w.0 (all k w.0 w.1))
+short_map keys f stays all = record {
+  each = λ k key there.
+      let w = mapped_is f (at keys k) key (sym (at_map f keys k) ∙ there) in
+      subst (λ (z : Key). IsShort z.content) w.2 (stays w.0 (all.each k w.0 w.1));
+}
 
 filtered_length : (p : ℕ → Bool) (xs : List ℕ) → length (filter p xs) ≤ length xs
 filtered_length p [] = omega arith

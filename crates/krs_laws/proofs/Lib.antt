@@ -1,4 +1,3 @@
-pub mod Owners
 pub mod Belonging
 pub mod Rightly
 pub mod RightlyAsked

@@ -4,10 +4,10 @@ use Rattle.std.proofs.Common.{List, None, not, Ok, Option, option_map, refl, Res
 use Rattle.std.proofs.lemmas.Option.{none-some, same_Some}
 use Rattle.krs_types.specs.declared.ask.Answer.{Answer, TheVariants.Number}
 use Rattle.krs_types.specs.declared.{ask.Op.{Op, TheVariants.{Hello, Leave, OpenQueue}}, caller.Caller.Caller}
-use Rattle.krs_types.specs.declared.{context.Context.Context, errno.Errno.Errno, event.Event.Event, note.Record.Record}
+use Rattle.krs_types.specs.declared.{context.Context.Context, errno.Errno.Errno, event.Event.Event}
 use Rattle.krs_model.specs.Asks.Leaving.{left}
 use Rattle.krs_model.specs.{Asks.Watching.{after_read, new_queue, with_filter}, Belonging.{HasGreeted, HasStayed}}
-use Rattle.krs_model.specs.{History.IsLegal, Notes.Posting.{after_note, after_notes, records_for}, Queues.Queues}
+use Rattle.krs_model.specs.{History.IsLegal, Notes.Posting.{after_notes, records_for}, Queues.Queues}
 use Rattle.krs_model.specs.{Sound.IsSound, State.{Queue, raised, starting_at, State}, Step.{Ends, posts_by, Step}}
 use Rattle.krs_model.specs.Table.{alter, at, IsDistinct, Table}
 use Rattle.krs_model.proofs.Asks.Effects.{Closes, Effect, effect_of, Filters, Leaves, OfKeys, Opens, Reads, Unwatches}
@@ -18,6 +18,7 @@ use Rattle.krs_model.proofs.Tables.{Distinct.at_filter_some, Entries.without_was
 use Rattle.krs_laws.specs.Belonging.{HasOpened, QueuesAreTheirClients}
 use Rattle.krs_laws.specs.Emptied.{AreEmptiedByLeaving, HaveLeft, IsEmpty, IsLeft}
 use Rattle.krs_laws.proofs.Leftovers.{all_gone}
+use Rattle.krs_model.proofs.History.Belongings.{notes_client, stayed_more}
 
 -- ---- whence a queue is
 
@@ -76,10 +77,6 @@ effect_whence s client context _ _ _ distinct (Unwatches id watch_id number key 
 effect_whence s client context _ _ _ distinct Leaves m queue there =
     inr (queue, at_filter_some (λ e. not (e.1.client == client)) s.queues m queue distinct there, refl)
 
-notes_client : (notes : List Record) (queue : Queue) → (after_notes notes queue).client ≡ queue.client
-notes_client [] queue = refl
-notes_client (note ∷ notes) queue = notes_client notes (after_note note queue)
-
 whence_same :
     (queues : Table Queue) (client : ℕ) (op : Op) (answer : Answer) (m : ℕ) (a b : Queue) → a.client ≡ b.client
     → Whence queues client op answer m b → Whence queues client op answer m a
@@ -118,12 +115,6 @@ step_comes old new event sound step m queue there =
     sound.orderly.distinct step m queue there
 
 -- ---- queues are their clients'
-
-stayed_more :
-    (client : ℕ) (events : List Event) (event : Event) → HasStayed client events
-    → (event.lane ≡ client → event.ask.op ≡ Leave → ⊥) → HasStayed client (events ++ event ∷ [])
-stayed_more client [] event h unlike = (unlike, tt)
-stayed_more client (e ∷ es) event h unlike = (h.0, stayed_more client es event h.1 unlike)
 
 opened_more :
     (client number : ℕ) (past : List Event) (event : Event) → HasOpened client number past

@@ -84,9 +84,10 @@ links_mapped f P (Some v) k more i = more v i
 -- a key is changed once more, by right
 pub rightly_then :
     (s : State) (client context : ℕ) (op : Op) (keys : Table Key) (n : ℕ) (f : Key → Key)
-    → ((before after : Key) → at s.keys n ≡ Some before → IsByRight s client context n before after
-    → IsByRight s client context n before (f after))
-    → ((key : Key) → IsMadeBy s client context op key → IsMadeBy s client context op (f key))
+    → ((before after : Key) → at s.keys n ≡ Some before → at keys n ≡ Some after
+    → IsByRight s client context n before after → IsByRight s client context n before (f after))
+    → ((key : Key) → at s.keys n ≡ None → at keys n ≡ Some key → IsMadeBy s client context op key
+    → IsMadeBy s client context op (f key))
     → ((k : ℕ) (v : Key) → is_in k (links_of_content (f v).content) ≡ true
     → (is_in k (links_of_content v.content) ≡ true) ⊎ LinkedByRight s client context k)
     → Rightly s client context op keys → Rightly s client context op (alter keys n f)
@@ -95,14 +96,17 @@ rightly_then s client context op keys n f right mine links was = record {
       ⊎_elim (λ (r : IsChanged keys n f k).
       let w = mapped_is f (at keys k) after (sym r.1 ∙ is) in
       let here = subst (λ (z : ℕ). at s.keys z ≡ Some before) r.0 there in
+      let now = subst (λ (z : ℕ). at keys z ≡ Some w.0) r.0 w.1 in
       let once = subst (λ (z : ℕ). IsByRight s client context z before w.0) r.0 (was.changed k before w.0 there w.1) in
       subst (IsByRight s client context k before) w.2
-      (subst (λ (z : ℕ). IsByRight s client context z before (f w.0)) (sym r.0) (right before w.0 here once)))
+      (subst (λ (z : ℕ). IsByRight s client context z before (f w.0)) (sym r.0) (right before w.0 here now once)))
       (λ e. was.changed k before after there (sym e ∙ is)) (at_change keys n k f);
   made = λ k key none is.
       ⊎_elim (λ (r : IsChanged keys n f k).
       let w = mapped_is f (at keys k) key (sym r.1 ∙ is) in
-      subst (IsMadeBy s client context op) w.2 (mine w.0 (was.made k w.0 none w.1)))
+      subst (IsMadeBy s client context op) w.2
+      (mine w.0 (subst (λ (z : ℕ). at s.keys z ≡ None) r.0 none) (subst (λ (z : ℕ). at keys z ≡ Some w.0) r.0 w.1)
+      (was.made k w.0 none w.1)))
       (λ e. was.made k key none (sym e ∙ is)) (at_change keys n k f);
   linked = λ j k i.
       ⊎_elim (λ (r : IsChanged keys n f j).
@@ -124,27 +128,8 @@ pub rightly_written :
     → Rightly s client context op keys → Rightly s client context op (alter keys n (holding f))
 rightly_written s client context op keys n f right links was =
     rightly_then s client context op keys n (holding f)
-    (λ before after there once. record {
-      kind = once.kind;
-      desc = once.desc;
-      joined = once.joined;
-      content = Written (right before there);
-      uid = once.uid;
-      gid = once.gid;
-      perm = once.perm;
-      expiry = once.expiry;
-      revoked = once.revoked;
-      closed = once.closed;
-    })
-    (λ key mine. record { caller = mine.caller; asks = mine.asks; own = mine.own; gid = mine.gid }) links was
-
-links_fewer :
-    (f : Key → Key) (o : Option Key) (j : ℕ)
-    → ((v : Key) → o ≡ Some v → is_in j (links_of_content (f v).content) ≡ true
-    → is_in j (links_of_content v.content) ≡ true)
-    → LinksTo j (option_map f o) → LinksTo j o
-links_fewer f None j less i = i
-links_fewer f (Some v) j less i = less v refl i
+    (λ before after there _ once. search (Written, right))
+    (λ key _ _ mine. record { caller = mine.caller; asks = mine.asks; own = mine.own; gid = mine.gid }) links was
 
 -- a part of one key is changed
 pub rightly_changed :
@@ -153,25 +138,11 @@ pub rightly_changed :
     → ((j : ℕ) (v : Key) → is_in j (links_of_content (f v).content) ≡ true → is_in j (links_of_content v.content) ≡ true)
     → Rightly s client context op (alter s.keys n f)
 rightly_changed s client context op n f right less =
-    let same = rightly_same s client context op in
-    record {
-      changed = λ k before after there is.
-          ⊎_elim (λ (r : IsChanged s.keys n f k).
-          let w = mapped_is f (at s.keys k) after (sym r.1 ∙ is) in
-          let one : w.0 ≡ before = same_Some w.0 before (sym w.1 ∙ there) in
-          let here = right before (subst (λ (z : ℕ). at s.keys z ≡ Some before) r.0 there) in
-          subst (λ (z : ℕ). IsByRight s client context z before after) (sym r.0)
-          (subst (IsByRight s client context n before) (ap f (sym one) ∙ w.2) here))
-          (λ e. same.changed k before after there (sym e ∙ is)) (at_change s.keys n k f);
-      made = λ k key none is.
-          ⊎_elim (λ (r : IsChanged s.keys n f k).
-          let w = mapped_is f (at s.keys k) key (sym r.1 ∙ is) in absurd (none-some w.0 (sym none ∙ w.1)))
-          (λ e. same.made k key none (sym e ∙ is)) (at_change s.keys n k f);
-      linked = λ j k i.
-          ⊎_elim (λ (r : IsChanged s.keys n f j).
-          inl (links_fewer f (at s.keys j) k (λ v is. less k v) (subst (LinksTo k) r.1 i)))
-          (λ e. inl (subst (LinksTo k) e i)) (at_change s.keys n j f);
-    }
+    rightly_then s client context op s.keys n f
+    (λ before after was is _. subst (λ (z : Key). IsByRight s client context n before (f z))
+    (same_Some before after (sym was ∙ is)) (right before was))
+    (λ key none is _. absurd (none-some key (sym none ∙ is))) (λ k v i. inl (less k v i))
+    (rightly_same s client context op)
 
 -- ---- what is looked up where a keyring counts as made
 

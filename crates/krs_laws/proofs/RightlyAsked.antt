@@ -1,24 +1,22 @@
 -- What asks share, by right: keyrings that are made, links, moved links, keys that are found, keys that are added.
-use Rattle.std.proofs.Common.{[], ⊎_elim, ◌&&◌, ◌∙◌, ◌≡◌, ap, arith, Bool, codes, cond, Err, false, inl, inr, List}
-use Rattle.std.proofs.Common.{nat_lt, None, not, Ok, Option, refl, Result, Some, subst, sym, true, true≢false, ℕ, ℤ}
-use Rattle.std.proofs.lemmas.Bool.Decides.{nat_tests}
+use Rattle.std.proofs.Common.{[], ⊎_elim, ◌∙◌, ◌≡◌, ap, Bool, codes, false, inl, inr, List}
+use Rattle.std.proofs.Common.{None, Ok, refl, Result, Some, subst, sym, true, true≢false, ℕ, ℤ}
 use Rattle.krs_types.specs.KeyId.{key_id_of}
-use Rattle.krs_types.specs.{Perm.{group_byte, other_byte}, Refusing.or_refuse, Rights.{has_all, LINK, WRITE}}
+use Rattle.krs_types.specs.{Perm.{group_byte, other_byte}, Refusing.or_refuse, Rights.{WRITE}}
 use Rattle.krs_types.specs.declared.{ask.Op.Op, caller.Caller.Caller, context.Context.Context, errno.Errno.Errno}
-use Rattle.krs_types.specs.declared.errno.Errno.TheVariants.{EACCES, ENOKEY, ENOSPC, EPERM}
+use Rattle.krs_types.specs.declared.errno.Errno.TheVariants.{ENOKEY}
 use Rattle.krs_types.specs.declared.{key_id.KeyId.KeyId, kind.Kind.{Kind, TheVariants.{Keyring, Logon, User}}}
 use Rattle.krs_types.specs.declared.{name.Name.Name, rights.Want.TheVariants.Granted}
-use Rattle.krs_model.specs.{Access.{is_alive, is_over, rights_on}, Asks.Adding.{added, by_match, first_content}}
-use Rattle.krs_model.specs.Asks.Adding.{first_perm, if_room, Made, new_key, over_match, Place, place_of, Updated}
-use Rattle.krs_model.specs.Asks.{Changing.{is_updatable, updated}, Finding.{found_into, if_linkable}}
-use Rattle.krs_model.specs.Asks.Linked.{linked_into, name_of, unless, unlinked_content, without_link}
-use Rattle.krs_model.specs.Confidentiality.{is_own}
-use Rattle.krs_model.specs.{Levels.is_in, Linking.{has_room, is_named, link_named, linked_content, ring_links}}
+use Rattle.krs_model.specs.{Asks.Adding.{added, first_content}}
+use Rattle.krs_model.specs.Asks.Adding.{Made, new_key, Place, place_of, Updated}
+use Rattle.krs_model.specs.Asks.{Changing.{updated}, Finding.{found_into, if_linkable}}
+use Rattle.krs_model.specs.Asks.Linked.{linked_into, name_of, unlinked_content, without_link}
+use Rattle.krs_model.specs.{Levels.is_in, Linking.{is_named, linked_content}}
 use Rattle.krs_model.specs.Lookup.{context_of, look_up}
-use Rattle.krs_model.specs.{Making.{made_for, own_ring, special_ring}, Possession.{links_of_content, possessed}}
-use Rattle.krs_model.specs.{State.{Key, State}, Table.{alter, at, put, Table}, Usable.IsUsable}
-use Rattle.krs_model.proofs.Asks.{Later.bind_ok, LaterByAsk.{IsMoved, linked_into_is, Moves, Stays}}
-use Rattle.krs_model.proofs.{Asks.Outcomes.{Meets, meets_after, meets_ok}, Lookups.Laws.{in_by_match, look_up_usable}}
+use Rattle.krs_model.specs.{Making.{made_for, own_ring, special_ring}, Possession.{links_of_content}}
+use Rattle.krs_model.specs.{State.{Key, State}, Table.{alter, at, put, Table}}
+use Rattle.krs_model.proofs.Asks.{LaterByAsk.{IsMoved, linked_into_is, Moves, Stays}}
+use Rattle.krs_model.proofs.{Asks.Outcomes.{Meets, meets_after, meets_ok}, Lookups.Laws.{look_up_usable}}
 use Rattle.krs_model.proofs.{Lookups.Serials.refused_is, MadeKeyring.State.HasMadeFor}
 use Rattle.krs_model.proofs.MadeKeyring.Which.{IsMade, made_for_is, NoneMade, ProcessMade, ThreadMade}
 use Rattle.krs_model.proofs.Sound.{Changes.in_linked_content, KeyChanges.{unlinked_lessens, updated_lessens}}
@@ -26,10 +24,7 @@ use Rattle.krs_model.proofs.{Sound.Links.linkable_is, Tables.Counts.part_in}
 use Rattle.krs_laws.specs.Integrity.{AsksAs, HasRight, IsMadeBy, Written}
 use Rattle.krs_laws.proofs.Rightly.{linkable_made, LinkedByRight, right_made, Rightly, rightly_put, rightly_same}
 use Rattle.krs_laws.proofs.Rightly.{rightly_then, rightly_written}
-
-pub made_own :
-    (uid : ℕ) (key : Key) → key.uid ≡ uid → group_byte key.perm ≡ 0 → other_byte key.perm ≡ 0 → is_own uid key ≡ true
-made_own uid key own group other = grind (arith, nat_tests)
+use Rattle.krs_model.proofs.{Asks.Adding.{place_found, place_writes}, Isolation.{Births.{first_own, made_own}, Links.linkable_grants}}
 
 -- a keyring that the service makes for a caller, with a mask that gives others nothing
 pub ring_made :
@@ -100,16 +95,6 @@ moved_rightly s t client context op found from into _ right out may (Moves mid l
     unlinked_rightly s client context op mid.keys from.0 found.0 out
     (linked_rightly s t mid client context op into found right may linked was)
 
-linkable_grants :
-    (s : State) (c : Context) (serial : ℕ) (key : Key) (found : ℕ × Key) → if_linkable s c serial key ≡ Ok found
-    → has_all (rights_on key c.caller (possessed s c serial)) LINK ≡ true
-linkable_grants s c serial key found h =
-    elim (has_all (rights_on key c.caller (possessed s c serial)) LINK) as
-    (λ b. cond b (Ok (serial, key)) (Err EACCES) ≡ Ok found → b ≡ true) [
-      | true ↦ λ is. refl
-      | false ↦ λ no. cc
-    ] h
-
 -- a key that was found is linked into the destination
 pub found_rightly :
     (s : State) (client context : ℕ) (op : Op) (c : Context) (dest : ℤ) (made : State × Context) (into : ℕ × Key)
@@ -133,88 +118,6 @@ found_rightly s client context op c dest made into answer own none has goes was 
 
 -- ---- ADD
 
-both : (a b : Bool) → (a && b) ≡ true → (a ≡ true) × (b ≡ true)
-both true b h = (refl, h)
-both false b h = absurd (true≢false (sym h))
-
-opposite : (b : Bool) → not b ≡ true → b ≡ false
-opposite true h = absurd (true≢false (sym h))
-opposite false h = refl
-
--- the key that ADD updates may be written
-abbrev Writes : State → Context → ℕ → Type 0
-Writes s c k = (key : Key) × IsUsable s c (Granted WRITE) (k, key)
-
-room_makes :
-    (s : State) (ring : ℕ × Key) (f : ℕ) (links : List ℕ) (displaced : Option ℕ)
-    → if_room s ring links displaced ≡ Ok (Updated f) → ⊥
-room_makes s ring f links displaced h =
-    let unclosed = bind_ok (unless ring.1.closed EPERM) _ (Updated f) h in
-    let room = bind_ok (has_room links displaced) _ (Updated f) unclosed.2 in
-    elim (nat_lt 2147483647 s.next_serial) as (λ b. cond b (Err ENOSPC) (Ok (Made ring.0)) ≡ Ok (Updated f) → ⊥) [
-      | true ↦ λ e. cc
-      | false ↦ λ e. cc
-    ] room.2
-
-alive_writes :
-    (s : State) (c : Context) (found : ℕ) (key : Key) → at s.keys found ≡ Some key
-    → (is_alive s.clock key && is_updatable key.kind) ≡ true
-    → has_all (rights_on key c.caller (possessed s c found)) WRITE ≡ true → Writes s c found
-alive_writes s c found key there alive grants =
-    let a = both (is_alive s.clock key) (is_updatable key.kind) alive in
-    let b = both (not key.revoked) (not (is_over s.clock key.expiry)) a.0 in (
-      key,
-      record {
-        there = there;
-        live = opposite key.revoked b.0;
-        running = opposite (is_over s.clock key.expiry) b.1;
-        granted = grants;
-      },
-    )
-
-match_writes :
-    (s : State) (c : Context) (ring : ℕ × Key) (f : ℕ) (links : List ℕ) (found : ℕ) (o : Option Key)
-    → at s.keys found ≡ o → over_match s c ring links found o ≡ Ok (Updated f) → Writes s c f
-match_writes s c ring f links found None is h = absurd (room_makes s ring f links None h)
-match_writes s c ring f links found (Some key) is h =
-    let grants = has_all (rights_on key c.caller (possessed s c found)) WRITE in
-    let alive = is_alive s.clock key && is_updatable key.kind in
-    elim alive as (λ b. alive ≡ b → cond b
-    (cond grants (Ok (Updated found)) (Err EACCES)) (if_room s ring links (Some found)) ≡ Ok (Updated f)
-    → Writes s c f) [
-      | true ↦ λ a e. elim grants as (λ b. grants ≡ b → cond b (Ok (Updated found)) (Err EACCES) ≡ Ok (Updated f)
-          → Writes s c f) [
-            | true ↦ λ t d. let same : found ≡ f = cc in
-                subst (Writes s c) same (alive_writes s c found key is a t)
-            | false ↦ λ t d. cc
-          ] refl e
-      | false ↦ λ a e. absurd (room_makes s ring f links (Some found) e)
-    ] refl h
-
-by_match_writes :
-    (s : State) (c : Context) (ring : ℕ × Key) (f : ℕ) (links : List ℕ) (found : Option ℕ)
-    → by_match s c ring links found ≡ Ok (Updated f) → Writes s c f
-by_match_writes s c ring f links None h = absurd (room_makes s ring f links None h)
-by_match_writes s c ring f links (Some found) h = match_writes s c ring f links found (at s.keys found) refl h
-
-place_writes :
-    (s : State) (c : Context) (name : Name) (id : ℤ) (f : ℕ) → place_of s c name id ≡ Ok (Updated f) → Writes s c f
-unfolding place_of
-place_writes s c name id f h =
-    let a = bind_ok (look_up s c id (Granted WRITE)) _ (Updated f) h in
-    let b = bind_ok (ring_links a.0.1.content) _ (Updated f) a.2 in
-    by_match_writes s c a.0 f b.0 (link_named s.keys name b.0) b.2
-
--- nor is a key made in a keyring that may not be written
-place_found :
-    (s : State) (c : Context) (name : Name) (id : ℤ) (r : ℕ) → place_of s c name id ≡ Ok (Made r)
-    → (found : ℕ × Key) × (look_up s c id (Granted WRITE) ≡ Ok found) × (r ≡ found.0)
-unfolding place_of
-place_found s c name id r h =
-    let a = bind_ok (look_up s c id (Granted WRITE)) _ (Made r) h in
-    let b = bind_ok (ring_links a.0.1.content) _ (Made r) a.2 in
-    (a.0, a.1, in_by_match s c a.0 r b.0 (link_named s.keys name b.0) b.2)
-
 -- another payload, by right
 pub updated_then :
     (s : State) (client context : ℕ) (op : Op) (keys : Table Key) (n : ℕ) (payload : List ℕ)
@@ -222,25 +125,9 @@ pub updated_then :
     → Rightly s client context op keys → Rightly s client context op (alter keys n (updated payload))
 updated_then s client context op keys n payload right was =
     rightly_then s client context op keys n (updated payload)
-    (λ before after there once. record {
-      kind = once.kind;
-      desc = once.desc;
-      joined = once.joined;
-      content = Written (right before there);
-      uid = once.uid;
-      gid = once.gid;
-      perm = once.perm;
-      expiry = inr (inr (refl, right before there));
-      revoked = once.revoked;
-      closed = once.closed;
-    })
-    (λ key mine. record { caller = mine.caller; asks = mine.asks; own = mine.own; gid = mine.gid })
+    (λ before after there _ once. search (Written, right, inl, inr))
+    (λ key _ _ mine. record { caller = mine.caller; asks = mine.asks; own = mine.own; gid = mine.gid })
     (λ k v i. inl (part_in _ _ k ((updated_lessens payload).links v) i)) was
-
-first_own : (kind : Kind) → (group_byte (first_perm kind) ≡ 0) × (other_byte (first_perm kind) ≡ 0)
-first_own User = (refl, refl)
-first_own Logon = (refl, refl)
-first_own Keyring = (refl, refl)
 
 first_links : (kind : Kind) (payload : List ℕ) → links_of_content (first_content kind payload) ≡ []
 first_links User payload = refl

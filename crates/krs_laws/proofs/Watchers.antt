@@ -8,7 +8,7 @@ use Rattle.std.proofs.lemmas.{Bool.Decides.nat_tests, Option.{none-some, same_So
 use Rattle.krs_types.specs.{Refusing.or_refuse, Rights.VIEW, declared.ask.Answer.Answer}
 use Rattle.krs_types.specs.declared.ask.Op.{Op, TheVariants.{CloseQueue, Leave, OpenQueue, ReadQueue, SetFilter}}
 use Rattle.krs_types.specs.declared.errno.Errno.{Errno, TheVariants.{EBADF, EBUSY, EINVAL}}
-use Rattle.krs_types.specs.declared.{event.Event.Event, note.FilterEntry.FilterEntry, rights.Want.TheVariants.Granted}
+use Rattle.krs_types.specs.declared.{event.Event.Event, rights.Want.TheVariants.Granted}
 use Rattle.krs_model.specs.Asks.{Leaving.left, Linked.unless, Watching.{close_queue, closed, filtered, read_out}}
 use Rattle.krs_model.specs.Asks.Watching.{read_queue, set_filter, unwatched, watch, watch_id_of, watched, with_watching}
 use Rattle.krs_model.specs.Lookup.{context_of, look_up}
@@ -23,6 +23,7 @@ use Rattle.krs_laws.specs.{Integrity.HasRight, Noting.AllWatchesAreByRight}
 use Rattle.krs_laws.specs.Noting.{IsSetBy, IsWatched, OwnsQueue, queue_asked, QueuesAreTheirOwners, WatchesByRight}
 use Rattle.krs_laws.proofs.Rightly.{right_found}
 use Rattle.krs_types.specs.declared.ask.Op.TheVariants as asks
+use Rattle.krs_model.proofs.Asks.Outcomes.{meets_nested}
 
 -- ---- queues are their owners'
 
@@ -61,65 +62,31 @@ watching_owner s client number key None queues h =
     let own = bind_ok (queue_of s.queues client number) _ ended.0 ended.1 in
     owner_of s client number own.0 own.1
 
-watch_owner :
-    (s : State) (client context number : ℕ) (id watch_id : ℤ) (end : State × Answer)
-    → watch s client context id number watch_id ≡ Ok end → OwnsQueue s client number
-unfolding watch
-watch_owner s client context number id watch_id end h =
-    let a = bind_ok (context_of s client context) _ end h in
-    let b = bind_ok (watch_id_of watch_id) _ end a.2 in
-    let c = bind_ok (look_up s a.0 id (Granted VIEW)) _ end b.2 in
-    let d = bind_ok (with_watching (queues_of s) client number c.0.0 b.0) _ end c.2 in
-    watching_owner s client number c.0.0 b.0 d.0 d.1
-
-filter_owner :
-    (s : State) (client number : ℕ) (entries : List FilterEntry) (end : State × Answer)
-    → set_filter s client number entries ≡ Ok end → OwnsQueue s client number
-unfolding set_filter filtered
-filter_owner s client number entries end h =
-    let a = bind_ok (filtered (queues_of s) client number entries) _ end h in
-    let own = bind_ok (queue_of s.queues client number) _ a.0 a.1 in
-    owner_of s client number own.0 own.1
-
-reader_owner :
-    (s : State) (client number room : ℕ) (end : State × Answer) → read_queue s client number room ≡ Ok end
-    → OwnsQueue s client number
-unfolding read_queue read_out
-reader_owner s client number room end h =
-    let a = bind_ok (read_out (queues_of s) client number room) _ end h in
-    let own = bind_ok (queue_of s.queues client number) _ a.0 a.1 in
-    owner_of s client number own.0 own.1
-
-closer_owner :
-    (s : State) (client number : ℕ) (end : State × Answer) → close_queue s client number ≡ Ok end
-    → OwnsQueue s client number
-unfolding close_queue closed
-closer_owner s client number end h =
-    let a = bind_ok (closed (queues_of s) client number) _ end h in
-    let own = bind_ok (queue_of s.queues client number) _ a.0 a.1 in
-    owner_of s client number own.0 own.1
-
-same_queue : (s : State) (client a b : ℕ) → OwnsQueue s client a → Some a ≡ Some b → OwnsQueue s client b
-same_queue s client a b own e = subst (OwnsQueue s client) (same_Some a b e) own
+ruleset owners = (meets_nested, meets_after, meets_ok, owner_of, watching_owner)
 
 asked_owner :
-    (s : State) (client context : ℕ) (op : Op) (number : ℕ) (end : State × Answer) → queue_asked op ≡ Some number
-    → outcome_of s client context op ≡ Ok end → OwnsQueue s client number
-asked_owner s client context (asks.Watch id queue watch_id) number end is h =
-    same_queue s client queue number (watch_owner s client context queue id watch_id end h) is
-asked_owner s client context (SetFilter queue entries) number end is h =
-    same_queue s client queue number (filter_owner s client queue entries end h) is
-asked_owner s client context (ReadQueue queue room) number end is h =
-    same_queue s client queue number (reader_owner s client queue room end h) is
-asked_owner s client context (CloseQueue queue) number end is h =
-    same_queue s client queue number (closer_owner s client queue end h) is
-asked_owner s client context op number end is h = absurd (none-some number is)
+    (s : State) (client context : ℕ) (op : Op) (number : ℕ) → queue_asked op ≡ Some number
+    → Meets (λ (new : State). OwnsQueue s client number) (outcome_of s client context op)
+unfolding watch set_filter filtered read_queue read_out close_queue closed
+asked_owner s client context (asks.Watch id queue watch_id) number is =
+    subst (λ (n : ℕ). Meets (λ (new : State). OwnsQueue s client n) (watch s client context id queue watch_id))
+    (same_Some queue number is) (search owners depth 12)
+asked_owner s client context (SetFilter queue entries) number is =
+    subst (λ (n : ℕ). Meets (λ (new : State). OwnsQueue s client n) (set_filter s client queue entries))
+    (same_Some queue number is) (search owners depth 12)
+asked_owner s client context (ReadQueue queue room) number is =
+    subst (λ (n : ℕ). Meets (λ (new : State). OwnsQueue s client n) (read_queue s client queue room))
+    (same_Some queue number is) (search owners depth 12)
+asked_owner s client context (CloseQueue queue) number is =
+    subst (λ (n : ℕ). Meets (λ (new : State). OwnsQueue s client n) (close_queue s client queue))
+    (same_Some queue number is) (search owners depth 12)
+asked_owner s client context op number is = absurd (none-some number is)
 
 ended_owner :
     (s new : State) (client context : ℕ) (op : Op) (reply : Result Answer Errno) (number : ℕ) → IsOk reply
     → queue_asked op ≡ Some number → Ends s client context op reply new → OwnsQueue s client number
 ended_owner s new client context op (Ok answer) number accepted is ends =
-    asked_owner s client context op number (ends.mid, answer) is ends.meant
+    (asked_owner s client context op number is).meets ends.mid answer ends.meant
 ended_owner s new client context op (Err e) number accepted is ends = absurd (true≢false (sym accepted))
 
 pub owners_ask : QueuesAreTheirOwners

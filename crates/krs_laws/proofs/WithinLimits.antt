@@ -1,6 +1,6 @@
 -- Each step leaves a store within its limits.
-use Rattle.std.proofs.Common.{[], ◌∙◌, ◌∷◌, ◌≡◌, ◌≤◌, ap, arith, Bool, cond, Err, false, filter, List, nat_le, None, Ok}
-use Rattle.std.proofs.Common.{Option, Result, Some, subst, sym, true, ℕ}
+use Rattle.std.proofs.Common.{[], ◌∙◌, ◌∷◌, ◌≡◌, ◌≤◌, ap, arith, Err, filter, List, nat_le, Ok}
+use Rattle.std.proofs.Common.{Result, subst, sym, true, ℕ}
 use Rattle.std.proofs.lemmas.{Bool.Decides.nat_tests, Option.none-some}
 use Rattle.krs_types.specs.declared.ask.Answer.{Answer}
 use Rattle.krs_types.specs.declared.{ask.Op.Op, context.Context.Context, errno.Errno.Errno, event.Event.Event}
@@ -11,16 +11,13 @@ use Rattle.krs_model.proofs.{Sound.Steps.{raised_sound, sound_stands, step_sound
 use Rattle.krs_laws.specs.Limits.{IsWithinLimits, StaysWithinLimits}
 use Rattle.krs_laws.proofs.{ContextLimits.houses_few, KeyLimits.{AllShort, both}, KeyLimitsByAsk.all_short}
 use Rattle.krs_laws.proofs.QueueLimits.{QueuesWithin, served_within}
+use Rattle.krs_laws.proofs.ByRight.{kept_is}
 
 -- but for capacities, which IsSound has
 record Within (s : State) : Type 0 where
   keys : AllShort s.keys
   contexts : (client : ℕ) → context_count client s.contexts ≤ 64
   queues : QueuesWithin s.queues
-
-kept_is : (b : Bool) (o : Option Key) (key : Key) → cond b o None ≡ Some key → o ≡ Some key
-kept_is true o key h = h
-kept_is false o key h = absurd (none-some key h)
 
 ended_within :
     (s new : State) (client context : ℕ) (op : Op) (reply : Result Answer Errno) → IsSound s → Within s
@@ -36,10 +33,12 @@ ended_within s new client context op (Ok answer) sound was ends =
     let contexts : new.contexts ≡ mid.contexts =
     ap (λ (t : State). t.contexts) ends.posted ∙ ap (λ (t : State). t.contexts) ends.sweep.rest in
     record {
-      keys = λ k key there. short k key (kept_is (kept k) (at mid.keys k) key
-          (sym (ap (λ (es : Table Key). at es k) keys ∙ at_kept kept mid.keys k) ∙ there));
+      keys = record {
+        each = λ k key there. short.each k key (kept_is (kept k) (at mid.keys k) key
+            (sym (ap (λ (es : Table Key). at es k) keys ∙ at_kept kept mid.keys k) ∙ there));
+      };
       contexts = λ other. subst (λ (es : Table Context). context_count other es ≤ 64) (sym contexts)
-          (houses_few s client context op mid.contexts mid.processes mid.uids (mid, answer) ends.meant houses other
+          (houses_few s client context op mid.contexts mid.processes mid.uids houses other
           (was.contexts other));
       queues = served_within s new client context op answer ends sound.orderly
           (effect_of s client context op mid answer ends.meant) was.queues;
@@ -56,7 +55,7 @@ capacity_most n h = let high = (both (nat_le 1 n) (nat_le n 4096) h).1 in grind 
 
 within_limits : (s : State) → IsSound s → Within s → IsWithinLimits s
 within_limits s sound within = record {
-  keys = within.keys;
+  keys = within.keys.each;
   contexts = within.contexts;
   queues = within.queues.few;
   waiting = λ number queue there.
@@ -74,7 +73,7 @@ legal_within start end (event ∷ events) sound within legal =
 pub stays_within : (start : State) → IsSound start → IsWithinLimits start → StaysWithinLimits start
 stays_within start sound limits events end legal =
     legal_within start end events sound (record {
-      keys = limits.keys;
+      keys = record { each = limits.keys };
       contexts = limits.contexts;
       queues = record { few = limits.queues; wait = λ number queue there. (limits.waiting number queue there).0 };
     }) legal
