@@ -1,25 +1,21 @@
 -- What ADD overwrote leaves no trace.
-use Rattle.std.proofs.Common.{◌+◌, ◌<◌, ◌∙◌, ◌≡◌, ◌≤◌, ap, arith, Bool, codes, cond, false, List, nat_le}
-use Rattle.std.proofs.Common.{None, Ok, refl, Result, Some, subst, sym, true, ℕ, ℤ}
-use Rattle.std.proofs.lemmas.{Bool.Decides.nat_tests, Option.none-some}
-use Rattle.krs_types.specs.{KeyId.key_id_of, declared.ask.Answer.Answer}
-use Rattle.krs_types.specs.declared.{ask.{Answer.TheVariants.Number, Op.{Op, TheVariants.Add}}, context.Context.Context}
-use Rattle.krs_types.specs.declared.{errno.Errno.{Errno}, key_id.KeyId.KeyId, name.Name.Name}
-use Rattle.krs_types.specs.declared.note.KeyEvent.TheVariants.{Linked, Updated as UpdatedNote}
-use Rattle.krs_model.specs.Asks.Adding.{add, added, added_in, added_serial, admitted, Made}
-use Rattle.krs_model.specs.Asks.{Adding.{Place, place_of, Updated}}
-use Rattle.krs_model.specs.{Hiding.{blind, Hiding, over}}
-use Rattle.krs_model.specs.{Lookup.{context_of, serial_of}, Making.{made_for, special_ring}}
-use Rattle.krs_model.specs.{Notes.Telling.{about, about_link, named}, Outcome.Outcome, Secrecy.HidesOnly}
-use Rattle.krs_model.specs.{State.{Key, raised, State}, Step.{Ends, Step}, Table.{at, IsBelow, IsDistinct, put, Table}}
-use Rattle.krs_model.proofs.Asks.Later.{bind_ok, same_ok}
-use Rattle.krs_model.proofs.Hiding.{Links.{made_blind}}
-use Rattle.krs_model.proofs.Hiding.{Sweeps.same_there}
-use Rattle.krs_model.proofs.MadeKeyring.Which.{IsMade, made_for_is, NoneMade, ProcessMade, ThreadMade}
-use Rattle.krs_model.proofs.Tables.{Distinct.put_distinct, Entries.rises_distinct}
+use Rattle.std.proofs.Common.{◌+◌, ◌<◌, ◌∙◌, ◌≡◌, ◌≤◌, ap, arith, Bool, codes, cond, false, List, nat_le, None, Ok}
+use Rattle.std.proofs.{Common.{refl, Result, Some, subst, sym, true, ℕ, ℤ}, lemmas.Bool.Decides.nat_tests}
+use Rattle.std.proofs.lemmas.Option.{none-some}
+use Rattle.krs_types.specs.declared.ask.{Answer.{Answer, TheVariants.Number}, Op.{Op, TheVariants.Add}}
+use Rattle.krs_types.specs.declared.{context.Context.Context, errno.Errno.Errno, key_id.KeyId.KeyId, name.Name.Name}
+use Rattle.krs_types.specs.KeyId.{key_id_of}
+use Rattle.krs_model.specs.Asks.Adding.{add, added, added_in, added_serial, admitted, Made, Place, place_of, Updated}
+use Rattle.krs_model.specs.{Hiding.{blind, Hiding, over}, Lookup.{context_of, serial_of}, Making.made_for}
+use Rattle.krs_model.specs.{Making.special_ring, Notes.Telling.{about, about_link, named}, Outcome.Outcome}
+use Rattle.krs_model.specs.{Secrecy.HidesOnly, State.{Key, raised, State}, Step.{Ends, Step}, Table.{at, IsBelow}}
+use Rattle.krs_model.specs.Table.{IsDistinct, put, Table}
+use Rattle.krs_model.proofs.{Asks.Later.{bind_ok, same_ok}, Hiding.{Adding.same_place, Links.made_blind}}
+use Rattle.krs_model.proofs.{Hiding.Sweeps.same_there, MadeKeyring.Which.{IsMade, made_for_is, NoneMade, ProcessMade}}
+use Rattle.krs_model.proofs.{MadeKeyring.Which.ThreadMade, Tables.{Distinct.put_distinct, Entries.rises_distinct}}
 use Rattle.krs_laws.specs.Overwritten.{AddsForget}
 use Rattle.krs_laws.proofs.Overwriting.{AsksAlike, served_same, then_ok, updated_keys}
-use Rattle.krs_model.proofs.Hiding.Adding.{same_place}
+use Rattle.krs_types.specs.declared.note.KeyEvent.TheVariants.{Linked, Updated as UpdatedNote}
 
 -- ---- the state that it meets, with a keyring made where it wants one
 

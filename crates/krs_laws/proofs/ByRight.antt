@@ -1,50 +1,43 @@
 -- Each accepted ask changes keys by right, and so does each step.
 use Rattle.std.proofs.Common.{[], ⊎_elim, ◌&&◌, ◌+◌, ◌==◌, ◌||◌, ◌∙◌, ◌∷◌, ◌≡◌, ◌⊎◌, ap, arith, Bool, codes, cond, Err}
 use Rattle.std.proofs.Common.{false, filter, inl, inr, IsSome, length, List, nat_lt, None, Ok, Option, option_map, refl}
-use Rattle.std.proofs.Common.{Result, Some, subst, sym, true, true≢false, ℕ, ℤ}
-use Rattle.std.proofs.lemmas.{Bool.Decides.nat_tests, Option.{none-some, same_Some}}
-use Rattle.krs_types.specs.{Caller.{is_of_group}, Growth.has_destination, Perm.perm_of}
-use Rattle.krs_types.specs.{Rights.{LINK, SEARCH, SETATTR, WRITE}, declared.ask.Answer.Answer}
-use Rattle.krs_types.specs.declared.ask.Op.{Op, TheVariants.{Add, Chown, Clear, CloseQueue, Describe, Exec, Exit, Fork}}
-use Rattle.krs_types.specs.declared.ask.Op.TheVariants.{GetId, Hello, Invalidate, Join, Leave, Link, Move, OpenQueue}
-use Rattle.krs_types.specs.declared.ask.Op.TheVariants.{Read, ReadQueue, Request, RestrictKeyring, Revoke, Search}
-use Rattle.krs_types.specs.declared.ask.Op.TheVariants.{SetFilter, SetPerm, SetTimeout, Thread, Unlink, Update, Watch}
-use Rattle.krs_types.specs.declared.caller.Caller.{Caller}
-use Rattle.krs_types.specs.declared.{context.{Context.Context, UidRings.UidRings}, errno.Errno.Errno}
-use Rattle.krs_types.specs.declared.{errno.Errno.TheVariants.{EACCES, EINVAL}, event.Event.Event}
-use Rattle.krs_types.specs.declared.{rights.Want.TheVariants.{Either, Granted}}
-use Rattle.krs_model.specs.Asks.Adding.{add, admitted, place_of}
-use Rattle.krs_model.specs.Asks.Changing.{chown, emptied, if_may_own, if_owner, may_own, or_left, revoke}
-use Rattle.krs_model.specs.Asks.Changing.{revoked, set_perm, set_timeout, update, with_expiry, with_owner}
-use Rattle.krs_model.specs.Asks.{Changing.with_perm, Entering.{exec, fork, thread}}
-use Rattle.krs_model.specs.Asks.Finding.{get_id, made_where, request, search_from, sought_name}
-use Rattle.krs_model.specs.Asks.Hello.{hello, uid_ring, with_uid}
-use Rattle.krs_model.specs.Asks.Invalidating.{invalidate}
-use Rattle.krs_model.specs.Asks.Joining.{join, session_joined, session_ring}
-use Rattle.krs_model.specs.Asks.{Leaving.{exit, left}, Linked.{clear, cleared_content, link, linked_into}}
-use Rattle.krs_model.specs.Asks.{Linked.{unless, unlink, without_link}, Moving.{move_link, moved}}
-use Rattle.krs_model.specs.Asks.{Reading.{describe, read}, Restricting.{restrict_keyring, restricted}}
-use Rattle.krs_model.specs.Asks.Watching.{close_queue, open_queue, read_queue}
-use Rattle.krs_model.specs.{Asks.Watching.{set_filter, watch}, Levels.is_in}
-use Rattle.krs_model.specs.{Linking.ring_links, Lookup.{context_of, look_up}, Making.{made_for, own_ring}}
-use Rattle.krs_model.specs.{Possession.links_of_content, Search.{found, requested}, Sound.IsSound}
-use Rattle.krs_model.specs.{State.{Content, Key, Links, Payload, raised, State}, Step.{Ends, outcome_of, Serves, Step}}
-use Rattle.krs_model.specs.{Sweep.{Attached, IsHeld, Linked, PicksHeld, roots}, Table.{at, map_values, put, Table}}
-use Rattle.krs_model.proofs.Asks.{Fares.meets_by, LaterByAsk.moved_is, Laws.law_of}
-use Rattle.krs_model.proofs.{Asks.Outcomes.{Meets, meets_after, meets_ok, meets_within}, Lookups.Laws.look_up_usable}
-use Rattle.krs_model.proofs.{Lookups.Serials.own_there, MadeKeyring.State.{HasMadeFor, made_for_has, MadeNone, MadeOne}}
-use Rattle.krs_model.proofs.Reach.Levels.{only_in, true_or}
+use Rattle.std.proofs.{Common.{Result, Some, subst, sym, true, true≢false, ℕ, ℤ}, lemmas.Bool.Decides.nat_tests}
+use Rattle.std.proofs.lemmas.Option.{none-some, same_Some}
+use Rattle.krs_types.specs.{Caller.is_of_group, declared.ask.{Answer.Answer, Op.{Op, TheVariants.{Add, Chown, Clear}}}}
+use Rattle.krs_types.specs.declared.ask.Op.TheVariants.{CloseQueue, Describe, Exec, Exit, Fork, GetId, Hello}
+use Rattle.krs_types.specs.declared.ask.Op.TheVariants.{Invalidate, Join, Leave, Link, Move, OpenQueue, Read, ReadQueue}
+use Rattle.krs_types.specs.declared.ask.Op.TheVariants.{Request, RestrictKeyring, Revoke, Search, SetFilter, SetPerm}
+use Rattle.krs_types.specs.declared.ask.Op.TheVariants.{SetTimeout, Thread, Unlink, Update, Watch}
+use Rattle.krs_types.specs.declared.{caller.Caller.Caller, context.{Context.Context, UidRings.UidRings}}
+use Rattle.krs_types.specs.declared.{errno.Errno.{Errno, TheVariants.{EACCES, EINVAL}}, event.Event.Event}
+use Rattle.krs_types.specs.{declared.rights.Want.TheVariants.{Either, Granted}, Growth.has_destination, Perm.perm_of}
+use Rattle.krs_types.specs.Rights.{LINK, SEARCH, SETATTR, WRITE}
+use Rattle.krs_model.specs.Asks.{Adding.{add, admitted, place_of}, Changing.{chown, emptied, if_may_own, if_owner}}
+use Rattle.krs_model.specs.Asks.Changing.{may_own, or_left, revoke, revoked, set_perm, set_timeout, update, with_expiry}
+use Rattle.krs_model.specs.Asks.{Changing.{with_owner, with_perm}, Entering.{exec, fork, thread}, Finding.get_id}
+use Rattle.krs_model.specs.Asks.{Finding.{made_where, request, search_from, sought_name}, Hello.{hello, uid_ring}}
+use Rattle.krs_model.specs.Asks.{Hello.with_uid, Invalidating.invalidate, Joining.{join, session_joined, session_ring}}
+use Rattle.krs_model.specs.Asks.{Leaving.{exit, left}, Linked.{clear, cleared_content, link, linked_into, unless}}
+use Rattle.krs_model.specs.Asks.{Linked.{unlink, without_link}, Moving.{move_link, moved}, Reading.{describe, read}}
+use Rattle.krs_model.specs.Asks.{Restricting.{restrict_keyring, restricted}, Watching.{close_queue, open_queue}}
+use Rattle.krs_model.specs.{Asks.Watching.{read_queue, set_filter, watch}, Levels.is_in, Linking.ring_links}
+use Rattle.krs_model.specs.{Lookup.{context_of, look_up}, Making.{made_for, own_ring}, Possession.links_of_content}
+use Rattle.krs_model.specs.{Search.{found, requested}, Sound.IsSound, State.{Content, Key, Links, Payload, raised}}
+use Rattle.krs_model.specs.{State.State, Step.{Ends, outcome_of, Serves, Step}, Sweep.{Attached, IsHeld, Linked}}
+use Rattle.krs_model.specs.{Sweep.{PicksHeld, roots}, Table.{at, map_values, put, Table}}
+use Rattle.krs_model.proofs.Asks.{Fares.meets_by, LaterByAsk.moved_is, Laws.law_of, Outcomes.{Meets, meets_after}}
+use Rattle.krs_model.proofs.{Asks.Outcomes.{meets_ok, meets_within}, Isolation.Births.made_own}
+use Rattle.krs_model.proofs.{Lookups.{Laws.look_up_usable, Serials.own_there}, MadeKeyring.State.HasMadeFor}
+use Rattle.krs_model.proofs.{MadeKeyring.State.{made_for_has, MadeNone, MadeOne}, Reach.Levels.{only_in, true_or}}
 use Rattle.krs_model.proofs.Sound.{Changes.{LinksTo, not_there, Stands}, KeyChanges.unlinked_lessens}
 use Rattle.krs_model.proofs.Sound.{NewContexts.own_process_there, Steps.{legal_sound, raised_sound, sound_stands}}
 use Rattle.krs_model.proofs.Tables.{Changes.{at_kept, at_map}, Counts.part_in}
 use Rattle.krs_laws.specs.Integrity.{AllChangesAreByRight, AsksAs, ChangesByRight, Emptied, HasRight, IsByRight}
 use Rattle.krs_laws.specs.Integrity.{IsMadeBy, Kept, Unlinked}
-use Rattle.krs_laws.proofs.Rightly.{linkable_made, mapped_is, right_found, right_made, Rightly, rightly_changed}
-use Rattle.krs_laws.proofs.Rightly.{rightly_put, rightly_same, rightly_written}
-use Rattle.krs_laws.proofs.RightlyAsked.{added_rightly, found_rightly, linked_rightly, links_nothing}
-use Rattle.krs_model.proofs.Isolation.Births.{made_own}
-use Rattle.krs_laws.proofs.RightlyAsked.{made_rightly, moved_rightly, ring_made, unlinked_rightly, updated_then}
-use Rattle.krs_laws.proofs.KeyLimits.{both}
+use Rattle.krs_laws.proofs.{KeyLimits.both, Rightly.{linkable_made, mapped_is, right_found, right_made, Rightly}}
+use Rattle.krs_laws.proofs.Rightly.{rightly_changed, rightly_put, rightly_same, rightly_written}
+use Rattle.krs_laws.proofs.RightlyAsked.{added_rightly, found_rightly, linked_rightly, links_nothing, made_rightly}
+use Rattle.krs_laws.proofs.RightlyAsked.{moved_rightly, ring_made, unlinked_rightly, updated_then}
 
 -- by right, where the store stands
 abbrev ByRight : State → ℕ → ℕ → Op → State → Type 0

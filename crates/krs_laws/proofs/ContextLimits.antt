@@ -1,18 +1,16 @@
 -- A client has at most 64 contexts.
 use Rattle.std.proofs.Common.{[], ◌+◌, ◌<◌, ◌==◌, ◌||◌, ◌∙◌, ◌∷◌, ◌≡◌, ◌≤◌, ap, arith, Bool, cond, Err, false, filter}
 use Rattle.std.proofs.Common.{nat_cmp, nat_le, not, Ok, Option, refl, subst, sym, true, ℕ}
-use Rattle.std.specs.BTreeMap.{is_at}
-use Rattle.std.specs.{Map.values_of, Ordering.match_ordering, declared.cmp.Ordering.TheVariants.{Equal, Greater, Less}}
 use Rattle.std.proofs.lemmas.{Bool.Decides.nat_tests, List.Sums.sum_by-cons}
-use Rattle.krs_types.specs.{declared.{ask.{Op.Op}}}
-use Rattle.krs_types.specs.declared.{context.{Context.Context, UidRings.UidRings}, errno.Errno.TheVariants.EINVAL}
-use Rattle.krs_model.specs.Asks.Entering.{without_thread}
-use Rattle.krs_model.specs.Asks.Hello.{context_count, has_context_left}
-use Rattle.krs_model.specs.{Asks.{Invalidating.context_without, Leaving.left}, State.State}
-use Rattle.krs_model.specs.{Table.{alter, map_values, put, Table, without}}
-use Rattle.krs_model.proofs.Asks.Houses.{Alters, Begins, Departs, Detaches, entering, Enters, Execs, Exits}
-use Rattle.krs_model.proofs.Asks.{Houses.{Houses, Rings, Same, Threads}}
-use Rattle.krs_model.proofs.History.Belongings.{own_client}
+use Rattle.std.specs.{BTreeMap.is_at, declared.cmp.Ordering.TheVariants.{Equal, Greater, Less}, Map.values_of}
+use Rattle.std.specs.Ordering.{match_ordering}
+use Rattle.krs_types.specs.declared.{ask.Op.Op, context.{Context.Context, UidRings.UidRings}}
+use Rattle.krs_types.specs.declared.errno.Errno.TheVariants.{EINVAL}
+use Rattle.krs_model.specs.Asks.{Entering.without_thread, Hello.{context_count, has_context_left}}
+use Rattle.krs_model.specs.{Asks.{Invalidating.context_without, Leaving.left}, State.State, Table.{alter, map_values}}
+use Rattle.krs_model.specs.Table.{put, Table, without}
+use Rattle.krs_model.proofs.Asks.Houses.{Alters, Begins, Departs, Detaches, entering, Enters, Execs, Exits, Houses}
+use Rattle.krs_model.proofs.{Asks.Houses.{Rings, Same, Threads}, History.Belongings.own_client}
 
 -- 1 where the context is the client's
 abbrev one_of : ℕ → Context → ℕ

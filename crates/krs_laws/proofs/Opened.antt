@@ -2,23 +2,21 @@
 use Rattle.std.proofs.Common.{[], ⊎_elim, ◌++◌, ◌==◌, ◌∙◌, ◌∷◌, ◌≡◌, ◌⊎◌, ap, append-nil, append_assoc, Err, inl, inr}
 use Rattle.std.proofs.Common.{List, None, not, Ok, Option, option_map, refl, Result, Some, subst, sym, ℕ}
 use Rattle.std.proofs.lemmas.Option.{none-some, same_Some}
-use Rattle.krs_types.specs.declared.ask.Answer.{Answer, TheVariants.Number}
-use Rattle.krs_types.specs.declared.{ask.Op.{Op, TheVariants.{Hello, Leave, OpenQueue}}, caller.Caller.Caller}
-use Rattle.krs_types.specs.declared.{context.Context.Context, errno.Errno.Errno, event.Event.Event}
-use Rattle.krs_model.specs.Asks.Leaving.{left}
-use Rattle.krs_model.specs.{Asks.Watching.{after_read, new_queue, with_filter}, Belonging.{HasGreeted, HasStayed}}
-use Rattle.krs_model.specs.{History.IsLegal, Notes.Posting.{after_notes, records_for}, Queues.Queues}
-use Rattle.krs_model.specs.{Sound.IsSound, State.{Queue, raised, starting_at, State}, Step.{Ends, posts_by, Step}}
-use Rattle.krs_model.specs.Table.{alter, at, IsDistinct, Table}
+use Rattle.krs_types.specs.declared.ask.{Answer.{Answer, TheVariants.Number}, Op.{Op, TheVariants.{Hello, Leave}}}
+use Rattle.krs_types.specs.declared.{ask.Op.TheVariants.OpenQueue, caller.Caller.Caller, context.Context.Context}
+use Rattle.krs_types.specs.declared.{errno.Errno.Errno, event.Event.Event}
+use Rattle.krs_model.specs.{Asks.{Leaving.left, Watching.{after_read, new_queue, with_filter}}, Belonging.HasGreeted}
+use Rattle.krs_model.specs.{Belonging.HasStayed, History.IsLegal, Notes.Posting.{after_notes, records_for}}
+use Rattle.krs_model.specs.{Queues.Queues, Sound.IsSound, State.{Queue, raised, starting_at, State}, Step.Ends}
+use Rattle.krs_model.specs.{Step.{posts_by, Step}, Table.{alter, at, IsDistinct, Table}}
 use Rattle.krs_model.proofs.Asks.Effects.{Closes, Effect, effect_of, Filters, Leaves, OfKeys, Opens, Reads, Unwatches}
-use Rattle.krs_model.proofs.{Asks.Effects.Watches, History.Belongings.{contexts_greeted, step_leaves}}
-use Rattle.krs_model.proofs.{Notes.Called.served_at, Sound.Changes.{at_change, at_put, IsChanged, IsPut}}
-use Rattle.krs_model.proofs.Sound.Steps.{legal_sound, start_sound, step_sound}
+use Rattle.krs_model.proofs.{Asks.Effects.Watches, History.Belongings.{contexts_greeted, notes_client, stayed_more}}
+use Rattle.krs_model.proofs.{History.Belongings.step_leaves, Notes.Called.served_at, Sound.Changes.{at_change, at_put}}
+use Rattle.krs_model.proofs.Sound.{Changes.{IsChanged, IsPut}, Steps.{legal_sound, start_sound, step_sound}}
 use Rattle.krs_model.proofs.Tables.{Distinct.at_filter_some, Entries.without_was}
-use Rattle.krs_laws.specs.Belonging.{HasOpened, QueuesAreTheirClients}
-use Rattle.krs_laws.specs.Emptied.{AreEmptiedByLeaving, HaveLeft, IsEmpty, IsLeft}
+use Rattle.krs_laws.specs.{Belonging.{HasOpened, QueuesAreTheirClients}, Emptied.{AreEmptiedByLeaving, HaveLeft}}
+use Rattle.krs_laws.specs.Emptied.{IsEmpty, IsLeft}
 use Rattle.krs_laws.proofs.Leftovers.{all_gone}
-use Rattle.krs_model.proofs.History.Belongings.{notes_client, stayed_more}
 
 -- ---- whence a queue is
 

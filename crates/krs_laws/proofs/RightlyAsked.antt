@@ -1,30 +1,27 @@
 -- What asks share, by right: keyrings that are made, links, moved links, keys that are found, keys that are added.
-use Rattle.std.proofs.Common.{[], ⊎_elim, ◌∙◌, ◌≡◌, ap, Bool, codes, false, inl, inr, List}
-use Rattle.std.proofs.Common.{None, Ok, refl, Result, Some, subst, sym, true, true≢false, ℕ, ℤ}
-use Rattle.krs_types.specs.KeyId.{key_id_of}
-use Rattle.krs_types.specs.{Perm.{group_byte, other_byte}, Refusing.or_refuse, Rights.{WRITE}}
+use Rattle.std.proofs.Common.{[], ⊎_elim, ◌∙◌, ◌≡◌, ap, Bool, codes, false, inl, inr, List, None, Ok, refl, Result}
+use Rattle.std.proofs.Common.{Some, subst, sym, true, true≢false, ℕ, ℤ}
 use Rattle.krs_types.specs.declared.{ask.Op.Op, caller.Caller.Caller, context.Context.Context, errno.Errno.Errno}
-use Rattle.krs_types.specs.declared.errno.Errno.TheVariants.{ENOKEY}
-use Rattle.krs_types.specs.declared.{key_id.KeyId.KeyId, kind.Kind.{Kind, TheVariants.{Keyring, Logon, User}}}
-use Rattle.krs_types.specs.declared.{name.Name.Name, rights.Want.TheVariants.Granted}
-use Rattle.krs_model.specs.{Asks.Adding.{added, first_content}}
-use Rattle.krs_model.specs.Asks.Adding.{Made, new_key, Place, place_of, Updated}
-use Rattle.krs_model.specs.Asks.{Changing.{updated}, Finding.{found_into, if_linkable}}
-use Rattle.krs_model.specs.Asks.Linked.{linked_into, name_of, unlinked_content, without_link}
-use Rattle.krs_model.specs.{Levels.is_in, Linking.{is_named, linked_content}}
-use Rattle.krs_model.specs.Lookup.{context_of, look_up}
-use Rattle.krs_model.specs.{Making.{made_for, own_ring, special_ring}, Possession.{links_of_content}}
-use Rattle.krs_model.specs.{State.{Key, State}, Table.{alter, at, put, Table}}
-use Rattle.krs_model.proofs.Asks.{LaterByAsk.{IsMoved, linked_into_is, Moves, Stays}}
-use Rattle.krs_model.proofs.{Asks.Outcomes.{Meets, meets_after, meets_ok}, Lookups.Laws.{look_up_usable}}
-use Rattle.krs_model.proofs.{Lookups.Serials.refused_is, MadeKeyring.State.HasMadeFor}
+use Rattle.krs_types.specs.declared.{errno.Errno.TheVariants.ENOKEY, key_id.KeyId.KeyId, kind.Kind.Kind}
+use Rattle.krs_types.specs.declared.{kind.Kind.TheVariants.{Keyring, Logon, User}, name.Name.Name}
+use Rattle.krs_types.specs.{declared.rights.Want.TheVariants.Granted, KeyId.key_id_of, Perm.{group_byte, other_byte}}
+use Rattle.krs_types.specs.{Refusing.or_refuse, Rights.WRITE}
+use Rattle.krs_model.specs.Asks.Adding.{added, first_content, Made, new_key, Place, place_of, Updated}
+use Rattle.krs_model.specs.Asks.{Changing.updated, Finding.{found_into, if_linkable}, Linked.{linked_into, name_of}}
+use Rattle.krs_model.specs.{Asks.Linked.{unlinked_content, without_link}, Levels.is_in, Linking.is_named}
+use Rattle.krs_model.specs.{Linking.linked_content, Lookup.{context_of, look_up}, Making.{made_for, own_ring}}
+use Rattle.krs_model.specs.{Making.special_ring, Possession.links_of_content, State.{Key, State}, Table.{alter, at}}
+use Rattle.krs_model.specs.Table.{put, Table}
+use Rattle.krs_model.proofs.Asks.{Adding.{place_found, place_writes}, LaterByAsk.{IsMoved, linked_into_is, Moves}}
+use Rattle.krs_model.proofs.Asks.{LaterByAsk.Stays, Outcomes.{Meets, meets_after, meets_ok}}
+use Rattle.krs_model.proofs.Isolation.{Births.{first_own, made_own}, Links.linkable_grants}
+use Rattle.krs_model.proofs.{Lookups.{Laws.look_up_usable, Serials.refused_is}, MadeKeyring.State.HasMadeFor}
 use Rattle.krs_model.proofs.MadeKeyring.Which.{IsMade, made_for_is, NoneMade, ProcessMade, ThreadMade}
 use Rattle.krs_model.proofs.Sound.{Changes.in_linked_content, KeyChanges.{unlinked_lessens, updated_lessens}}
 use Rattle.krs_model.proofs.{Sound.Links.linkable_is, Tables.Counts.part_in}
 use Rattle.krs_laws.specs.Integrity.{AsksAs, HasRight, IsMadeBy, Written}
 use Rattle.krs_laws.proofs.Rightly.{linkable_made, LinkedByRight, right_made, Rightly, rightly_put, rightly_same}
 use Rattle.krs_laws.proofs.Rightly.{rightly_then, rightly_written}
-use Rattle.krs_model.proofs.{Asks.Adding.{place_found, place_writes}, Isolation.{Births.{first_own, made_own}, Links.linkable_grants}}
 
 -- a keyring that the service makes for a caller, with a mask that gives others nothing
 pub ring_made :

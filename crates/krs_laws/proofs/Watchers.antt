@@ -1,29 +1,28 @@
 -- Queues are their owners', and watches are set by right.
 use Rattle.std.proofs.Common.{[], ◌==◌, ◌∙◌, ◌∷◌, ◌≡◌, ◌⊎◌, ap, arith, cond, Err, false, inl, inr, is_eq, is_some, IsOk}
 use Rattle.std.proofs.Common.{List, nat_cmp, nat_le, negsuc, None, not, Ok, Option, pos, refl, Result, Some, subst, suc}
-use Rattle.std.proofs.Common.{sym, true, true≢false, zero, ℕ, ℤ}
-use Rattle.std.specs.Ordering.{match_ordering, ordering_then}
-use Rattle.std.specs.declared.cmp.Ordering.TheVariants.{Equal, Greater, Less}
-use Rattle.std.proofs.lemmas.{Bool.Decides.nat_tests, Option.{none-some, same_Some}}
-use Rattle.krs_types.specs.{Refusing.or_refuse, Rights.VIEW, declared.ask.Answer.Answer}
-use Rattle.krs_types.specs.declared.ask.Op.{Op, TheVariants.{CloseQueue, Leave, OpenQueue, ReadQueue, SetFilter}}
-use Rattle.krs_types.specs.declared.errno.Errno.{Errno, TheVariants.{EBADF, EBUSY, EINVAL}}
-use Rattle.krs_types.specs.declared.{event.Event.Event, rights.Want.TheVariants.Granted}
+use Rattle.std.proofs.{Common.{sym, true, true≢false, zero, ℕ, ℤ}, lemmas.{Bool.Decides.nat_tests, Option.none-some}}
+use Rattle.std.proofs.lemmas.Option.{same_Some}
+use Rattle.std.specs.{declared.cmp.Ordering.TheVariants.{Equal, Greater, Less}, Ordering.match_ordering}
+use Rattle.std.specs.Ordering.{ordering_then}
+use Rattle.krs_types.specs.declared.ask.{Answer.Answer, Op.{Op, TheVariants.{CloseQueue, Leave, OpenQueue, ReadQueue}}}
+use Rattle.krs_types.specs.declared.{ask.Op.TheVariants.SetFilter, errno.Errno.{Errno, TheVariants.{EBADF, EBUSY}}}
+use Rattle.krs_types.specs.declared.{errno.Errno.TheVariants.EINVAL, event.Event.Event, rights.Want.TheVariants.Granted}
+use Rattle.krs_types.specs.{Refusing.or_refuse, Rights.VIEW}
 use Rattle.krs_model.specs.Asks.{Leaving.left, Linked.unless, Watching.{close_queue, closed, filtered, read_out}}
 use Rattle.krs_model.specs.Asks.Watching.{read_queue, set_filter, unwatched, watch, watch_id_of, watched, with_watching}
-use Rattle.krs_model.specs.Lookup.{context_of, look_up}
-use Rattle.krs_model.specs.{Orderly.Each, Queues.{if_own_queue, place_cmp, queue_of, Queues, queues_of, Watch}}
-use Rattle.krs_model.specs.{Queues.{watch_at, with_watch, without_watch}, Revocation.Names, Sound.IsSound}
-use Rattle.krs_model.specs.{State.{Queue, raised, State}, Step.{Ends, outcome_of, Step}, Sweep.live_watches, Table.at}
+use Rattle.krs_model.specs.{Lookup.{context_of, look_up}, Orderly.Each, Queues.{if_own_queue, place_cmp, queue_of}}
+use Rattle.krs_model.specs.{Queues.{Queues, queues_of, Watch, watch_at, with_watch, without_watch}, Revocation.Names}
+use Rattle.krs_model.specs.{Sound.IsSound, State.{Queue, raised, State}, Step.{Ends, outcome_of, Step}}
+use Rattle.krs_model.specs.{Sweep.live_watches, Table.at}
 use Rattle.krs_model.proofs.Asks.Done.{Closes, Effect, Filters, Leaves, OfKeys, Opens, queue_there, Reads, unwatched_is}
 use Rattle.krs_model.proofs.Asks.{Done.{Unwatches, Watches}, Effects.effect_of, Later.{bind_ok, same_ok}}
-use Rattle.krs_model.proofs.{Asks.Outcomes.{Meets, meets_after, meets_ok}, Lookups.Serials.found_serial}
+use Rattle.krs_model.proofs.{Asks.Outcomes.{Meets, meets_after, meets_nested, meets_ok}, Lookups.Serials.found_serial}
 use Rattle.krs_model.proofs.{Notes.Fitting.{each_filter, each_on}, Sound.Watches.each_without, Tables.Changes.same_at}
-use Rattle.krs_laws.specs.{Integrity.HasRight, Noting.AllWatchesAreByRight}
-use Rattle.krs_laws.specs.Noting.{IsSetBy, IsWatched, OwnsQueue, queue_asked, QueuesAreTheirOwners, WatchesByRight}
+use Rattle.krs_laws.specs.{Integrity.HasRight, Noting.{AllWatchesAreByRight, IsSetBy, IsWatched, OwnsQueue}}
+use Rattle.krs_laws.specs.Noting.{queue_asked, QueuesAreTheirOwners, WatchesByRight}
 use Rattle.krs_laws.proofs.Rightly.{right_found}
 use Rattle.krs_types.specs.declared.ask.Op.TheVariants as asks
-use Rattle.krs_model.proofs.Asks.Outcomes.{meets_nested}
 
 -- ---- queues are their owners'
 

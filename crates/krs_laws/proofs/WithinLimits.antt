@@ -1,17 +1,15 @@
 -- Each step leaves a store within its limits.
-use Rattle.std.proofs.Common.{[], ◌∙◌, ◌∷◌, ◌≡◌, ◌≤◌, ap, arith, Err, filter, List, nat_le, Ok}
-use Rattle.std.proofs.Common.{Result, subst, sym, true, ℕ}
-use Rattle.std.proofs.lemmas.{Bool.Decides.nat_tests, Option.none-some}
-use Rattle.krs_types.specs.declared.ask.Answer.{Answer}
-use Rattle.krs_types.specs.declared.{ask.Op.Op, context.Context.Context, errno.Errno.Errno, event.Event.Event}
+use Rattle.std.proofs.Common.{[], ◌∙◌, ◌∷◌, ◌≡◌, ◌≤◌, ap, arith, Err, filter, List, nat_le, Ok, Result, subst, sym}
+use Rattle.std.proofs.{Common.{true, ℕ}, lemmas.{Bool.Decides.nat_tests, Option.none-some}}
+use Rattle.krs_types.specs.declared.{ask.{Answer.Answer, Op.Op}, context.Context.Context, errno.Errno.Errno}
+use Rattle.krs_types.specs.declared.event.Event.{Event}
 use Rattle.krs_model.specs.{Asks.Hello.context_count, History.IsLegal, Notes.Waiting.is_capacity, Sound.IsSound}
 use Rattle.krs_model.specs.{State.{Key, raised, starting_at, State}, Step.{Ends, Step}, Table.{at, Table}}
-use Rattle.krs_model.proofs.Asks.{Effects.effect_of, Laws.law_of}
-use Rattle.krs_model.proofs.{Sound.Steps.{raised_sound, sound_stands, step_sound}, Tables.Changes.at_kept}
+use Rattle.krs_model.proofs.{Asks.{Effects.effect_of, Laws.law_of}, Sound.Steps.{raised_sound, sound_stands}}
+use Rattle.krs_model.proofs.{Sound.Steps.step_sound, Tables.Changes.at_kept}
 use Rattle.krs_laws.specs.Limits.{IsWithinLimits, StaysWithinLimits}
-use Rattle.krs_laws.proofs.{ContextLimits.houses_few, KeyLimits.{AllShort, both}, KeyLimitsByAsk.all_short}
-use Rattle.krs_laws.proofs.QueueLimits.{QueuesWithin, served_within}
-use Rattle.krs_laws.proofs.ByRight.{kept_is}
+use Rattle.krs_laws.proofs.{ByRight.kept_is, ContextLimits.houses_few, KeyLimits.{AllShort, both}}
+use Rattle.krs_laws.proofs.{KeyLimitsByAsk.all_short, QueueLimits.{QueuesWithin, served_within}}
 
 -- but for capacities, which IsSound has
 record Within (s : State) : Type 0 where

@@ -1,27 +1,22 @@
 -- What is proved of UPDATE, REVOKE, CHOWN, SET_PERM and SET_TIMEOUT.
-use Rattle.std.proofs.Common.{[], ◌∙◌, ◌∷◌, ◌≡◌, ap, arith, Err, List, None, Ok, refl, Result, sym, true, ℕ}
-use Rattle.std.proofs.{Common.ℤ, lemmas.Bool.Decides.nat_tests}
-use Rattle.krs_types.specs.{Kind.paid, Perm.perm_of, Refusing.◌>>=◌, Rights.{SETATTR, WRITE}}
-use Rattle.krs_types.specs.declared.ask.Answer.TheVariants.{Nothing}
-use Rattle.krs_types.specs.declared.ask.Op.TheVariants.{Chown, Revoke, SetPerm, SetTimeout, Update}
-use Rattle.krs_types.specs.declared.{context.Context.Context, errno.Errno.{Errno}, kind.Kind.Kind}
-use Rattle.krs_types.specs.declared.{kind.Kind.TheVariants.Keyring, rights.Want.TheVariants.{Granted}}
-use Rattle.krs_model.specs.Asks.Changing.{changed, chown, emptied, if_may_own, if_owner, revoke}
-use Rattle.krs_model.specs.Asks.Changing.{revoked, set_perm, set_timeout, updatable, update, updated}
-use Rattle.krs_model.specs.Asks.Changing.{with_owner, with_perm}
-use Rattle.krs_model.specs.Hiding.{blind, blind_content, blind_key, hidden_at, Hides, Hiding, over}
-use Rattle.krs_model.specs.{Lookup.{context_of, look_up}, Notes.Telling.named, Possession.links_of_content}
-use Rattle.krs_model.specs.{Sound.is_links, State.{Content, Key, Links, Payload, State}}
-use Rattle.krs_model.proofs.Asks.Fares.{changed_fares}
-use Rattle.krs_model.proofs.Asks.{Lawful.IsLawful, NotedKeys.about_small, Outcomes.{meets_after, meets_ok}}
-use Rattle.krs_model.proofs.Hiding.Accepted.{blind_done, done_changed, found_in, named_is, paid_blind}
-use Rattle.krs_model.proofs.Hiding.Over.{after}
-use Rattle.krs_model.proofs.{Isolation.Guarded.none_found, Sound.{Changes.Lessens, Contents.form_stays}}
-use Rattle.krs_model.proofs.{Sound.KeyChanges.{leaves}, Tables.Counts.{IsPart, none_part}}
+use Rattle.std.proofs.Common.{[], ◌∙◌, ◌∷◌, ◌≡◌, ap, arith, Err, List, None, Ok, refl, Result, sym, true, ℕ, ℤ}
+use Rattle.std.proofs.lemmas.Bool.Decides.{nat_tests}
+use Rattle.krs_types.specs.declared.ask.{Answer.TheVariants.Nothing, Op.TheVariants.{Chown, Revoke, SetPerm}}
+use Rattle.krs_types.specs.declared.{ask.Op.TheVariants.{SetTimeout, Update}, context.Context.Context}
+use Rattle.krs_types.specs.declared.{errno.Errno.Errno, kind.Kind.{Kind, TheVariants.Keyring}}
+use Rattle.krs_types.specs.{declared.rights.Want.TheVariants.Granted, Kind.paid, Perm.perm_of, Refusing.◌>>=◌}
+use Rattle.krs_types.specs.Rights.{SETATTR, WRITE}
+use Rattle.krs_model.specs.Asks.Changing.{changed, chown, emptied, if_may_own, if_owner, revoke, revoked, set_perm}
+use Rattle.krs_model.specs.Asks.Changing.{set_timeout, updatable, update, updated, with_owner, with_perm}
+use Rattle.krs_model.specs.{Hiding.{blind, blind_content, blind_key, hidden_at, Hides, Hiding, over}, Lookup.context_of}
+use Rattle.krs_model.specs.{Lookup.look_up, Notes.Telling.named, Possession.links_of_content, Sound.is_links}
+use Rattle.krs_model.specs.State.{Content, Key, Links, Payload, State}
+use Rattle.krs_model.proofs.Asks.{Fares.{changed_fares, fares}, Lawful.IsLawful, NotedKeys.about_small}
+use Rattle.krs_model.proofs.{Asks.{Outcomes.{meets_after, meets_ok}, Plain.plains}, Hiding.Accepted.blind_done}
+use Rattle.krs_model.proofs.Hiding.{Accepted.{done_changed, found_in, named_is, paid_blind}, Over.after, Seen.is_seen}
+use Rattle.krs_model.proofs.{Hiding.Seen.steps, Isolation.Guarded.none_found, Sound.Changes.Lessens}
+use Rattle.krs_model.proofs.{Sound.{Contents.form_stays, KeyChanges.leaves}, Tables.Counts.{IsPart, none_part}}
 use Rattle.krs_types.specs.declared.note.KeyEvent.TheVariants as told_of
-use Rattle.krs_model.proofs.Hiding.Seen.{is_seen, steps}
-use Rattle.krs_model.proofs.Asks.Fares.{fares}
-use Rattle.krs_model.proofs.Asks.Plain.{plains}
 
 emptied_part : (content : Content) → IsPart (links_of_content (emptied content)) (links_of_content content)
 emptied_part (Payload bytes) = none_part []

@@ -1,19 +1,15 @@
 -- What is proved of THREAD, FORK and EXEC.
 use Rattle.std.proofs.Common.{arith, option_to_list, refl, ℕ}
 use Rattle.krs_types.specs.declared.ask.Op.TheVariants.{Exec, Fork, Thread}
-use Rattle.krs_model.specs.Asks.{Entering.{exec, fork, if_context_number, thread, without_thread}}
-use Rattle.krs_model.specs.{Asks.{Hello.{has_context_left}}}
-use Rattle.krs_model.specs.{Lookup.context_of, Possession.process_ring, State.State}
-use Rattle.krs_model.proofs.Asks.{Houses.{Enters, Execs, Forked, Threads}, Lawful.IsLawful}
-use Rattle.krs_model.proofs.Asks.{Outcomes.{meets_after, meets_ok}}
-use Rattle.krs_model.proofs.{Hiding.{Accepted.blind_done}}
-use Rattle.krs_model.proofs.Isolation.Attachments.{attaches_none, entered_unattached, execed_unattached}
-use Rattle.krs_model.proofs.{Isolation.{Attachments.threaded_unattached, Guarded.next_apart}, Lookups.Serials.own_there}
-use Rattle.krs_model.proofs.{Reach.Levels.in_right, Sound.{Contexts.owner_there, NewContexts.context_stands}}
-use Rattle.krs_model.proofs.Sound.NewContexts.{entered_stands, execed_stands, own_process_there, own_session_there}
-use Rattle.krs_model.proofs.Hiding.Seen.{is_seen, steps}
-use Rattle.krs_model.proofs.Asks.Fares.{housed_fares}
-use Rattle.krs_model.proofs.Asks.Plain.{plains}
+use Rattle.krs_model.specs.Asks.Entering.{exec, fork, if_context_number, thread, without_thread}
+use Rattle.krs_model.specs.{Asks.Hello.has_context_left, Lookup.context_of, Possession.process_ring, State.State}
+use Rattle.krs_model.proofs.Asks.{Fares.housed_fares, Houses.{Enters, Execs, Forked, Threads}, Lawful.IsLawful}
+use Rattle.krs_model.proofs.{Asks.{Outcomes.{meets_after, meets_ok}, Plain.plains}, Hiding.Accepted.blind_done}
+use Rattle.krs_model.proofs.{Hiding.Seen.{is_seen, steps}, Isolation.Attachments.{attaches_none, entered_unattached}}
+use Rattle.krs_model.proofs.Isolation.{Attachments.{execed_unattached, threaded_unattached}, Guarded.next_apart}
+use Rattle.krs_model.proofs.{Lookups.Serials.own_there, Reach.Levels.in_right, Sound.Contexts.owner_there}
+use Rattle.krs_model.proofs.Sound.NewContexts.{context_stands, entered_stands, execed_stands, own_process_there}
+use Rattle.krs_model.proofs.Sound.NewContexts.{own_session_there}
 
 pub thread_law : (s : State) (client context : ℕ) → IsLawful s client context Thread
 unfolding thread

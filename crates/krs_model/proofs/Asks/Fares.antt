@@ -1,28 +1,24 @@
 -- What becomes of a store by an accepted ask.
-use Rattle.std.proofs.Common.{◌∙◌, ◌≡◌, Bool, cond, false, inl, Ok, refl, Result, Some, subst, sym, true, true≢false, ℕ}
-use Rattle.std.proofs.Common.{ℤ}
-use Rattle.krs_types.specs.{Refusing.or_refuse, Rights.{allows, WRITE}, declared.{ask.Op.Op, context.Context.Context}}
-use Rattle.krs_types.specs.declared.{errno.Errno.{Errno, TheVariants.ENOKEY}, rights.Want.{Want, TheVariants.Granted}}
+use Rattle.std.proofs.Common.{◌∙◌, ◌≡◌, Bool, cond, false, inl, Ok, Option, refl, Result, Some, subst, sym, true}
+use Rattle.std.proofs.Common.{true≢false, ℕ, ℤ}
+use Rattle.krs_types.specs.declared.{ask.Op.Op, context.{Context.Context, UidRings.UidRings}, errno.Errno.Errno}
+use Rattle.krs_types.specs.declared.{errno.Errno.TheVariants.ENOKEY, rights.Want.{TheVariants.Granted, Want}}
+use Rattle.krs_types.specs.{Refusing.or_refuse, Rights.{allows, WRITE}}
 use Rattle.krs_model.specs.Asks.{Changing.changed, Finding.{found_into, if_linkable}, Linked.linked_into}
-use Rattle.krs_model.specs.Confidentiality.{HasToItself, is_own, may_give}
-use Rattle.krs_model.specs.{Lookup.{context_of, look_up}, Making.{made_for, within_serials}, Outcome.Outcome}
-use Rattle.krs_model.specs.{Queues.{Queues, with_queues}, Sound.AllPlaced, State.{Key, State}, Table.at}
-use Rattle.krs_model.proofs.Asks.{Done.is_of_queues, Houses.{HousesIn, linked_houses, made_houses, Same}}
+use Rattle.krs_model.specs.{Confidentiality.{AreUnattached, HasToItself, is_own, may_give}, Lookup.context_of}
+use Rattle.krs_model.specs.{Lookup.look_up, Making.{made_for, within_serials}, Outcome.Outcome, Queues.Queues}
+use Rattle.krs_model.specs.{Queues.with_queues, Sound.AllPlaced, State.{Key, State}, Table.{at, Table}}
+use Rattle.krs_model.proofs.Asks.{Done.is_of_queues, Houses.{Houses, HousesIn, linked_houses, made_houses, Same}}
 use Rattle.krs_model.proofs.Asks.Later.{changed_comes, Comes, comes_trans, same_comes, within_ok}
-use Rattle.krs_model.proofs.Asks.LaterByAsk.{linked_into_comes, made_for_comes}
-use Rattle.krs_model.proofs.Asks.NewSerials.{counts_within, IsWithin, same_counts}
-use Rattle.krs_model.proofs.Asks.Outcomes.{Meets, meets_after, meets_ok}
-use Rattle.krs_model.proofs.Isolation.{Attachments.same_unattached, Guarded.alone_guarded}
-use Rattle.krs_model.proofs.Isolation.Guarded.{changed_guarded, Guarded, Holds, lessens_keeps, none_found, NotBy}
-use Rattle.krs_model.proofs.Isolation.Links.{linked_guarded, made_alone, other_linkable, other_made}
-use Rattle.krs_model.proofs.Isolation.Untouched.{KeysAfter, linked_same, made_same, not_into, other_same, same_trans}
+use Rattle.krs_model.proofs.Asks.{LaterByAsk.{linked_into_comes, made_for_comes}, NewSerials.{counts_within, IsWithin}}
+use Rattle.krs_model.proofs.Asks.{NewSerials.same_counts, Outcomes.{Meets, meets_after, meets_ok}}
+use Rattle.krs_model.proofs.Isolation.{Attachments.same_unattached, Guarded.{alone_guarded, changed_guarded, Guarded}}
+use Rattle.krs_model.proofs.Isolation.{Guarded.{Holds, lessens_keeps, none_found, NotBy}, Links.linked_guarded}
+use Rattle.krs_model.proofs.Isolation.{Links.{made_alone, other_linkable, other_made}, Untouched.KeysAfter}
+use Rattle.krs_model.proofs.Isolation.Untouched.{linked_same, made_same, not_into, other_same, same_trans}
 use Rattle.krs_model.proofs.{Lookups.Serials.refused_is, Sound.Changes.{changed_stands, Lessens, same_stands, Stands}}
-use Rattle.krs_model.proofs.Sound.{Links.{linkable_is, linked_into_stands}, NewContexts.made_for_stands}
-use Rattle.krs_model.proofs.Sound.KeyChanges.{leaves, unlinked_lessens, updated_lessens}
-use Rattle.krs_types.specs.declared.context.UidRings.{UidRings}
-use Rattle.krs_model.specs.{Confidentiality.AreUnattached, Table.Table}
-use Rattle.krs_model.proofs.Asks.Houses.{Houses}
-use Rattle.std.proofs.Common.{Option}
+use Rattle.krs_model.proofs.Sound.{KeyChanges.{leaves, unlinked_lessens, updated_lessens}, Links.linkable_is}
+use Rattle.krs_model.proofs.Sound.{Links.linked_into_stands, NewContexts.made_for_stands}
 
 -- what an accepted ask leaves before the sweep
 pub record Fares (s : State) (client context : ℕ) (op : Op) (new : State) : Type 0 where

@@ -1,17 +1,15 @@
 -- What is proved of GET_ID.
 use Rattle.std.proofs.Common.{◌≡◌, Bool, false, inl, Ok, refl, true, ℕ, ℤ}
-use Rattle.krs_types.specs.{Rights.SEARCH, declared.ask.{Op.{Op, TheVariants.GetId}}}
-use Rattle.krs_types.specs.declared.{context.Context.Context, rights.Want.TheVariants.Granted}
-use Rattle.krs_model.specs.Asks.{Finding.{get_id, made_where}}
-use Rattle.krs_model.specs.{Confidentiality.HasToItself, Hiding.{blind, Hiding}, Lookup.{context_of, look_up}}
-use Rattle.krs_model.specs.{State.{State}}
+use Rattle.krs_types.specs.declared.{ask.Op.{Op, TheVariants.GetId}, context.Context.Context}
+use Rattle.krs_types.specs.{declared.rights.Want.TheVariants.Granted, Rights.SEARCH}
+use Rattle.krs_model.specs.{Asks.Finding.{get_id, made_where}, Confidentiality.HasToItself, Hiding.{blind, Hiding}}
+use Rattle.krs_model.specs.{Lookup.{context_of, look_up}, State.State}
 use Rattle.krs_model.proofs.Asks.{Fares.fares_within, Houses.{HousesIn, made_houses, Same}, Later.{Comes, same_comes}}
 use Rattle.krs_model.proofs.Asks.{LaterByAsk.made_for_comes, Lawful.IsLawful, Outcomes.{meets_after, meets_ok}}
-use Rattle.krs_model.proofs.Hiding.{Accepted.{blind_done}, Links.{blind_made, made_blind}}
-use Rattle.krs_model.proofs.Isolation.{Guarded.alone_guarded, Links.made_alone, Untouched.{AreSame, made_same}}
-use Rattle.krs_model.proofs.Sound.{Changes.Stands, NewContexts.made_for_stands}
-use Rattle.krs_model.proofs.Hiding.Seen.{is_seen, steps}
-use Rattle.krs_model.proofs.Asks.Plain.{plains}
+use Rattle.krs_model.proofs.{Asks.Plain.plains, Hiding.{Accepted.blind_done, Links.{blind_made, made_blind}}}
+use Rattle.krs_model.proofs.{Hiding.Seen.{is_seen, steps}, Isolation.{Guarded.alone_guarded, Links.made_alone}}
+use Rattle.krs_model.proofs.{Isolation.Untouched.{AreSame, made_same}, Sound.Changes.Stands}
+use Rattle.krs_model.proofs.Sound.NewContexts.{made_for_stands}
 
 made_where_comes :
     (create : Bool) (s : State) (number : ℕ) (c : Context) (id : ℤ) → Comes s (made_where create s number c id).0

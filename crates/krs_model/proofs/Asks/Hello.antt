@@ -1,22 +1,20 @@
 -- What is proved of HELLO.
-use Rattle.std.proofs.Common.{[], ◌+◌, ◌<◌, ◌||◌, ◌∙◌, ◌∷◌, ◌≡◌, ap, arith, Bool, codes, cond, Err, false, inl}
-use Rattle.std.proofs.Common.{inr, ltb-false, nat_lt, None, Ok, Option, refl, Some, subst, sym, true, true≢false, ℕ}
-use Rattle.krs_types.specs.{Caller.caller_check, declared.ask.{Op.TheVariants.Hello}}
-use Rattle.krs_types.specs.declared.{caller.Caller.Caller, context.UidRings.UidRings, errno.Errno.TheVariants.ENOSPC}
-use Rattle.krs_model.specs.Asks.{Hello.first_session}
-use Rattle.krs_model.specs.Asks.Hello.{has_context_left, has_numbers, hello, uid_ring, with_context, with_uid}
-use Rattle.krs_model.specs.{Asks.Leaving.left, Confidentiality.{AreEnclosed, AreUnattached, HasToItself}}
-use Rattle.krs_model.specs.{Hiding.{blind, Hiding}, Making.with_new, State.{Key, State}, Table.{at, put, Table}}
-use Rattle.krs_model.proofs.Asks.Houses.{Begins, Enters, HousesIn, Named}
-use Rattle.krs_model.proofs.Asks.Later.{Comes, comes_trans, same_comes, with_new_comes}
-use Rattle.krs_model.proofs.Asks.{Lawful.IsLawful, NewSerials.{IsWithin, same_counts}, Outcomes.{meets_after, meets_ok}}
-use Rattle.krs_model.proofs.{Asks.Plain.plain, Hiding.{Accepted.{blind_done}, Keys.put_blind}}
-use Rattle.krs_model.proofs.Isolation.Attachments.{entered_unattached, first_session_apart, with_uid_unattached}
-use Rattle.krs_model.proofs.Isolation.Guarded.{next_apart, uid_placed, uid_processes}
-use Rattle.krs_model.proofs.Isolation.{Keys.put_enclosed, Untouched.{AreSame, put_same, same_trans}}
-use Rattle.krs_model.proofs.{Reach.Levels.only_in, Sound.Changes.Stands}
+use Rattle.std.proofs.Common.{[], ◌+◌, ◌<◌, ◌||◌, ◌∙◌, ◌∷◌, ◌≡◌, ap, arith, Bool, codes, cond, Err, false, inl, inr}
+use Rattle.std.proofs.Common.{ltb-false, nat_lt, None, Ok, Option, refl, Some, subst, sym, true, true≢false, ℕ}
+use Rattle.krs_types.specs.{Caller.caller_check, declared.{ask.Op.TheVariants.Hello, caller.Caller.Caller}}
+use Rattle.krs_types.specs.declared.{context.UidRings.UidRings, errno.Errno.TheVariants.ENOSPC}
+use Rattle.krs_model.specs.Asks.Hello.{first_session, has_context_left, has_numbers, hello, uid_ring, with_context}
+use Rattle.krs_model.specs.{Asks.{Hello.with_uid, Leaving.left}, Confidentiality.{AreEnclosed, AreUnattached}}
+use Rattle.krs_model.specs.{Confidentiality.HasToItself, Hiding.{blind, Hiding}, Making.with_new, State.{Key, State}}
+use Rattle.krs_model.specs.Table.{at, put, Table}
+use Rattle.krs_model.proofs.Asks.{Houses.{Begins, Enters, HousesIn, Named}, Later.{Comes, comes_trans, same_comes}}
+use Rattle.krs_model.proofs.Asks.{Later.with_new_comes, Lawful.IsLawful, NewSerials.{IsWithin, same_counts}}
+use Rattle.krs_model.proofs.{Asks.{Outcomes.{meets_after, meets_ok}, Plain.plain}, Hiding.Accepted.blind_done}
+use Rattle.krs_model.proofs.{Hiding.{Keys.put_blind, Seen.{is_seen, steps}}, Isolation.Attachments.entered_unattached}
+use Rattle.krs_model.proofs.Isolation.{Attachments.{first_session_apart, with_uid_unattached}, Guarded.next_apart}
+use Rattle.krs_model.proofs.Isolation.{Guarded.{uid_placed, uid_processes}, Keys.put_enclosed, Untouched.AreSame}
+use Rattle.krs_model.proofs.{Isolation.Untouched.{put_same, same_trans}, Reach.Levels.only_in, Sound.Changes.Stands}
 use Rattle.krs_model.proofs.Sound.NewContexts.{entered_stands, session_there, uid_there, with_uid_stands}
-use Rattle.krs_model.proofs.Hiding.Seen.{is_seen, steps}
 
 -- the keyrings of a uid come one by one
 with_uid_comes : (s : State) (c : Caller) (rings : Option UidRings) → Comes s (with_uid s c rings)

@@ -1,16 +1,15 @@
 -- What an accepted ask does to contexts, processes and uids.
 use Rattle.std.proofs.Common.{◌≡◌, None, Ok, Option, refl, Result, Some, subst, ℕ, ℤ}
-use Rattle.krs_types.specs.{KeyId.key_id_of, Rights.SEARCH, declared.ask.Op.Op}
-use Rattle.krs_types.specs.declared.ask.Op.TheVariants.{Exec, Exit, Fork, Hello, Invalidate, Leave, Thread}
+use Rattle.krs_types.specs.declared.ask.Op.{Op, TheVariants.{Exec, Exit, Fork, Hello, Invalidate, Leave, Thread}}
 use Rattle.krs_types.specs.declared.{caller.Caller.Caller, context.{Context.Context, UidRings.UidRings}}
 use Rattle.krs_types.specs.declared.{errno.Errno.Errno, key_id.KeyId.KeyId, rights.Want.TheVariants.Granted}
-use Rattle.krs_model.specs.Asks.Entering.{execed, without_thread}
+use Rattle.krs_types.specs.{KeyId.key_id_of, Rights.SEARCH}
+use Rattle.krs_model.specs.Asks.{Entering.{execed, without_thread}, Hello.has_context_left}
 use Rattle.krs_model.specs.Asks.{Invalidating.{context_without, detached, rings_without}, Leaving.{exited, left}}
 use Rattle.krs_model.specs.{Asks.Linked.linked_into, Lookup.{context_of, look_up}, Making.{made_for, thread_to}}
 use Rattle.krs_model.specs.{Search.found, State.{Key, State}, Table.{alter, at, map_values, put, Table}}
-use Rattle.krs_model.proofs.Asks.LaterByAsk.{linked_into_is}
-use Rattle.krs_model.proofs.MadeKeyring.Which.{IsMade, made_for_is, NoneMade, ProcessMade, ThreadMade}
-use Rattle.krs_model.specs.Asks.Hello.{has_context_left}
+use Rattle.krs_model.proofs.{Asks.LaterByAsk.linked_into_is, MadeKeyring.Which.{IsMade, made_for_is, NoneMade}}
+use Rattle.krs_model.proofs.MadeKeyring.Which.{ProcessMade, ThreadMade}
 
 -- a context in a process of its own
 abbrev pub entering : State → ℕ → Caller → Option ℕ → Context

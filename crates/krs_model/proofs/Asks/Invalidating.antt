@@ -1,25 +1,22 @@
 -- What is proved of INVALIDATE.
 use Rattle.std.proofs.Common.{◌∙◌, ◌≡◌, ap, arith, inr, None, Option, option_map, option_to_list, refl, Some, true, ℕ}
 use Rattle.std.proofs.Common.{ℤ}
-use Rattle.krs_types.specs.{Rights.SEARCH, declared.ask.Answer.TheVariants.Nothing}
-use Rattle.krs_types.specs.declared.{ask.Op.TheVariants.Invalidate, rights.Want.TheVariants.Granted}
+use Rattle.krs_types.specs.declared.ask.{Answer.TheVariants.Nothing, Op.TheVariants.Invalidate}
+use Rattle.krs_types.specs.{declared.rights.Want.TheVariants.Granted, Rights.SEARCH}
 use Rattle.krs_model.specs.Asks.Invalidating.{context_without, detached, invalidate, invalidated, rings_without}
 use Rattle.krs_model.specs.{Asks.Linked.without_link, Hiding.{blind, Hiding}, Lookup.{context_of, look_up}}
 use Rattle.krs_model.specs.{Notes.Telling.named, Queues.queues_of, Sound.AllAttached, State.{Key, State}}
 use Rattle.krs_model.specs.{Sweep.{context_roots, process_roots, uid_roots}, Table.{at, map_values, Table}}
 use Rattle.krs_model.proofs.Asks.{Houses.Detaches, Later.{Comes, is_gone}, Lawful.IsLawful, NewSerials.same_counts}
-use Rattle.krs_model.proofs.Asks.NotedKeys.{about_small}
-use Rattle.krs_model.proofs.Asks.{Outcomes.{meets_after, meets_ok}}
-use Rattle.krs_model.proofs.Hiding.Accepted.{accepted, blind_done, found_in}
-use Rattle.krs_model.proofs.{Hiding.{Keys.map_blind, Links.without_blind}, Isolation.Attachments.invalidated_unattached}
-use Rattle.krs_model.proofs.{Isolation.Keys.mapped_enclosed, Sound.Attached.{attached_by, attached_mapped}}
-use Rattle.krs_model.proofs.Sound.Attached.{context_keys, in_context, in_process, in_uid, own_process, uid_keys}
-use Rattle.krs_model.proofs.Sound.Changes.{mapped_stands, same_stands, Stands, there_map}
-use Rattle.krs_model.proofs.Sound.{Contexts.mapped_housed, KeyChanges.{both_in, detached_in, unlinked_lessens}}
-use Rattle.krs_model.proofs.Sound.NewContexts.{ArePlaced, in_placed, placed_in}
+use Rattle.krs_model.proofs.Asks.{NotedKeys.about_small, Outcomes.{meets_after, meets_ok}, Plain.plains}
+use Rattle.krs_model.proofs.Hiding.{Accepted.{accepted, blind_done, found_in}, Keys.map_blind, Links.without_blind}
+use Rattle.krs_model.proofs.Isolation.{Attachments.invalidated_unattached, Keys.mapped_enclosed}
+use Rattle.krs_model.proofs.Sound.Attached.{attached_by, attached_mapped, context_keys, in_context, in_process, in_uid}
+use Rattle.krs_model.proofs.Sound.{Attached.{own_process, uid_keys}, Changes.{mapped_stands, same_stands, Stands}}
+use Rattle.krs_model.proofs.Sound.{Changes.there_map, Contexts.mapped_housed, KeyChanges.{both_in, detached_in}}
+use Rattle.krs_model.proofs.Sound.{KeyChanges.unlinked_lessens, NewContexts.{ArePlaced, in_placed, placed_in}}
 use Rattle.krs_model.proofs.Tables.{Changes.at_map, Counts.part_in}
 use Rattle.krs_types.specs.declared.note.KeyEvent.TheVariants as told_of
-use Rattle.krs_model.proofs.Asks.Plain.{plains}
 
 gone_mapped : (f : Key → Key) (o : Option Key) → ((v : Key) → (f v).revoked ≡ v.revoked) → is_gone o ≡ true
     → is_gone (option_map f o) ≡ true

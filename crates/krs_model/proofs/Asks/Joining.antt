@@ -2,27 +2,23 @@
 use Rattle.std.proofs.Common.{[], ◌==◌, ◌∙◌, ◌∷◌, ◌≡◌, ◌≢◌, ap, arith, Bool, codes, cond, false, find, inl, length}
 use Rattle.std.proofs.Common.{List, None, Ok, Option, option_map, refl, Some, sym, true, true≢false, ℕ}
 use Rattle.std.proofs.lemmas.{Bool.Decides.nat_tests, Option.none-some}
-use Rattle.krs_types.specs.Perm.{named_session_mask, session_mask}
-use Rattle.krs_types.specs.{Rights.{has_all, SEARCH}, declared.ask.Answer.TheVariants.Number}
-use Rattle.krs_types.specs.declared.{ask.Op.TheVariants.Join, caller.Caller.Caller, context.Context.Context}
+use Rattle.krs_types.specs.declared.{ask.{Answer.TheVariants.Number, Op.TheVariants.Join}, caller.Caller.Caller}
+use Rattle.krs_types.specs.{declared.context.Context.Context, Perm.{named_session_mask, session_mask}, Rights.has_all}
+use Rattle.krs_types.specs.Rights.{SEARCH}
 use Rattle.krs_model.specs.Asks.Joining.{is_joinable, join, joinable, joined_to, session_joined, session_named}
 use Rattle.krs_model.specs.{Asks.Joining.{session_ring, session_to}, Confidentiality.{AreUnattached, HasToItself}}
-use Rattle.krs_model.specs.Hiding.{blind, blind_key, blind_keys, Hiding}
-use Rattle.krs_model.specs.{Lookup.context_of, Making.{own_ring, with_new}, Outcome.Outcome}
-use Rattle.krs_model.specs.{Search.found, State.{Key, State}, Table.{at, put, Rises, Table}}
-use Rattle.krs_model.proofs.Asks.{Fares.{Fares, fares_within}, Houses.Alters, Joins.{found_least, passed_may}}
-use Rattle.krs_model.proofs.Asks.Later.{comes_trans, same_comes, with_new_comes}
-use Rattle.krs_model.proofs.Asks.{Lawful.IsLawful, NewSerials.IsWithin, Outcomes.{Meets, meets_after, meets_ok}}
-use Rattle.krs_model.proofs.Asks.Plain.{IsPlain, plain, plain_ok}
-use Rattle.krs_model.proofs.Hiding.Accepted.{blind_done}
-use Rattle.krs_model.proofs.Hiding.{Keys.put_blind, Lookups.blind_found}
+use Rattle.krs_model.specs.{Hiding.{blind, blind_key, blind_keys, Hiding}, Lookup.context_of, Making.own_ring}
+use Rattle.krs_model.specs.{Making.with_new, Outcome.Outcome, Search.found, State.{Key, State}, Table.{at, put, Rises}}
+use Rattle.krs_model.specs.Table.{Table}
+use Rattle.krs_model.proofs.Asks.{Fares.{Fares, fares_within, housed_fares}, Houses.Alters, Joins.found_least}
+use Rattle.krs_model.proofs.Asks.{Joins.passed_may, Later.{comes_trans, same_comes, with_new_comes}, Lawful.IsLawful}
+use Rattle.krs_model.proofs.Asks.{NewSerials.IsWithin, Outcomes.{Meets, meets_after, meets_ok}, Plain.{IsPlain, plain}}
+use Rattle.krs_model.proofs.{Asks.Plain.{plain_ok, plains}, Hiding.{Accepted.blind_done, Keys.put_blind}}
+use Rattle.krs_model.proofs.Hiding.{Lookups.blind_found, Seen.{is_seen, IsSeen, steps}}
 use Rattle.krs_model.proofs.Isolation.Attachments.{joined_unattached, own_joined_unattached, same_unattached}
 use Rattle.krs_model.proofs.Isolation.{Guarded.next_apart, Keys.no_class, Links.{later_made, new_enclosed}}
-use Rattle.krs_model.proofs.{Isolation.Untouched.put_same, Lookups.Serials.own_there}
-use Rattle.krs_model.proofs.Sound.NewContexts.{joinable_there, joined_stands, new_joined_stands, session_ring_empty}
-use Rattle.krs_model.proofs.Asks.Fares.{housed_fares}
-use Rattle.krs_model.proofs.Asks.Plain.{plains}
-use Rattle.krs_model.proofs.Hiding.Seen.{is_seen, IsSeen, steps}
+use Rattle.krs_model.proofs.{Isolation.Untouched.put_same, Lookups.Serials.own_there, Sound.NewContexts.joinable_there}
+use Rattle.krs_model.proofs.Sound.NewContexts.{joined_stands, new_joined_stands, session_ring_empty}
 
 plain_session_named : (name : List ℕ) → IsPlain (session_named name)
 plain_session_named name = search plain

@@ -1,13 +1,12 @@
 -- What comes from a state by what asks share: made keyrings, links, moved links and keys that were found.
 use Rattle.std.proofs.Common.{◌&&◌, ◌==◌, ◌≡◌, Bool, codes, cond, false, is_some, List, Ok, refl, Result, subst, true}
 use Rattle.std.proofs.Common.{ℕ, ℤ}
-use Rattle.krs_types.specs.{KeyId.key_id_of, Refusing.◌>>=◌, declared.context.Context.Context}
-use Rattle.krs_types.specs.declared.{errno.Errno.{Errno, TheVariants.{EEXIST, EPERM}}, key_id.KeyId.KeyId}
-use Rattle.krs_model.specs.Asks.{Changing.changed, Linked.if_linked}
-use Rattle.krs_model.specs.Asks.Linked.{link_check, linked_into, name_of, nestable, unless, without_link}
-use Rattle.krs_model.specs.{Asks.Moving.{moved, moved_over}, Linking.{has_room, link_named, linking, ring_links}}
-use Rattle.krs_model.specs.Making.{made_for, special_ring, with_new, with_process, with_thread}
-use Rattle.krs_model.specs.{Search.found, State.{Key, State}}
+use Rattle.krs_types.specs.declared.{context.Context.Context, errno.Errno.{Errno, TheVariants.{EEXIST, EPERM}}}
+use Rattle.krs_types.specs.{declared.key_id.KeyId.KeyId, KeyId.key_id_of, Refusing.◌>>=◌}
+use Rattle.krs_model.specs.Asks.{Changing.changed, Linked.{if_linked, link_check, linked_into, name_of, nestable}}
+use Rattle.krs_model.specs.{Asks.{Linked.{unless, without_link}, Moving.{moved, moved_over}}, Linking.has_room}
+use Rattle.krs_model.specs.{Linking.{link_named, linking, ring_links}, Making.{made_for, special_ring, with_new}}
+use Rattle.krs_model.specs.{Making.{with_process, with_thread}, Search.found, State.{Key, State}}
 use Rattle.krs_model.proofs.Asks.Later.{bind_ok, changed_comes, Comes, comes_trans, same_comes, same_ok, with_new_comes}
 use Rattle.krs_model.proofs.MadeKeyring.Which.{IsMade, made_for_is, NoneMade, ProcessMade, ThreadMade}
 

@@ -1,26 +1,21 @@
 -- What is proved of EXIT and LEAVE.
-use Rattle.std.proofs.Common.{◌==◌, ◌∙◌, ◌≡◌, ap, Bool, cond, false, inl, IsSome, List, option_to_list}
-use Rattle.std.proofs.Common.{refl, subst, sym, true, true≢false, ℕ}
+use Rattle.std.proofs.Common.{◌==◌, ◌∙◌, ◌≡◌, ap, Bool, cond, false, inl, IsSome, List, option_to_list, refl, subst}
+use Rattle.std.proofs.Common.{sym, true, true≢false, ℕ}
 use Rattle.std.specs.{List.list_any, Map.values_of}
-use Rattle.krs_types.specs.declared.ask.Answer.TheVariants.{Nothing}
-use Rattle.krs_types.specs.declared.{ask.Op.TheVariants.{Exit, Leave}, context.Context.Context}
+use Rattle.krs_types.specs.declared.ask.{Answer.TheVariants.Nothing, Op.TheVariants.{Exit, Leave}}
+use Rattle.krs_types.specs.declared.context.Context.{Context}
 use Rattle.krs_model.specs.{Asks.Leaving.{exit, exited, has_process, has_uid, left}, Confidentiality.HasToItself}
-use Rattle.krs_model.specs.{Hiding.{blind, Hiding}, Levels.is_in, Lookup.context_of, Sound.AllAttached}
-use Rattle.krs_model.specs.{State.State, Sweep.{context_roots, process_roots, uid_roots}, Table.{at, Table, without}}
-use Rattle.krs_model.proofs.Asks.{Houses.{Departs, Exits}, Lawful.IsLawful}
-use Rattle.krs_model.proofs.Asks.{NewSerials.{IsWithin, same_counts}, Outcomes.{meets_after, meets_ok}}
-use Rattle.krs_model.proofs.{Asks.Plain.{plain_ok}, Hiding.Accepted.{accepted, blind_done}}
-use Rattle.krs_model.proofs.{Isolation.Attachments.{exited_unattached, left_unattached}}
-use Rattle.krs_model.proofs.Isolation.{Guarded.Guarded, Untouched.AreSame}
-use Rattle.krs_model.proofs.Sound.Attached.{attached_by, attached_fewer, attached_without, attachments, context_keys}
-use Rattle.krs_model.proofs.Sound.Attached.{in_context, in_process, in_uid, own_process, uid_keys}
-use Rattle.krs_model.proofs.Sound.Changes.{kept_some, same_stands, Stands}
-use Rattle.krs_model.proofs.Sound.Contexts.{exited_housed, left_housed, there_unless}
+use Rattle.krs_model.specs.{Hiding.{blind, Hiding}, Levels.is_in, Lookup.context_of, Sound.AllAttached, State.State}
+use Rattle.krs_model.specs.{Sweep.{context_roots, process_roots, uid_roots}, Table.{at, Table, without}}
+use Rattle.krs_model.proofs.Asks.{Fares.housed_fares, Houses.{Departs, Exits}, Lawful.IsLawful, NewSerials.IsWithin}
+use Rattle.krs_model.proofs.Asks.{NewSerials.same_counts, Outcomes.{meets_after, meets_ok}, Plain.{plain_ok, plains}}
+use Rattle.krs_model.proofs.Hiding.{Accepted.{accepted, blind_done}, Seen.{is_seen, steps}}
+use Rattle.krs_model.proofs.Isolation.Attachments.{exited_unattached, left_unattached, process_of_one}
+use Rattle.krs_model.proofs.{Isolation.{Guarded.Guarded, Untouched.AreSame}, Sound.Attached.attached_by}
+use Rattle.krs_model.proofs.Sound.Attached.{attached_fewer, attached_without, attachments, context_keys, in_context}
+use Rattle.krs_model.proofs.Sound.{Attached.{in_process, in_uid, own_process, uid_keys}, Changes.kept_some}
+use Rattle.krs_model.proofs.Sound.{Changes.{same_stands, Stands}, Contexts.{exited_housed, left_housed, there_unless}}
 use Rattle.krs_model.proofs.{Sound.NewContexts.{ArePlaced, in_placed, placed_in}, Tables.Changes.at_kept}
-use Rattle.krs_model.proofs.Isolation.Attachments.{process_of_one}
-use Rattle.krs_model.proofs.Hiding.Seen.{is_seen, steps}
-use Rattle.krs_model.proofs.Asks.Fares.{housed_fares}
-use Rattle.krs_model.proofs.Asks.Plain.{plains}
 
 left_within : (s : State) (client : ℕ) → IsWithin s (left s client)
 unfolding left

@@ -1,29 +1,22 @@
 -- What is proved of LINK, UNLINK and CLEAR.
 use Rattle.std.proofs.Common.{[], ◌≡◌, Bool, IsSome, List, Ok, refl, subst, true, ℕ, ℤ}
-use Rattle.krs_types.specs.Refusing.{or_refuse}
-use Rattle.krs_types.specs.{Rights.{LINK, WRITE}, declared.ask.Answer.{Answer, TheVariants.Nothing}}
-use Rattle.krs_types.specs.declared.{ask.Op.TheVariants.{Clear, Link, Unlink}, context.Context.Context}
-use Rattle.krs_types.specs.declared.{errno.Errno.{TheVariants.ENOKEY}, rights.Want.TheVariants.Granted}
+use Rattle.krs_types.specs.declared.ask.{Answer.{Answer, TheVariants.Nothing}, Op.TheVariants.{Clear, Link, Unlink}}
+use Rattle.krs_types.specs.declared.{context.Context.Context, errno.Errno.TheVariants.ENOKEY}
+use Rattle.krs_types.specs.{declared.rights.Want.TheVariants.Granted, Refusing.or_refuse, Rights.{LINK, WRITE}}
 use Rattle.krs_model.specs.Asks.{Changing.changed, Linked.{clear, cleared, cleared_content, if_linked, link, linked}}
 use Rattle.krs_model.specs.{Asks.Linked.{linked_into, name_of, unlink, without_link}, Confidentiality.HasToItself}
-use Rattle.krs_model.specs.{Hiding.{blind_content}, Linking.{linking, ring_links}}
-use Rattle.krs_model.specs.{Lookup.{context_of, look_up, serial_of}, Making.{made_for}}
-use Rattle.krs_model.specs.{Notes.Telling.named, Possession.links_of_content, Search.found}
-use Rattle.krs_model.specs.{Sound.is_links, State.{Content, Key, Links, Payload, State}, Table.at}
-use Rattle.krs_model.proofs.Asks.Fares.{fares_within, linked_fares}
-use Rattle.krs_model.proofs.Asks.{Later.{bind_ok, same_ok, same_state, within_ok}, LaterByAsk.linked_into_is}
-use Rattle.krs_model.proofs.Asks.{Lawful.IsLawful, NewSerials.small_there, NotedKeys.{about_link_small, about_small}}
-use Rattle.krs_model.proofs.Asks.{Outcomes.{meets_after, meets_ok}}
-use Rattle.krs_model.proofs.Hiding.Accepted.{blind_done}
-use Rattle.krs_model.proofs.Hiding.Links.{made_blind, without_blind}
-use Rattle.krs_model.proofs.Isolation.{Keys.not_found, Links.{IsOther, made_alone, other_made}}
-use Rattle.krs_model.proofs.Lookups.{Laws.look_up_usable, Serials.{found_serial, refused_is}}
-use Rattle.krs_model.proofs.{MadeKeyring.Which.made_still, Sound.{Changes.{Lessens, there_alter}, Contents.form_stays}}
-use Rattle.krs_model.proofs.{Tables.Counts.{IsPart, none_part}}
+use Rattle.krs_model.specs.{Hiding.blind_content, Linking.{linking, ring_links}, Lookup.{context_of, look_up}}
+use Rattle.krs_model.specs.{Lookup.serial_of, Making.made_for, Notes.Telling.named, Possession.links_of_content}
+use Rattle.krs_model.specs.{Search.found, Sound.is_links, State.{Content, Key, Links, Payload, State}, Table.at}
+use Rattle.krs_model.proofs.Asks.{Fares.{fares, fares_within, linked_fares}, Later.{bind_ok, same_ok, same_state}}
+use Rattle.krs_model.proofs.Asks.{Later.within_ok, LaterByAsk.linked_into_is, Lawful.IsLawful, NewSerials.small_there}
+use Rattle.krs_model.proofs.Asks.{NotedKeys.{about_link_small, about_small}, Outcomes.{meets_after, meets_ok}}
+use Rattle.krs_model.proofs.{Asks.Plain.plains, Hiding.{Accepted.blind_done, Links.{made_blind, without_blind}}}
+use Rattle.krs_model.proofs.{Hiding.Seen.{is_seen, steps}, Isolation.{Keys.not_found, Links.{IsOther, made_alone}}}
+use Rattle.krs_model.proofs.{Isolation.Links.other_made, Lookups.{Laws.look_up_usable, Serials.found_serial}}
+use Rattle.krs_model.proofs.{Lookups.Serials.refused_is, MadeKeyring.Which.made_still, Sound.Changes.Lessens}
+use Rattle.krs_model.proofs.{Sound.{Changes.there_alter, Contents.form_stays}, Tables.Counts.{IsPart, none_part}}
 use Rattle.krs_types.specs.declared.note.KeyEvent.TheVariants as told_of
-use Rattle.krs_model.proofs.Asks.Fares.{fares}
-use Rattle.krs_model.proofs.Asks.Plain.{plains}
-use Rattle.krs_model.proofs.Hiding.Seen.{is_seen, steps}
 
 -- the key that LINK links, and the one that UNLINK takes out
 link_there :

@@ -1,38 +1,28 @@
 -- What is proved of MOVE.
-use Rattle.std.proofs.Common.{[], ◌&&◌, ◌++◌, ◌<◌, ◌==◌, ◌^◌, ◌∷◌, ◌≡◌, Bool, cond, false, inl, is_some}
-use Rattle.std.proofs.Common.{IsSome, List, nat_lt, Ok, refl, Result, Some, subst, true, ℕ, ℤ}
-use Rattle.krs_types.specs.{Refusing.◌>>=◌, Rights.{LINK, WRITE}, declared.ask.Answer.{Answer}}
-use Rattle.krs_types.specs.declared.{ask.Op.{Op, TheVariants.Move}, context.Context.Context, errno.Errno.Errno}
-use Rattle.krs_types.specs.declared.{errno.Errno.TheVariants.{EEXIST, EINVAL}, rights.Want.TheVariants.Granted}
-use Rattle.krs_model.specs.Asks.{Changing.changed}
-use Rattle.krs_model.specs.Asks.Linked.{linked, unless, without_link}
-use Rattle.krs_model.specs.Asks.Moving.{move_link, moved}
-use Rattle.krs_model.specs.{Confidentiality.HasToItself, Hiding.{Hiding}, Linking.{link_named}}
-use Rattle.krs_model.specs.{Lookup.{context_of, look_up, serial_of}, Making.{made_for}}
-use Rattle.krs_model.specs.Notes.{Posting.Note, Telling.{about_link, about_moved, is_one_ring, named}}
-use Rattle.krs_model.specs.{Search.found, State.{Key, State}, Table.{alter, at, Table}}
+use Rattle.std.proofs.Common.{[], ◌&&◌, ◌++◌, ◌<◌, ◌==◌, ◌^◌, ◌∷◌, ◌≡◌, Bool, cond, false, inl, is_some, IsSome, List}
+use Rattle.std.proofs.Common.{nat_lt, Ok, refl, Result, Some, subst, sym, true, ℕ, ℤ}
+use Rattle.krs_types.specs.declared.{ask.{Answer.Answer, Op.{Op, TheVariants.Move}}, context.Context.Context}
+use Rattle.krs_types.specs.declared.{errno.Errno.{Errno, TheVariants.{EEXIST, EINVAL}}, name.Name.Name}
+use Rattle.krs_types.specs.{declared.rights.Want.TheVariants.Granted, Refusing.◌>>=◌, Rights.{LINK, WRITE}}
+use Rattle.krs_model.specs.Asks.{Changing.changed, Linked.{linked, unless, without_link}, Moving.{move_link, moved}}
+use Rattle.krs_model.specs.{Confidentiality.HasToItself, Hiding.{blind_keys, Hiding}, Linking.link_named}
+use Rattle.krs_model.specs.{Lookup.{context_of, look_up, serial_of}, Making.made_for, Notes.Posting.Note}
+use Rattle.krs_model.specs.{Notes.Telling.{about_link, about_moved, is_one_ring, named}, Search.found, State.Key}
+use Rattle.krs_model.specs.{State.State, Table.{alter, at, Table}}
 use Rattle.krs_model.proofs.Asks.{Fares.{Fares, fares_within}, Houses.{HousesIn, linked_houses, made_houses}}
 use Rattle.krs_model.proofs.Asks.Later.{bind_ok, changed_comes, Comes, comes_trans, same_comes, same_ok}
 use Rattle.krs_model.proofs.Asks.LaterByAsk.{IsMoved, linked_into_comes, made_for_comes, moved_is, Moves, Stays}
-use Rattle.krs_model.proofs.Asks.{Lawful.IsLawful, NewSerials.small_there, NotedKeys.about_link_small}
-use Rattle.krs_model.proofs.Asks.Outcomes.{Meets, meets_after, meets_ok}
-use Rattle.krs_model.proofs.{Hiding.{Accepted.{blind_done}}}
-use Rattle.krs_model.proofs.Hiding.Links.{made_blind, same_link_named}
-use Rattle.krs_model.proofs.Hiding.{Links.without_blind}
-use Rattle.krs_model.proofs.{Isolation.Attachments.same_unattached}
+use Rattle.krs_model.proofs.Asks.{Lawful.IsLawful, NewSerials.small_there, NotedKeys.about_link_small, Outcomes.Meets}
+use Rattle.krs_model.proofs.{Asks.{Outcomes.{meets_after, meets_ok}, Plain.plains}, Hiding.Accepted.blind_done}
+use Rattle.krs_model.proofs.Hiding.{Links.{made_blind, same_link_named, without_blind}, Seen.{is_seen, IsSeen}}
+use Rattle.krs_model.proofs.{Hiding.Seen.{seen_after, steps}, Isolation.Attachments.same_unattached}
 use Rattle.krs_model.proofs.Isolation.Guarded.{alone_guarded, Guarded, lessens_keeps, none_found}
-use Rattle.krs_model.proofs.Isolation.{Keys.changed_enclosed, Links.{linked_guarded, made_alone}}
-use Rattle.krs_model.proofs.Isolation.Untouched.{AreSame, linked_same, made_same, not_into, other_same, same_trans}
+use Rattle.krs_model.proofs.Isolation.{Keys.changed_enclosed, Links.{linked_guarded, made_alone}, Untouched.AreSame}
+use Rattle.krs_model.proofs.Isolation.Untouched.{linked_same, made_same, not_into, other_same, same_trans}
 use Rattle.krs_model.proofs.{Lookups.{Laws.look_up_usable, Serials.found_serial}, Notes.Fitting.AllSmall}
 use Rattle.krs_model.proofs.Sound.{Changes.{changed_stands, Stands}, KeyChanges.unlinked_lessens}
 use Rattle.krs_model.proofs.Sound.{Links.linked_into_stands, NewContexts.{made_for_stands, made_for_there}}
 use Rattle.krs_types.specs.declared.note.KeyEvent.TheVariants as told_of
-use Rattle.krs_model.proofs.Hiding.Seen.{is_seen, steps}
-use Rattle.krs_model.proofs.Asks.Plain.{plains}
-use Rattle.krs_model.specs.Hiding.{blind_keys}
-use Rattle.krs_types.specs.declared.name.Name.{Name}
-use Rattle.krs_model.proofs.Hiding.Seen.{IsSeen, seen_after}
-use Rattle.std.proofs.Common.{sym}
 
 is_moved_comes :
     (s : State) (found from into : ℕ × Key) (new : State) → IsMoved s found from into new → Comes s new

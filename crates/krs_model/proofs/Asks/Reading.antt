@@ -1,20 +1,16 @@
 -- What is proved of READ and DESCRIBE.
 use Rattle.std.proofs.Common.{◌∙◌, ◌≡◌, ap, List, Ok, Option, refl, Result, sym, ℕ, ℤ}
-use Rattle.krs_types.specs.{Refusing.◌>>=◌, Rights.VIEW, declared.ask.Answer.{Answer, TheVariants.Bytes}}
-use Rattle.krs_types.specs.declared.{ask.Op.TheVariants.{Describe, Read}, context.Context.Context, errno.Errno.Errno}
-use Rattle.krs_types.specs.declared.kind.Kind.{Kind, TheVariants.{Keyring, Logon, User}}
-use Rattle.krs_types.specs.declared.rights.Want.TheVariants.{Granted, ToRead}
-use Rattle.krs_model.specs.Asks.Reading.{describe, read, readable}
-use Rattle.krs_model.specs.Hiding.{blind, blind_answer, blind_content, Hiding, over, told, told_at, told_of}
-use Rattle.krs_model.specs.Lookup.{context_of, look_up}
+use Rattle.krs_types.specs.declared.ask.{Answer.{Answer, TheVariants.Bytes}, Op.TheVariants.{Describe, Read}}
+use Rattle.krs_types.specs.declared.{context.Context.Context, errno.Errno.Errno, kind.Kind.{Kind, TheVariants.Keyring}}
+use Rattle.krs_types.specs.declared.{kind.Kind.TheVariants.{Logon, User}, rights.Want.TheVariants.{Granted, ToRead}}
+use Rattle.krs_types.specs.{Refusing.◌>>=◌, Rights.VIEW}
+use Rattle.krs_model.specs.{Asks.Reading.{describe, read, readable}, Hiding.{blind, blind_answer, blind_content}}
+use Rattle.krs_model.specs.{Hiding.{Hiding, over, told, told_at, told_of}, Lookup.{context_of, look_up}}
 use Rattle.krs_model.specs.{Notes.Telling.named, Search.found, State.{Content, Key, Links, Payload, State}}
-use Rattle.krs_model.proofs.Asks.{Lawful.IsLawful}
-use Rattle.krs_model.proofs.Asks.Plain.{IsPlain, plain_err, plain_ok}
-use Rattle.krs_model.proofs.Hiding.Accepted.{accepted, blind_done, found_in, named_is}
-use Rattle.krs_model.proofs.{Hiding.Over.bound, Lookups.Laws.look_up_usable}
+use Rattle.krs_model.proofs.Asks.{Fares.fares, Lawful.IsLawful, Plain.{IsPlain, plain_err, plain_ok, plains}}
+use Rattle.krs_model.proofs.Hiding.{Accepted.{accepted, blind_done, found_in, named_is}, Over.bound}
+use Rattle.krs_model.proofs.Lookups.Laws.{look_up_usable}
 use Rattle.krs_model.specs.Asks.Reading as reading
-use Rattle.krs_model.proofs.Asks.Fares.{fares}
-use Rattle.krs_model.proofs.Asks.Plain.{plains}
 
 plain_readable : (kind : Kind) (content : Content) → IsPlain (reading.readable kind content)
 plain_readable User (Payload bytes) = plain_ok

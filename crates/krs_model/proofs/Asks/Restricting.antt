@@ -1,14 +1,9 @@
 -- What is proved of RESTRICT_KEYRING.
 use Rattle.std.proofs.Common.{[], ◌∷◌, List, refl, ℕ, ℤ}
-use Rattle.krs_types.specs.{declared.ask.{Op.TheVariants.RestrictKeyring}}
-use Rattle.krs_model.specs.Asks.{Restricting.{no_type, restrict_keyring}}
-use Rattle.krs_model.specs.{State.{State}}
-use Rattle.krs_model.proofs.Asks.{Lawful.IsLawful}
-use Rattle.krs_model.proofs.Asks.Plain.{IsPlain, plain_err, plain_ok}
-use Rattle.krs_model.proofs.Hiding.Accepted.{blind_done}
-use Rattle.krs_model.proofs.Hiding.Seen.{is_seen, steps}
-use Rattle.krs_model.proofs.Asks.Fares.{fares}
-use Rattle.krs_model.proofs.Asks.Plain.{plains}
+use Rattle.krs_types.specs.declared.ask.Op.TheVariants.{RestrictKeyring}
+use Rattle.krs_model.specs.{Asks.Restricting.{no_type, restrict_keyring}, State.State}
+use Rattle.krs_model.proofs.Asks.{Fares.fares, Lawful.IsLawful, Plain.{IsPlain, plain_err, plain_ok, plains}}
+use Rattle.krs_model.proofs.Hiding.{Accepted.blind_done, Seen.{is_seen, steps}}
 
 plain_no_type : (type_name : List ℕ) → IsPlain (no_type type_name)
 plain_no_type [] = plain_ok

@@ -1,23 +1,15 @@
 -- What is proved of SEARCH.
 use Rattle.std.proofs.Common.{◌∙◌, ◌≡◌, ap, cond, List, Ok, sym, true, ℕ, ℤ}
-use Rattle.krs_types.specs.{Growth.has_destination, Rights.{SEARCH, WRITE}, declared.ask.Answer.Answer}
-use Rattle.krs_types.specs.declared.{ask.Op.TheVariants.Search, context.Context.Context}
-use Rattle.krs_types.specs.declared.{name.Name.Name, rights.Want.TheVariants.Granted}
-use Rattle.krs_model.specs.Asks.{Finding.{search_from, searched_for, sought_from}}
-use Rattle.krs_model.specs.{Asks.Finding.{sought_into, sought_name}}
-use Rattle.krs_model.specs.{Linking.ring_links, Lookup.{context_of, look_up}, Making.{made_for}}
-use Rattle.krs_model.specs.{Notes.Telling.named, Search.found, State.{Key, State}}
-use Rattle.krs_model.proofs.Asks.{Later.{bind_ok, within_ok}}
-use Rattle.krs_model.proofs.Asks.{Lawful.IsLawful, NotedKeys.{found_into_there, IsThere, wanted_small}}
-use Rattle.krs_model.proofs.Asks.{Plain.{IsPlain, plain_fault}}
-use Rattle.krs_model.proofs.Asks.Plain.{plain_there}
-use Rattle.krs_model.proofs.Hiding.Accepted.{blind_done}
-use Rattle.krs_model.proofs.Hiding.Links.{made_blind}
-use Rattle.krs_model.proofs.Hiding.{Searches.same_found}
+use Rattle.krs_types.specs.declared.{ask.{Answer.Answer, Op.TheVariants.Search}, context.Context.Context}
+use Rattle.krs_types.specs.{declared.{name.Name.Name, rights.Want.TheVariants.Granted}, Growth.has_destination}
+use Rattle.krs_types.specs.Rights.{SEARCH, WRITE}
+use Rattle.krs_model.specs.Asks.Finding.{search_from, searched_for, sought_from, sought_into, sought_name}
+use Rattle.krs_model.specs.{Linking.ring_links, Lookup.{context_of, look_up}, Making.made_for, Notes.Telling.named}
+use Rattle.krs_model.specs.{Search.found, State.{Key, State}}
+use Rattle.krs_model.proofs.Asks.{Fares.fares, Later.{bind_ok, within_ok}, Lawful.IsLawful, NotedKeys.found_into_there}
+use Rattle.krs_model.proofs.Asks.{NotedKeys.{IsThere, wanted_small}, Plain.{IsPlain, plain_fault, plain_there, plains}}
+use Rattle.krs_model.proofs.Hiding.{Accepted.blind_done, Links.made_blind, Lookups.same_possessed, Searches.same_found}
 use Rattle.krs_model.proofs.Hiding.Seen.{is_seen, steps}
-use Rattle.krs_model.proofs.Hiding.Lookups.{same_possessed}
-use Rattle.krs_model.proofs.Asks.Fares.{fares}
-use Rattle.krs_model.proofs.Asks.Plain.{plains}
 
 sought_into_there :
     (s new : State) (c : Context) (head : ℕ × Key) (name : Name) (dest : ℤ) (answer : Answer)

@@ -1,29 +1,24 @@
 -- What is proved of WATCH and the asks of queues.
 use Rattle.std.proofs.Common.{[], ◌∙◌, ◌∷◌, ◌≡◌, ◌≤◌, ap, Bool, cond, Err, false, is_some, IsSome, leb-true, length}
-use Rattle.std.proofs.Common.{List, nat_le, nat_lt, negsuc, None, not, Ok, Option, pos, refl, Some, subst, suc}
-use Rattle.std.proofs.Common.{true, zero, ℕ, ℤ}
-use Rattle.krs_types.specs.{Rights.VIEW, declared.ask.Answer.{Answer, TheVariants.{Bytes, Nothing, Number}}}
+use Rattle.std.proofs.Common.{List, nat_le, nat_lt, negsuc, None, not, Ok, Option, pos, refl, Some, subst, suc, true}
+use Rattle.std.proofs.Common.{zero, ℕ, ℤ}
+use Rattle.krs_types.specs.declared.ask.Answer.{Answer, TheVariants.{Bytes, Nothing, Number}}
 use Rattle.krs_types.specs.declared.ask.Op.TheVariants.{CloseQueue, OpenQueue, ReadQueue, SetFilter, Watch}
-use Rattle.krs_types.specs.declared.context.Context.{Context}
-use Rattle.krs_types.specs.declared.errno.Errno.{Errno, TheVariants.{EBUSY, EINVAL, ENFILE, ENOSPC}}
-use Rattle.krs_types.specs.declared.{note.{FilterEntry.FilterEntry, Record.Record}, rights.Want.TheVariants.Granted}
-use Rattle.krs_model.specs.Asks.{Linked.unless, Watching.{after_read, close_queue, closed, filtered}}
-use Rattle.krs_model.specs.Asks.Watching.{open_queue, opened, read_out, read_queue, set_filter, unwatched, watch}
-use Rattle.krs_model.specs.Asks.Watching.{watch_id_of, watched, with_filter, with_queue, with_watching, without_queue}
-use Rattle.krs_model.specs.{Lookup.{context_of, look_up, serial_of}}
-use Rattle.krs_model.specs.Notes.{Bytes.bytes_of_all, Filter.{filter_of, is_good_filter}, Front.{front, readable}}
-use Rattle.krs_model.specs.Notes.{Telling.named, Waiting.is_capacity}
-use Rattle.krs_model.specs.{Queues.{queue_of, Queues, queues_of, watch_at, with_queues, with_watch}}
-use Rattle.krs_model.specs.{State.{Queue, State}, Table.{alter, at, Table}}
+use Rattle.krs_types.specs.declared.{context.Context.Context, errno.Errno.{Errno, TheVariants.{EBUSY, EINVAL, ENFILE}}}
+use Rattle.krs_types.specs.declared.{errno.Errno.TheVariants.ENOSPC, note.{FilterEntry.FilterEntry, Record.Record}}
+use Rattle.krs_types.specs.{declared.rights.Want.TheVariants.Granted, Rights.VIEW}
+use Rattle.krs_model.specs.Asks.{Linked.unless, Watching.{after_read, close_queue, closed, filtered, open_queue}}
+use Rattle.krs_model.specs.Asks.Watching.{opened, read_out, read_queue, set_filter, unwatched, watch, watch_id_of}
+use Rattle.krs_model.specs.Asks.Watching.{watched, with_filter, with_queue, with_watching, without_queue}
+use Rattle.krs_model.specs.{Lookup.{context_of, look_up, serial_of}, Notes.{Bytes.bytes_of_all, Filter.filter_of}}
+use Rattle.krs_model.specs.Notes.{Filter.is_good_filter, Front.{front, readable}, Telling.named, Waiting.is_capacity}
+use Rattle.krs_model.specs.{Queues.{queue_of, Queues, queues_of, watch_at, with_queues, with_watch}, State.Queue}
+use Rattle.krs_model.specs.{State.State, Table.{alter, at, Table}}
 use Rattle.krs_model.proofs.Asks.Done.{Closes, Effect, end_of, ends_as, Filters, Opens, queue_there, readable_is, Reads}
-use Rattle.krs_model.proofs.Asks.{Done.{unwatched_is, Unwatches, Watches}, Later.{bind_ok, same_ok}}
-use Rattle.krs_model.proofs.Asks.{Lawful.IsLawful}
-use Rattle.krs_model.proofs.Asks.Plain.{IsPlain, plain, plain_err, plain_ok}
-use Rattle.krs_model.proofs.Hiding.{Accepted.{blind_done}}
-use Rattle.krs_model.proofs.{Hiding.Over.{after}, Lookups.{Laws.look_up_usable, Serials.found_serial}}
-use Rattle.krs_model.proofs.Hiding.Seen.{is_seen, steps}
-use Rattle.krs_model.proofs.Asks.Fares.{fares}
-use Rattle.krs_model.proofs.Asks.Plain.{plains}
+use Rattle.krs_model.proofs.Asks.{Done.{unwatched_is, Unwatches, Watches}, Fares.fares, Later.{bind_ok, same_ok}}
+use Rattle.krs_model.proofs.Asks.{Lawful.IsLawful, Plain.{IsPlain, plain, plain_err, plain_ok, plains}}
+use Rattle.krs_model.proofs.Hiding.{Accepted.blind_done, Over.after, Seen.{is_seen, steps}}
+use Rattle.krs_model.proofs.Lookups.{Laws.look_up_usable, Serials.found_serial}
 
 unless_ok : (bad : Bool) (error : Errno) (x : Unit {0}) → unless bad error ≡ Ok x → bad ≡ false
 unless_ok true error x h = cc

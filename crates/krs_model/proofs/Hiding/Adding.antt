@@ -1,18 +1,17 @@
 -- ADD with the payloads hidden.
 use Rattle.std.proofs.Common.{◌&&◌, ◌∙◌, ◌≡◌, ap, Bool, cond, Err, List, None, Ok, Option, refl, Result, Some, sym, ℕ}
 use Rattle.std.proofs.Common.{ℤ}
-use Rattle.krs_types.specs.Kind.{described, described_as, kind_named, paid}
-use Rattle.krs_types.specs.{Refusing.◌>>=◌, Rights.{has_all, WRITE}, declared.ask.Answer.{Answer, TheVariants.Number}}
-use Rattle.krs_types.specs.declared.{context.Context.Context, errno.Errno.{Errno, TheVariants.EACCES}, kind.Kind.Kind}
-use Rattle.krs_types.specs.declared.kind.Kind.TheVariants.{Keyring, Logon, User}
-use Rattle.krs_types.specs.declared.{name.Name.Name, rights.Want.TheVariants.Granted}
-use Rattle.krs_model.specs.Access.{is_alive, rights_on}
-use Rattle.krs_model.specs.Asks.Adding.{add, added, added_in, added_serial, admitted, by_match, first_content, if_room}
-use Rattle.krs_model.specs.Asks.Adding.{Made, made, new_key, over_match, Place, place_of, Updated}
-use Rattle.krs_model.specs.Asks.Changing.{is_updatable, updated}
-use Rattle.krs_model.specs.Hiding.{blind, blind_content, blind_keys, Hiding, over}
-use Rattle.krs_model.specs.{Linking.{link_named, linking, ring_links}, Lookup.{context_of, look_up}, Making.made_for}
-use Rattle.krs_model.specs.{Outcome.Outcome, State.{Content, Key, Payload, State}, Table.{alter, at, put, Table}}
+use Rattle.krs_types.specs.declared.{ask.Answer.{Answer, TheVariants.Number}, context.Context.Context}
+use Rattle.krs_types.specs.declared.{errno.Errno.{Errno, TheVariants.EACCES}, kind.Kind.{Kind, TheVariants.Keyring}}
+use Rattle.krs_types.specs.declared.{kind.Kind.TheVariants.{Logon, User}, name.Name.Name}
+use Rattle.krs_types.specs.{declared.rights.Want.TheVariants.Granted, Kind.{described, described_as, kind_named, paid}}
+use Rattle.krs_types.specs.{Refusing.◌>>=◌, Rights.{has_all, WRITE}}
+use Rattle.krs_model.specs.{Access.{is_alive, rights_on}, Asks.Adding.{add, added, added_in, added_serial, admitted}}
+use Rattle.krs_model.specs.Asks.Adding.{by_match, first_content, if_room, Made, made, new_key, over_match, Place}
+use Rattle.krs_model.specs.{Asks.{Adding.{place_of, Updated}, Changing.{is_updatable, updated}}, Hiding.blind}
+use Rattle.krs_model.specs.{Hiding.{blind_content, blind_keys, Hiding, over}, Linking.{link_named, linking, ring_links}}
+use Rattle.krs_model.specs.{Lookup.{context_of, look_up}, Making.made_for, Outcome.Outcome, State.{Content, Key}}
+use Rattle.krs_model.specs.{State.{Payload, State}, Table.{alter, at, put, Table}}
 use Rattle.krs_model.proofs.Hiding.{Accepted.{accepted, blind_done, paid_blind}, Keys.{alter_blind, put_blind, seen}}
 use Rattle.krs_model.proofs.Hiding.Links.{linking_blind, made_blind, same_link_named, same_ring_links}
 use Rattle.krs_model.proofs.Hiding.{Lookups.{blind_found, look_up_blind, same_possessed}, Over.{after, bound, given}}

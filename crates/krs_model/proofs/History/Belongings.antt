@@ -2,27 +2,25 @@
 use Rattle.std.proofs.Common.{[], ⊎_elim, ◌++◌, ◌==◌, ◌∙◌, ◌∷◌, ◌≡◌, ◌≢◌, ◌⊎◌, ap, append-nil, append_assoc, arith}
 use Rattle.std.proofs.Common.{Bool, cond, Err, false, filter, inl, inr, is_ok, IsOk, List, nat_cmp, None, not, Ok}
 use Rattle.std.proofs.Common.{Option, option_map, refl, Result, Some, subst, sym, true, true≢false, ℕ}
-use Rattle.std.specs.BTreeMap.{is_at}
 use Rattle.std.proofs.lemmas.{Bool.Decides.nat_tests, Option.{none-some, same_Some}}
-use Rattle.krs_types.specs.{Growth.grows, Refusing.or_refuse, declared.ask.Answer.Answer}
-use Rattle.krs_types.specs.declared.ask.{Answer.TheVariants.Nothing, Op.{Op, TheVariants.{Hello, Leave}}}
+use Rattle.std.specs.BTreeMap.{is_at}
+use Rattle.krs_types.specs.declared.ask.{Answer.{Answer, TheVariants.Nothing}, Op.{Op, TheVariants.{Hello, Leave}}}
 use Rattle.krs_types.specs.declared.{caller.Caller.Caller, context.{Context.Context, UidRings.UidRings}}
 use Rattle.krs_types.specs.declared.{errno.Errno.{Errno, TheVariants.ESRCH}, event.Event.Event, note.Record.Record}
+use Rattle.krs_types.specs.{Growth.grows, Refusing.or_refuse}
 use Rattle.krs_model.specs.Asks.{Entering.without_thread, Invalidating.context_without, Leaving.left}
-use Rattle.krs_model.specs.Belonging.{HasGreeted, HasNothing, HasStayed}
-use Rattle.krs_model.specs.{Confidentiality.KeepsPrivate, History.IsLegal, Lookup.{context_of, if_own}}
-use Rattle.krs_model.specs.Notes.Posting.{after_note, after_notes, records_for}
-use Rattle.krs_model.specs.{Revocation.Reads, Sound.IsSound, State.{Queue, raised, starting_at, State}}
-use Rattle.krs_model.specs.Step.{Ends, LacksMemory, outcome_of, posts_by, Serves, Step}
+use Rattle.krs_model.specs.{Belonging.{HasGreeted, HasNothing, HasStayed}, Confidentiality.KeepsPrivate}
+use Rattle.krs_model.specs.{History.IsLegal, Lookup.{context_of, if_own}, Notes.Posting.{after_note, after_notes}}
+use Rattle.krs_model.specs.{Notes.Posting.records_for, Revocation.Reads, Sound.IsSound, State.{Queue, raised}}
+use Rattle.krs_model.specs.{State.{starting_at, State}, Step.{Ends, LacksMemory, outcome_of, posts_by, Serves, Step}}
 use Rattle.krs_model.specs.Table.{alter, at, IsDistinct, put, Table}
 use Rattle.krs_model.proofs.Asks.Houses.{Alters, Begins, Departs, Detaches, entering, Enters, EntersAs, Execs, Exits}
-use Rattle.krs_model.proofs.Asks.Houses.{Forked, Houses, Named, Rings, Same, StaysWhose, Threads}
-use Rattle.krs_model.proofs.Asks.Later.{bind_ok, same_ok, same_state}
-use Rattle.krs_model.proofs.{Asks.Laws.law_of, Isolation.Histories.{keeps_from_nothing, private_legal}}
-use Rattle.krs_model.proofs.{Lookups.Serials.own_there, Notes.Called.served_at, Reach.Levels.same_is}
-use Rattle.krs_model.proofs.Sound.Changes.{at_change, at_put, IsChanged, IsPut}
-use Rattle.krs_model.proofs.{Sound.Steps.{start_sound, step_sound}, Tables.Changes.at_map}
-use Rattle.krs_model.proofs.Tables.{Distinct.{alter_distinct, at_filter_some}, Entries.{rises_distinct, without_was}}
+use Rattle.krs_model.proofs.Asks.{Houses.{Forked, Houses, Named, Rings, Same, StaysWhose, Threads}, Later.bind_ok}
+use Rattle.krs_model.proofs.{Asks.{Later.{same_ok, same_state}, Laws.law_of}, Isolation.Histories.keeps_from_nothing}
+use Rattle.krs_model.proofs.{Isolation.Histories.private_legal, Lookups.Serials.own_there, Notes.Called.served_at}
+use Rattle.krs_model.proofs.{Reach.Levels.same_is, Sound.Changes.{at_change, at_put, IsChanged, IsPut}}
+use Rattle.krs_model.proofs.{Sound.Steps.{start_sound, step_sound}, Tables.{Changes.at_map, Distinct.alter_distinct}}
+use Rattle.krs_model.proofs.Tables.{Distinct.at_filter_some, Entries.{rises_distinct, without_was}}
 
 -- ---- what is left of a client
 

@@ -1,24 +1,23 @@
 -- What changes of attachments leave a uid to itself.
 use Rattle.std.proofs.Common.{[], ⊎_elim, ◌++◌, ◌+◌, ◌==◌, ◌||◌, ◌∙◌, ◌∷◌, ◌≡◌, ◌≢◌, ◌⊎◌, ap, arith, Bool, cond, false}
 use Rattle.std.proofs.Common.{filter, inl, inr, IsSome, List, nat_cmp, None, not, Option, option_map, option_to_list}
-use Rattle.std.proofs.Common.{refl, Some, subst, sym, true, true≢false, unwrap_or, ℕ}
+use Rattle.std.proofs.{Common.{refl, Some, subst, sym, true, true≢false, unwrap_or, ℕ}, lemmas.Bool.Decides.nat_tests}
+use Rattle.std.proofs.lemmas.Option.{none-some, same_Some}
 use Rattle.std.specs.{BTreeMap.is_at, List.list_any, Map.values_of}
-use Rattle.std.proofs.lemmas.{Bool.Decides.nat_tests, Option.{none-some, same_Some}}
 use Rattle.krs_types.specs.declared.{caller.Caller.Caller, context.{Context.Context, UidRings.UidRings}}
 use Rattle.krs_model.specs.Asks.{Entering.{execed, without_thread}, Hello.{first_session, with_context, with_uid}}
 use Rattle.krs_model.specs.Asks.Invalidating.{context_without, detached, invalidated, rings_without}
-use Rattle.krs_model.specs.Asks.Joining.{joined_to, session_to}
-use Rattle.krs_model.specs.Asks.Leaving.{contexts_without, exited, has_process, has_uid, left}
-use Rattle.krs_model.specs.Confidentiality.{AreUnattached, foreign_keys, foreign_process}
-use Rattle.krs_model.specs.{Levels.is_in, Making.{thread_to, with_process, with_thread}, Possession.process_ring}
-use Rattle.krs_model.specs.{Sound.AllPlaced, State.State, Table.{alter, at, put, Rises, Table, without}}
+use Rattle.krs_model.specs.Asks.{Joining.{joined_to, session_to}, Leaving.{contexts_without, exited, has_process}}
+use Rattle.krs_model.specs.{Asks.Leaving.{has_uid, left}, Confidentiality.{AreUnattached, foreign_keys}}
+use Rattle.krs_model.specs.{Confidentiality.foreign_process, Levels.is_in, Making.{thread_to, with_process}}
+use Rattle.krs_model.specs.{Making.with_thread, Possession.process_ring, Sound.AllPlaced, State.State, Table.alter}
+use Rattle.krs_model.specs.Table.{at, put, Rises, Table, without}
 use Rattle.krs_model.proofs.{Isolation.Keys.AttachesNone, Reach.Levels.{in_left, in_one, in_right, only_in, same_is}}
 use Rattle.krs_model.proofs.Sound.Attached.{attached_alter, attached_at, attached_either, attached_fewer}
 use Rattle.krs_model.proofs.Sound.Attached.{attached_mapped, attached_without, attachments, context_keys, own_process}
 use Rattle.krs_model.proofs.Sound.{Attached.uid_keys, Changes.{at_change, at_put, IsChanged, IsPut}, KeyChanges.both_in}
-use Rattle.krs_model.proofs.Sound.NewContexts.{placed_in}
-use Rattle.krs_model.proofs.Tables.Changes.{at_kept, at_map, at_or_apart, at_without_other}
-use Rattle.krs_model.proofs.Tables.{Distinct.at_without_same, Entries.rises_distinct}
+use Rattle.krs_model.proofs.{Sound.NewContexts.placed_in, Tables.Changes.{at_kept, at_map, at_or_apart}}
+use Rattle.krs_model.proofs.Tables.{Changes.at_without_other, Distinct.at_without_same, Entries.rises_distinct}
 
 -- what a context of another uid attaches is a foreign key, and its process a foreign one
 pub apart_is : (a b : ℕ) → a ≢ b → (a == b) ≡ false

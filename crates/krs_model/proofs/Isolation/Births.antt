@@ -1,33 +1,31 @@
 -- A new key is its maker's own, and linked from nowhere but where it was put.
 use Rattle.std.proofs.Common.{[], ⊎_elim, ◌&&◌, ◌+◌, ◌==◌, ◌||◌, ◌∙◌, ◌∷◌, ◌≡◌, ◌≤◌, ap, arith, Bool, codes, cond, Err}
 use Rattle.std.proofs.Common.{false, inr, IsSome, leb-true, length, List, nat_le, nat_lt, None, Ok, Option, refl}
-use Rattle.std.proofs.Common.{Result, Some, subst, sym, true, true≢false, ℕ, ℤ}
-use Rattle.std.proofs.lemmas.{Bool.Decides.nat_tests, Option.same_Some}
-use Rattle.krs_types.specs.{KeyId.key_id_of, Perm.{group_byte, other_byte}, Rights.{WRITE}}
-use Rattle.krs_types.specs.declared.ask.Answer.{Answer}
-use Rattle.krs_types.specs.declared.{ask.Op.{Op, TheVariants.{Add, GetId, Hello, Join}}, caller.Caller.Caller}
-use Rattle.krs_types.specs.declared.{context.{Context.Context, UidRings.UidRings}, errno.Errno.Errno, event.Event.Event}
-use Rattle.krs_types.specs.declared.{key_id.KeyId.KeyId, kind.Kind.{Kind, TheVariants.{Keyring, Logon, User}}}
-use Rattle.krs_types.specs.declared.{name.Name.Name, rights.Want.TheVariants.Granted}
+use Rattle.std.proofs.{Common.{Result, Some, subst, sym, true, true≢false, ℕ, ℤ}, lemmas.Bool.Decides.nat_tests}
+use Rattle.std.proofs.lemmas.Option.{same_Some}
+use Rattle.krs_types.specs.declared.ask.{Answer.Answer, Op.{Op, TheVariants.{Add, GetId, Hello, Join}}}
+use Rattle.krs_types.specs.declared.{caller.Caller.Caller, context.{Context.Context, UidRings.UidRings}}
+use Rattle.krs_types.specs.declared.{errno.Errno.Errno, event.Event.Event, key_id.KeyId.KeyId, kind.Kind.Kind}
+use Rattle.krs_types.specs.declared.{kind.Kind.TheVariants.{Keyring, Logon, User}, name.Name.Name}
+use Rattle.krs_types.specs.{declared.rights.Want.TheVariants.Granted, KeyId.key_id_of, Perm.{group_byte, other_byte}}
+use Rattle.krs_types.specs.Rights.{WRITE}
 use Rattle.krs_model.specs.Asks.Adding.{add, added, admitted, first_perm, Made, new_key, Place, place_of, Updated}
-use Rattle.krs_model.specs.Asks.{Changing.updated, Finding.{get_id, made_where}}
-use Rattle.krs_model.specs.Asks.Hello.{hello, uid_ring, with_uid}
-use Rattle.krs_model.specs.Asks.Joining.{join, session_joined, session_ring}
-use Rattle.krs_model.specs.Confidentiality.{ActsAs, AreEnclosed, HasToItself, is_own, IsFor, IsGivenAway, IsWithin}
-use Rattle.krs_model.specs.{Confidentiality.{MakesForItself, may_make, with_made}, Levels.is_in}
-use Rattle.krs_model.specs.{Linking.{is_named, link_named, ring_links}, Lookup.{context_of, look_up, serial_of}}
-use Rattle.krs_model.specs.{Making.{made_for, own_ring, special_ring}, Notes.Posting.{Post, posted_in}}
-use Rattle.krs_model.specs.{Reach.links_of_key_at, Sound.IsSound, State.{Key, raised, State}}
-use Rattle.krs_model.specs.{Step.{Ends, outcome_of, posts_by, Step}, Sweep.IsSweep, Table.{at, IsBelow, put, Table}}
+use Rattle.krs_model.specs.Asks.{Changing.updated, Finding.{get_id, made_where}, Hello.{hello, uid_ring, with_uid}}
+use Rattle.krs_model.specs.{Asks.Joining.{join, session_joined, session_ring}, Confidentiality.{ActsAs, AreEnclosed}}
+use Rattle.krs_model.specs.Confidentiality.{HasToItself, is_own, IsFor, IsGivenAway, IsWithin, MakesForItself, may_make}
+use Rattle.krs_model.specs.{Confidentiality.with_made, Levels.is_in, Linking.{is_named, link_named, ring_links}}
+use Rattle.krs_model.specs.{Lookup.{context_of, look_up, serial_of}, Making.{made_for, own_ring, special_ring}}
+use Rattle.krs_model.specs.{Notes.Posting.{Post, posted_in}, Reach.links_of_key_at, Sound.IsSound, State.{Key, raised}}
+use Rattle.krs_model.specs.{State.State, Step.{Ends, outcome_of, posts_by, Step}, Sweep.IsSweep, Table.{at, IsBelow}}
+use Rattle.krs_model.specs.Table.{put, Table}
 use Rattle.krs_model.proofs.Asks.{Later.{bind_ok, same_ok}, Outcomes.{Meets, meets_after, meets_ok, meets_within}}
-use Rattle.krs_model.proofs.Isolation.Growth.{IsNew, of_made, same_owner, step_grows}
-use Rattle.krs_model.proofs.Isolation.{Guarded.lessens_keeps, Keys.{changed_enclosed, KeepsOwn, kept_enclosed}}
-use Rattle.krs_model.proofs.{Isolation.Steps.raised_alone, Lookups.{Laws.in_by_match, Serials.found_serial}}
-use Rattle.krs_model.proofs.MadeKeyring.Which.{IsMade, made_for_is, NoneMade, ProcessMade, ThreadMade}
-use Rattle.krs_model.proofs.Reach.Levels.{or_true, true_or}
+use Rattle.krs_model.proofs.Isolation.{Growth.{IsNew, of_made, same_owner, step_grows}, Guarded.lessens_keeps}
+use Rattle.krs_model.proofs.Isolation.{Keys.{changed_enclosed, KeepsOwn, kept_enclosed}, Steps.raised_alone}
+use Rattle.krs_model.proofs.{Lookups.{Laws.in_by_match, Serials.found_serial}, MadeKeyring.Which.{IsMade, made_for_is}}
+use Rattle.krs_model.proofs.{MadeKeyring.Which.{NoneMade, ProcessMade, ThreadMade}, Reach.Levels.{or_true, true_or}}
 use Rattle.krs_model.proofs.Sound.Changes.{at_put, IsPut, LinksTo, not_there, Stands, with_linked}
-use Rattle.krs_model.proofs.Sound.KeyChanges.{updated_lessens}
-use Rattle.krs_model.proofs.{Sound.Steps.{raised_sound, sound_stands, step_sound}, Sweep.Laws.linking_is_there}
+use Rattle.krs_model.proofs.Sound.{KeyChanges.updated_lessens, Steps.{raised_sound, sound_stands, step_sound}}
+use Rattle.krs_model.proofs.Sweep.Laws.{linking_is_there}
 
 -- these keys, and all serials that are not given yet
 abbrev or_late : (ℕ → Bool) → ℕ → ℕ → Bool

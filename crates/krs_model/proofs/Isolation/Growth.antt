@@ -2,9 +2,9 @@
 use Rattle.std.proofs.Common.{[], ⊎_elim, ◌&&◌, ◌+◌, ◌∙◌, ◌∷◌, ◌≡◌, ◌⊎◌, ap, arith, Bool, Err, false, inl, inr, IsSome}
 use Rattle.std.proofs.Common.{leb-true, List, nat_le, nat_lt, None, Ok, Option, option_to_list, refl, Result, Some}
 use Rattle.std.proofs.{Common.{subst, sym, true, true≢false, ℕ}, lemmas.Bool.Decides.nat_tests}
-use Rattle.krs_types.specs.Caller.{caller_check}
-use Rattle.krs_types.specs.declared.{ask.{Answer.Answer, Op.{Op, TheVariants.Hello}}, caller.Caller.Caller}
-use Rattle.krs_types.specs.declared.{context.{Context.Context, UidRings.UidRings}, errno.Errno.Errno, event.Event.Event}
+use Rattle.krs_types.specs.{Caller.caller_check, declared.ask.{Answer.Answer, Op.{Op, TheVariants.Hello}}}
+use Rattle.krs_types.specs.declared.{caller.Caller.Caller, context.{Context.Context, UidRings.UidRings}}
+use Rattle.krs_types.specs.declared.{errno.Errno.Errno, event.Event.Event}
 use Rattle.krs_types.proofs.Names.{and_left, and_right}
 use Rattle.krs_model.specs.Asks.Hello.{first_session, has_context_left, has_numbers, hello, with_uid}
 use Rattle.krs_model.specs.Confidentiality.{ActsAs, AreUnattached, foreign_keys, foreign_process, GivesAway}
@@ -13,15 +13,14 @@ use Rattle.krs_model.specs.{Levels.is_in, Lookup.context_of, Notes.Posting.{Post
 use Rattle.krs_model.specs.{Sound.IsSound, State.{raised, State}, Step.{Ends, outcome_of, posts_by, Step}}
 use Rattle.krs_model.specs.{Sweep.{IsSweep, live_watches}, Table.{alter, at, Table}}
 use Rattle.krs_model.proofs.Asks.Houses.{Alters, Begins, Departs, Detaches, Enters, Execs, Exits, Forked, Houses, Named}
-use Rattle.krs_model.proofs.Asks.Houses.{Rings, Same, Threads}
-use Rattle.krs_model.proofs.Asks.{Later.same_ok, Laws.law_of, Outcomes.{Meets, meets_after, meets_ok}}
-use Rattle.krs_model.proofs.Isolation.Attachments.{alter_to, entered_unattached, of_foreign, of_foreign_process}
-use Rattle.krs_model.proofs.Isolation.{Attachments.same_unattached, Guarded.{uid_placed, uid_processes}}
-use Rattle.krs_model.proofs.Isolation.Steps.{not_given, raised_alone, step_alone, step_guarded}
-use Rattle.krs_model.proofs.{Lookups.Serials.own_there, Reach.Levels.{in_left, in_one, in_right, same_is, true_or}}
-use Rattle.krs_model.proofs.Sound.Attached.{attached_alter, attached_at, attached_entry, attachments, context_keys}
-use Rattle.krs_model.proofs.Sound.Attached.{in_context, in_process, in_uid, uid_keys}
-use Rattle.krs_model.proofs.Sound.Changes.{at_change, at_put, IsChanged, IsPut, not_there, Stands}
+use Rattle.krs_model.proofs.Asks.{Houses.{Rings, Same, Threads}, Later.same_ok, Laws.law_of, Outcomes.Meets}
+use Rattle.krs_model.proofs.{Asks.Outcomes.{meets_after, meets_ok}, Isolation.Attachments.alter_to}
+use Rattle.krs_model.proofs.Isolation.Attachments.{entered_unattached, of_foreign, of_foreign_process, same_unattached}
+use Rattle.krs_model.proofs.Isolation.{Guarded.{uid_placed, uid_processes}, Steps.{not_given, raised_alone, step_alone}}
+use Rattle.krs_model.proofs.{Isolation.Steps.step_guarded, Lookups.Serials.own_there, Reach.Levels.{in_left, in_one}}
+use Rattle.krs_model.proofs.{Reach.Levels.{in_right, same_is, true_or}, Sound.Attached.{attached_alter, attached_at}}
+use Rattle.krs_model.proofs.Sound.Attached.{attached_entry, attachments, context_keys, in_context, in_process, in_uid}
+use Rattle.krs_model.proofs.Sound.{Attached.uid_keys, Changes.{at_change, at_put, IsChanged, IsPut, not_there, Stands}}
 use Rattle.krs_model.proofs.{Sound.Steps.{raised_sound, sound_stands}, Tables.Entries.rises_distinct}
 
 -- the serials from this one on

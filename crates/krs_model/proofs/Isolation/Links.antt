@@ -1,24 +1,21 @@
 -- What a uid has to itself where a key is linked, or made.
 use Rattle.std.proofs.Common.{[], ⊎_elim, ◌++◌, ◌+◌, ◌<◌, ◌∙◌, ◌∷◌, ◌≡◌, ◌≢◌, ap, arith, Bool, codes, cond, Err, false}
 use Rattle.std.proofs.Common.{inl, List, Ok, refl, Result, Some, subst, sym, true, true≢false, ℕ, ℤ}
-use Rattle.krs_types.specs.KeyId.{key_id_of}
-use Rattle.krs_types.specs.{Rights.{has_all, LINK}, declared.{caller.Caller.Caller, context.Context.Context}}
-use Rattle.krs_types.specs.declared.{errno.Errno.{Errno, TheVariants.EACCES}, key_id.KeyId.KeyId}
-use Rattle.krs_model.specs.Access.{rights_on}
-use Rattle.krs_model.specs.Asks.{Adding.made, Finding.if_linkable, Linked.{linked, linked_into, name_of}}
-use Rattle.krs_model.specs.{Confidentiality.{AreEnclosed, HasToItself}, Levels.is_in, Linking.is_named}
-use Rattle.krs_model.specs.{Lookup.context_of, Making.{made_for, special_ring, with_new}}
+use Rattle.krs_types.specs.declared.{caller.Caller.Caller, context.Context.Context, errno.Errno.Errno}
+use Rattle.krs_types.specs.{declared.{errno.Errno.TheVariants.EACCES, key_id.KeyId.KeyId}, KeyId.key_id_of}
+use Rattle.krs_types.specs.Rights.{has_all, LINK}
+use Rattle.krs_model.specs.{Access.rights_on, Asks.{Adding.made, Finding.if_linkable, Linked.{linked, linked_into}}}
+use Rattle.krs_model.specs.{Asks.Linked.name_of, Confidentiality.{AreEnclosed, HasToItself}, Levels.is_in}
+use Rattle.krs_model.specs.{Linking.is_named, Lookup.context_of, Making.{made_for, special_ring, with_new}}
 use Rattle.krs_model.specs.{Possession.{links_of_content, possessed}, Search.found, State.{Key, State}, Table.at}
-use Rattle.krs_model.proofs.Asks.LaterByAsk.{linked_into_is}
-use Rattle.krs_model.proofs.Isolation.Attachments.{attaches_none, thread_unattached, with_process_unattached}
-use Rattle.krs_model.proofs.Isolation.Guarded.{changed_guarded, Guarded, next_apart, NotBy}
-use Rattle.krs_model.proofs.Isolation.Keys.{AttachesNone, KeepsOwn, no_rights, put_enclosed}
-use Rattle.krs_model.proofs.Lookups.Serials.{own_there}
-use Rattle.krs_model.proofs.MadeKeyring.State.{HasMade, HasMadeFor, made_for_has, MadeNone, MadeOne}
-use Rattle.krs_model.proofs.MadeKeyring.Which.{IsMade, made_for_is, NoneMade, ProcessMade, ThreadMade}
-use Rattle.krs_model.proofs.Reach.Levels.{in_left, in_one, in_right, only_in}
-use Rattle.krs_model.proofs.Sound.Changes.{in_linked_content, Stands, with_linked}
-use Rattle.krs_model.proofs.Sound.{Links.linkable_is, NewContexts.own_process_there}
+use Rattle.krs_model.proofs.{Asks.LaterByAsk.linked_into_is, Isolation.Attachments.{attaches_none, thread_unattached}}
+use Rattle.krs_model.proofs.Isolation.{Attachments.with_process_unattached, Guarded.{changed_guarded, Guarded}}
+use Rattle.krs_model.proofs.Isolation.{Guarded.{next_apart, NotBy}, Keys.{AttachesNone, KeepsOwn, no_rights}}
+use Rattle.krs_model.proofs.{Isolation.Keys.put_enclosed, Lookups.Serials.own_there, MadeKeyring.State.HasMade}
+use Rattle.krs_model.proofs.MadeKeyring.{State.{HasMadeFor, made_for_has, MadeNone, MadeOne}, Which.IsMade}
+use Rattle.krs_model.proofs.{MadeKeyring.Which.{made_for_is, NoneMade, ProcessMade, ThreadMade}, Reach.Levels.in_left}
+use Rattle.krs_model.proofs.{Reach.Levels.{in_one, in_right, only_in}, Sound.Changes.{in_linked_content, Stands}}
+use Rattle.krs_model.proofs.Sound.{Changes.with_linked, Links.linkable_is, NewContexts.own_process_there}
 
 -- a new key that links nothing
 pub new_enclosed :

@@ -1,29 +1,28 @@
 -- An ask in no context of a uid drops none of the keys that the uid has to itself: what holds them stays.
 use Rattle.std.proofs.Common.{[], ⊎_elim, ◌++◌, ◌==◌, ◌||◌, ◌∙◌, ◌∷◌, ◌≡◌, ◌≢◌, ◌⊎◌, ap, arith, Bool, cond, Err, false}
 use Rattle.std.proofs.Common.{filter, inl, inr, IsOk, IsSome, List, None, not, Ok, Option, option_map, option_to_list}
-use Rattle.std.proofs.Common.{refl, Result, Some, subst, sym, true, true≢false, ℕ, ℤ}
-use Rattle.std.proofs.lemmas.{Bool.Decides.nat_tests, Option.{none-some, same_Some}}
-use Rattle.krs_types.specs.{Rights.SEARCH, declared.ask.{Answer.Answer, Op.{Op, TheVariants.{Invalidate, Leave}}}}
-use Rattle.krs_types.specs.declared.context.{Context.Context, UidRings.UidRings}
-use Rattle.krs_types.specs.declared.{errno.Errno.Errno, event.Event.Event, rights.Want.TheVariants.Granted}
-use Rattle.krs_model.specs.Asks.Invalidating.{context_without, detached, rings_without}
-use Rattle.krs_model.specs.Asks.{Leaving.{contexts_without, has_process, has_uid, left}, Linked.without_link}
+use Rattle.std.proofs.{Common.{refl, Result, Some, subst, sym, true, true≢false, ℕ, ℤ}, lemmas.Bool.Decides.nat_tests}
+use Rattle.std.proofs.lemmas.Option.{none-some, same_Some}
+use Rattle.krs_types.specs.declared.ask.{Answer.Answer, Op.{Op, TheVariants.{Invalidate, Leave}}}
+use Rattle.krs_types.specs.declared.{context.{Context.Context, UidRings.UidRings}, errno.Errno.Errno, event.Event.Event}
+use Rattle.krs_types.specs.{declared.rights.Want.TheVariants.Granted, Rights.SEARCH}
+use Rattle.krs_model.specs.Asks.{Invalidating.{context_without, detached, rings_without}, Leaving.contexts_without}
+use Rattle.krs_model.specs.Asks.{Leaving.{has_process, has_uid, left}, Linked.without_link}
 use Rattle.krs_model.specs.Confidentiality.{AreUnchanged, foreign_keys, foreign_process, HasToItself, IsAskedBy}
 use Rattle.krs_model.specs.{Levels.is_in, Lookup.{context_of, serial_of}, Possession.links_of_content}
-use Rattle.krs_model.specs.{Reach.links_of_key_at, Sound.IsSound, State.{Key, Links, Payload, raised, State}}
-use Rattle.krs_model.specs.{Step.{Ends, Serves, Step}, Sweep.{Attached, context_roots, IsHeld, IsSweep, Linked}}
-use Rattle.krs_model.specs.{Sweep.{links_of_key, process_roots, roots, uid_roots}, Table.{alter, at, put, Table}}
+use Rattle.krs_model.specs.{Reach.links_of_key_at, Sound.IsSound, State.{Key, Links, Payload, raised, State}, Step.Ends}
+use Rattle.krs_model.specs.{Step.{Serves, Step}, Sweep.{Attached, context_roots, IsHeld, IsSweep, Linked, links_of_key}}
+use Rattle.krs_model.specs.{Sweep.{process_roots, roots, uid_roots}, Table.{alter, at, put, Table}}
 use Rattle.krs_model.proofs.Asks.Houses.{Alters, Begins, Departs, Detaches, Enters, Execs, Exits, Houses, Rings, Same}
-use Rattle.krs_model.proofs.Asks.{Houses.Threads, Laws.law_of}
-use Rattle.krs_model.proofs.Isolation.{Attachments.is_foreign, Guarded.{none_found, NotBy}, Keys.false_where}
-use Rattle.krs_model.proofs.Isolation.{Steps.{raised_alone, same_context}, Untouched.{AreSame, IsDetached, KeysAfter}}
-use Rattle.krs_model.proofs.Lookups.Serials.{found_serial, own_there}
-use Rattle.krs_model.proofs.Reach.Levels.{in_left, in_one, in_right, only_in, same_is}
+use Rattle.krs_model.proofs.{Asks.{Houses.Threads, Laws.law_of}, Isolation.{Attachments.is_foreign, Guarded.none_found}}
+use Rattle.krs_model.proofs.Isolation.{Guarded.NotBy, Keys.false_where, Steps.{raised_alone, same_context}}
+use Rattle.krs_model.proofs.{Isolation.Untouched.{AreSame, IsDetached, KeysAfter}, Lookups.Serials.found_serial}
+use Rattle.krs_model.proofs.{Lookups.Serials.own_there, Reach.Levels.{in_left, in_one, in_right, only_in, same_is}}
 use Rattle.krs_model.proofs.Sound.Attached.{attached_at, attached_by, attached_entry, context_keys, in_context}
-use Rattle.krs_model.proofs.Sound.Attached.{in_process, in_uid, uid_keys}
-use Rattle.krs_model.proofs.Sound.{Changes.{at_change, at_put, IsChanged, IsPut}, InUse.was_mapped}
-use Rattle.krs_model.proofs.{Sound.Steps.{raised_sound, sound_stands}, Tables.Changes.{at_kept, at_map}}
-use Rattle.krs_model.proofs.Tables.Entries.{entry_passes, filter_still, IsEntry, rises_distinct, still_unless}
+use Rattle.krs_model.proofs.Sound.{Attached.{in_process, in_uid, uid_keys}, Changes.{at_change, at_put, IsChanged}}
+use Rattle.krs_model.proofs.Sound.{Changes.IsPut, InUse.was_mapped, Steps.{raised_sound, sound_stands}}
+use Rattle.krs_model.proofs.Tables.{Changes.{at_kept, at_map}, Entries.{entry_passes, filter_still, IsEntry}}
+use Rattle.krs_model.proofs.Tables.Entries.{rises_distinct, still_unless}
 
 -- no context of the uid asks, nor leaves
 pub record IsOutside (uid : ℕ) (s : State) (client context : ℕ) (op : Op) : Type 0 where

@@ -4,20 +4,17 @@ use Rattle.std.proofs.Common.{⊎_elim, ◌==◌, ◌||◌, ◌∙◌, ◌≡◌
 use Rattle.std.proofs.Common.{None, not, Option, option_map, refl, Some, subst, sym, true, true≢false, ℕ}
 use Rattle.std.proofs.lemmas.{Bool.Decides.nat_tests, Option.{none-some, same_Some}}
 use Rattle.krs_types.specs.declared.{ask.Op.Op, caller.Caller.Caller, context.{Context.Context, UidRings.UidRings}}
-use Rattle.krs_model.specs.Asks.Entering.{execed, without_thread}
-use Rattle.krs_model.specs.Asks.Invalidating.{context_without, detached, rings_without}
-use Rattle.krs_model.specs.Asks.Leaving.{contexts_without, exited, has_process, has_uid, left}
-use Rattle.krs_model.specs.Sound.{AreInUse, HasContext}
-use Rattle.krs_model.specs.{State.State, Table.{alter, at, IsDistinct, map_values, put, Table, without}}
+use Rattle.krs_model.specs.Asks.{Entering.{execed, without_thread}, Invalidating.{context_without, detached}}
+use Rattle.krs_model.specs.Asks.{Invalidating.rings_without, Leaving.{contexts_without, exited, has_process, has_uid}}
+use Rattle.krs_model.specs.{Asks.Leaving.left, Sound.{AreInUse, HasContext}, State.State, Table.{alter, at, IsDistinct}}
+use Rattle.krs_model.specs.Table.{map_values, put, Table, without}
 use Rattle.krs_model.proofs.Asks.Houses.{Alters, Begins, Departs, Detaches, entering, Enters, Execs, Exits, Houses}
-use Rattle.krs_model.proofs.Asks.Houses.{Rings, Same, StaysWhose, Threads}
-use Rattle.krs_model.proofs.{Lookups.Serials.own_there, Reach.Levels.{or_true, same_is}}
-use Rattle.krs_model.proofs.Sound.Changes.{at_change, at_put, IsChanged, IsPut, not_there, Stands}
-use Rattle.krs_model.proofs.Sound.NewContexts.{own_process_there}
-use Rattle.krs_model.proofs.Tables.Changes.{at_alter_same, at_kept, at_map, at_put_same}
-use Rattle.krs_model.proofs.Tables.Distinct.{alter_distinct, at_filter_some, filter_distinct, without_distinct}
-use Rattle.krs_model.proofs.Tables.Entries.{filter_still, find_entry, left_unless, rises_distinct, still_unless}
-use Rattle.krs_model.proofs.Tables.Entries.{without_was}
+use Rattle.krs_model.proofs.{Asks.Houses.{Rings, Same, StaysWhose, Threads}, Lookups.Serials.own_there}
+use Rattle.krs_model.proofs.{Reach.Levels.{or_true, same_is}, Sound.Changes.{at_change, at_put, IsChanged, IsPut}}
+use Rattle.krs_model.proofs.Sound.{Changes.{not_there, Stands}, NewContexts.own_process_there}
+use Rattle.krs_model.proofs.Tables.{Changes.{at_alter_same, at_kept, at_map, at_put_same}, Distinct.alter_distinct}
+use Rattle.krs_model.proofs.Tables.{Distinct.{at_filter_some, filter_distinct, without_distinct}, Entries.filter_still}
+use Rattle.krs_model.proofs.Tables.Entries.{find_entry, left_unless, rises_distinct, still_unless, without_was}
 
 -- contexts of a process are of one uid
 abbrev AreAlike : Table Context → Type 0
