@@ -45,14 +45,8 @@ last_goes_on peer groups line asks before reply n later parts there i =
     map-append (λ (r : Told). r.is_rewritten) before (reply' ∷ [])
     ∙ sym (map-append (λ (r : Told). r.is_rewritten) before (reply ∷ [])) in
     let marks : List Bool = map (λ a. gets_eperm a.verdict) asks in
-    record {
-      asks-are = record {
-        came = i.asks-are.came;
-        passed = i.asks-are.passed;
-        frames = i.asks-are.frames;
-        right =
-            i.asks-are.right;
-      };
+    let s = i.asks-are in record {
+      asks-are = record { came = s.came; passed = s.passed; frames = s.frames; right = s.right };
       replies-are = record {
         came = came_on line.replies.came (flat_map (λ r. r.bytes) (before ++ reply ∷ [])) line.replies.waits ys
             (flat_map (λ r. r.bytes) (before ++ reply' ∷ [])) n i.replies-are.came refl

@@ -6,7 +6,7 @@ use Rattle.std.specs.List.{AllByRecursion}
 use Rattle.std.proofs.lemmas.List.{map-append}
 use Rattle.krs_screen.specs.{Claim.voided, Counting.waiting, Front.{front_of, le32}, Reading.passed_of, Run.AreAsks}
 use Rattle.krs_screen.specs.Run.{AreFrames, AreReplies, asks_gone, crowded, gets_eperm, gone, Heard, IsRight, IsRightOf}
-use Rattle.krs_screen.specs.Run.{kept, Line, may_pass, more, named, passed_as, refused, replies_gone, Told, Verdict}
+use Rattle.krs_screen.specs.Run.{kept, Line, may_pass, more, named, passed_as, refused, replies_gone, Told, Verdict, Way}
 use Rattle.krs_screen.specs.declared.claim.Peer.{Peer}
 use Rattle.krs_screen.specs.declared.front.Front.{Front, TheVariants.{Crowd, Fault, Hello, Other, Part}}
 use Rattle.krs_screen.proofs.Growing.{front_more, IsSeated, le32_more, may_pass_more, seated, with_more}
@@ -105,24 +105,20 @@ pub record IsSo (peer : Peer) (groups : List ℕ) (line : Line) (asks : List Hea
   pub room : length line.screen.refused ≡ 64
   pub long : AllByRecursion (λ reply. 8 ≤ length reply.bytes) replies
 
-pub client_sent : (peer : Peer) (groups : List ℕ) (line : Line) (asks : List Heard) (replies : List Told)
-    (piece : List ℕ)
-    → IsSo peer groups line asks replies → IsSo peer groups (record line { asks = more line.asks piece }) asks replies
-client_sent peer groups line asks replies piece i =
-    record {
-      asks-are = record {
-        came = ap (λ (zs : List ℕ). zs ++ piece) i.asks-are.came
-            ∙ append_assoc (flat_map (λ ask. ask.bytes) asks) line.asks.waits piece;
-        passed = i.asks-are.passed;
-        frames = i.asks-are.frames;
-        right = i.asks-are.right;
-      };
-      replies-are = record {
-        came = i.replies-are.came;
-        passed = i.replies-are.passed;
-        frames = i.replies-are.frames;
-        right = i.replies-are.right;
-      };
+-- they stay where the screen keeps its counts, and the same is passed on
+so_still : (peer : Peer) (groups : List ℕ) (line : Line) (asks : List Heard) (replies : List Told) (g a r : Bool)
+    (to from : Way) → IsSo peer groups line asks replies
+    → to.came ≡ flat_map (λ ask. ask.bytes) asks ++ to.waits → to.passed ≡ line.asks.passed
+    → from.came ≡ flat_map (λ reply. reply.bytes) replies ++ from.waits → from.passed ≡ line.replies.passed
+    → IsSo peer groups (record {
+      screen = record line.screen { greeted = g; ask_fault = a; reply_fault = r };
+      asks = to;
+      replies = from;
+    }) asks replies
+so_still peer groups line asks replies g a r to from i came passed told answers =
+    let s = i.asks-are in let t = i.replies-are in record {
+      asks-are = record { came = came; passed = passed ∙ s.passed; frames = s.frames; right = s.right };
+      replies-are = record { came = told; passed = answers ∙ t.passed; frames = t.frames; right = t.right };
       asked = i.asked;
       answered = i.answered;
       fewer = i.fewer;
@@ -131,33 +127,22 @@ client_sent peer groups line asks replies piece i =
       long = i.long;
     }
 
+pub client_sent : (peer : Peer) (groups : List ℕ) (line : Line) (asks : List Heard) (replies : List Told)
+    (piece : List ℕ)
+    → IsSo peer groups line asks replies → IsSo peer groups (record line { asks = more line.asks piece }) asks replies
+client_sent peer groups line asks replies piece i = let s = line.screen in
+    so_still peer groups line asks replies s.greeted s.ask_fault s.reply_fault (more line.asks piece) line.replies i
+    (ap (λ (zs : List ℕ). zs ++ piece) i.asks-are.came
+    ∙ append_assoc (flat_map (λ ask. ask.bytes) asks) line.asks.waits piece) refl i.replies-are.came refl
+
 pub daemon_sent : (peer : Peer) (groups : List ℕ) (line : Line) (asks : List Heard) (replies : List Told)
     (piece : List ℕ)
     → IsSo peer groups line asks replies
     → IsSo peer groups (record line { replies = more line.replies piece }) asks replies
-daemon_sent peer groups line asks replies piece i =
-    record {
-      asks-are = record {
-        came = i.asks-are.came;
-        passed = i.asks-are.passed;
-        frames = i.asks-are.frames;
-        right =
-            i.asks-are.right;
-      };
-      replies-are = record {
-        came = ap (λ (zs : List ℕ). zs ++ piece) i.replies-are.came
-            ∙ append_assoc (flat_map (λ reply. reply.bytes) replies) line.replies.waits piece;
-        passed = i.replies-are.passed;
-        frames = i.replies-are.frames;
-        right = i.replies-are.right;
-      };
-      asked = i.asked;
-      answered = i.answered;
-      fewer = i.fewer;
-      queue = i.queue;
-      room = i.room;
-      long = i.long;
-    }
+daemon_sent peer groups line asks replies piece i = let s = line.screen in
+    so_still peer groups line asks replies s.greeted s.ask_fault s.reply_fault line.asks (more line.replies piece) i
+    i.asks-are.came refl (ap (λ (zs : List ℕ). zs ++ piece) i.replies-are.came
+    ∙ append_assoc (flat_map (λ reply. reply.bytes) replies) line.replies.waits piece) refl
 
 -- nothing is passed on
 pub asks_idle : (peer : Peer) (groups : List ℕ) (line : Line) (asks : List Heard) (replies : List Told) (g a r : Bool)
@@ -167,26 +152,8 @@ pub asks_idle : (peer : Peer) (groups : List ℕ) (line : Line) (asks : List Hea
       (line.asks.waits, record line.screen { greeted = g; ask_fault = a; reply_fault = r }),
     )) asks replies
 asks_idle peer groups line asks replies g a r i =
-    record {
-      asks-are = record {
-        came = i.asks-are.came;
-        passed = append-nil line.asks.passed ∙ i.asks-are.passed;
-        frames = i.asks-are.frames;
-        right = i.asks-are.right;
-      };
-      replies-are = record {
-        came = i.replies-are.came;
-        passed = i.replies-are.passed;
-        frames = i.replies-are.frames;
-        right = i.replies-are.right;
-      };
-      asked = i.asked;
-      answered = i.answered;
-      fewer = i.fewer;
-      queue = i.queue;
-      room = i.room;
-      long = i.long;
-    }
+    so_still peer groups line asks replies g a r (gone line.asks 0 line.asks.waits) line.replies i i.asks-are.came
+    (append-nil line.asks.passed) i.replies-are.came refl
 
 pub replies_idle : (peer : Peer) (groups : List ℕ) (line : Line) (asks : List Heard) (replies : List Told)
     (g a r : Bool)
@@ -196,27 +163,8 @@ pub replies_idle : (peer : Peer) (groups : List ℕ) (line : Line) (asks : List 
       (line.replies.waits, record line.screen { greeted = g; ask_fault = a; reply_fault = r }),
     )) asks replies
 replies_idle peer groups line asks replies g a r i =
-    record {
-      asks-are = record {
-        came = i.asks-are.came;
-        passed = i.asks-are.passed;
-        frames = i.asks-are.frames;
-        right =
-            i.asks-are.right;
-      };
-      replies-are = record {
-        came = i.replies-are.came;
-        passed = append-nil line.replies.passed ∙ i.replies-are.passed;
-        frames = i.replies-are.frames;
-        right = i.replies-are.right;
-      };
-      asked = i.asked;
-      answered = i.answered;
-      fewer = i.fewer;
-      queue = i.queue;
-      room = i.room;
-      long = i.long;
-    }
+    so_still peer groups line asks replies g a r line.asks (gone line.replies 0 line.replies.waits) i i.asks-are.came
+    refl i.replies-are.came (append-nil line.replies.passed)
 
 -- ---- the rest of the frame at hand
 
@@ -319,7 +267,7 @@ last_goes_on peer groups line before ask replies n later parts there i =
     (ask ∷ [])) i.asks-are.frames in
     let count : length (before ++ ask' ∷ []) ≡ length (before ++ ask ∷ []) = length_push before ask'
     ∙ sym (length_push before ask) in
-    record {
+    let t = i.replies-are in record {
       asks-are = record {
         came = came_on line.asks.came (flat_map (λ a. a.bytes) (before ++ ask ∷ [])) line.asks.waits ys
             (flat_map (λ a. a.bytes) (before ++ ask' ∷ [])) n i.asks-are.came refl
@@ -334,10 +282,10 @@ last_goes_on peer groups line before ask replies n later parts there i =
             (right_longer peer groups ask ys h);
       };
       replies-are = record {
-        came = i.replies-are.came;
-        passed = i.replies-are.passed;
-        frames = i.replies-are.frames;
-        right = i.replies-are.right ∙ ap (λ (ms : List Bool). take (length replies) ms) (sym same);
+        came = t.came;
+        passed = t.passed;
+        frames = t.frames;
+        right = t.right ∙ ap (λ (ms : List Bool). take (length replies) ms) (sym same);
       };
       asked = i.asked ∙ sym count;
       answered = i.answered;
