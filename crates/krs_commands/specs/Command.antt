@@ -8,6 +8,19 @@ use Rattle.krs_commands.specs.{Entry.entries_of, declared.command.Command.Comman
 use Rattle.krs_commands.specs.declared.command.Command.TheVariants as command
 use Rattle.krs_types.specs.declared.ask.Op.TheVariants as op
 
+-- what one word says, read so
+abbrev pub one_of : {A : Type 0} → (List ℕ → Option A) → List (List ℕ) → Option A
+one_of reads (word ∷ []) = reads word
+one_of reads _ = None
+
+-- what two words say
+abbrev pub two_of : {A B : Type 0} → (List ℕ → Option A) → (List ℕ → Option B) → List (List ℕ) → Option (A × B)
+two_of reads follows (word ∷ (other ∷ [])) = do
+  a ← reads word
+  b ← follows other
+  Some (a, b)
+two_of reads follows _ = None
+
 -- `hello UID GID [GROUP ..]`
 abbrev pub hello_of : List (List ℕ) → Option Command
 hello_of (uid ∷ (gid ∷ groups)) = do
@@ -19,17 +32,11 @@ hello_of _ = None
 
 -- `context N`
 abbrev pub context_of : List (List ℕ) → Option Command
-context_of (number ∷ []) = do
-  n ← u32_of number
-  Some (command.Context n)
-context_of _ = None
+context_of words = one_of u32_of words >>= (λ n. Some (command.Context n))
 
 -- `moment N`
 abbrev pub moment_of : List (List ℕ) → Option Command
-moment_of (number ∷ []) = do
-  n ← u64_of number
-  Some (command.Moment n)
-moment_of _ = None
+moment_of words = one_of u64_of words >>= (λ n. Some (command.Moment n))
 
 -- `thread`, `fork`, `exec`, `exit`, `leave`: an ask, without words
 abbrev pub alone_of : Op → List (List ℕ) → Option Command
@@ -81,61 +88,35 @@ update_of _ = None
 
 -- `print KEY`
 abbrev pub print_of : List (List ℕ) → Option Command
-print_of (key ∷ []) = do
-  id ← key_of key
-  Some (command.Ask (op.Read id))
-print_of _ = None
+print_of words = one_of key_of words >>= (λ id. Some (command.Ask (op.Read id)))
 
 -- `rlist KEY`
 abbrev pub rlist_of : List (List ℕ) → Option Command
-rlist_of (key ∷ []) = do
-  id ← key_of key
-  Some (command.Rlist id)
-rlist_of _ = None
+rlist_of words = one_of key_of words >>= (λ id. Some (command.Rlist id))
 
 -- `rdescribe KEY`
 abbrev pub rdescribe_of : List (List ℕ) → Option Command
-rdescribe_of (key ∷ []) = do
-  id ← key_of key
-  Some (command.Ask (op.Describe id))
-rdescribe_of _ = None
+rdescribe_of words = one_of key_of words >>= (λ id. Some (command.Ask (op.Describe id)))
 
 -- `revoke KEY`
 abbrev pub revoke_of : List (List ℕ) → Option Command
-revoke_of (key ∷ []) = do
-  id ← key_of key
-  Some (command.Ask (op.Revoke id))
-revoke_of _ = None
+revoke_of words = one_of key_of words >>= (λ id. Some (command.Ask (op.Revoke id)))
 
 -- `invalidate KEY`
 abbrev pub invalidate_of : List (List ℕ) → Option Command
-invalidate_of (key ∷ []) = do
-  id ← key_of key
-  Some (command.Ask (op.Invalidate id))
-invalidate_of _ = None
+invalidate_of words = one_of key_of words >>= (λ id. Some (command.Ask (op.Invalidate id)))
 
 -- `clear RING`
 abbrev pub clear_of : List (List ℕ) → Option Command
-clear_of (ring ∷ []) = do
-  id ← key_of ring
-  Some (command.Ask (op.Clear id))
-clear_of _ = None
+clear_of words = one_of key_of words >>= (λ id. Some (command.Ask (op.Clear id)))
 
 -- `chown KEY UID`
 abbrev pub chown_of : List (List ℕ) → Option Command
-chown_of (key ∷ (uid ∷ [])) = do
-  id ← key_of key
-  u ← u32_of uid
-  Some (command.Ask (op.Chown id u unchanged))
-chown_of _ = None
+chown_of words = two_of key_of u32_of words >>= (λ t. Some (command.Ask (op.Chown t.0 t.1 unchanged)))
 
 -- `chgrp KEY GID`
 abbrev pub chgrp_of : List (List ℕ) → Option Command
-chgrp_of (key ∷ (gid ∷ [])) = do
-  id ← key_of key
-  g ← u32_of gid
-  Some (command.Ask (op.Chown id unchanged g))
-chgrp_of _ = None
+chgrp_of words = two_of key_of u32_of words >>= (λ t. Some (command.Ask (op.Chown t.0 unchanged t.1)))
 
 -- `setperm KEY MASK`
 abbrev pub setperm_of : List (List ℕ) → Option Command
@@ -147,27 +128,15 @@ setperm_of _ = None
 
 -- `timeout KEY SECONDS`
 abbrev pub timeout_of : List (List ℕ) → Option Command
-timeout_of (key ∷ (seconds ∷ [])) = do
-  id ← key_of key
-  s ← u32_of seconds
-  Some (command.Ask (op.SetTimeout id s))
-timeout_of _ = None
+timeout_of words = two_of key_of u32_of words >>= (λ t. Some (command.Ask (op.SetTimeout t.0 t.1)))
 
 -- `link KEY RING`
 abbrev pub link_of : List (List ℕ) → Option Command
-link_of (key ∷ (ring ∷ [])) = do
-  id ← key_of key
-  into ← key_of ring
-  Some (command.Ask (op.Link id into))
-link_of _ = None
+link_of words = two_of key_of key_of words >>= (λ t. Some (command.Ask (op.Link t.0 t.1)))
 
 -- `unlink KEY RING`
 abbrev pub unlink_of : List (List ℕ) → Option Command
-unlink_of (key ∷ (ring ∷ [])) = do
-  id ← key_of key
-  from ← key_of ring
-  Some (command.Ask (op.Unlink id from))
-unlink_of _ = None
+unlink_of words = two_of key_of key_of words >>= (λ t. Some (command.Ask (op.Unlink t.0 t.1)))
 
 -- the flags of a move: the word `excl`, or no word
 abbrev pub flags_of : List (List ℕ) → Option ℕ
@@ -187,10 +156,7 @@ move_of _ = None
 
 -- `restrict RING`: without a type
 abbrev pub restrict_of : List (List ℕ) → Option Command
-restrict_of (ring ∷ []) = do
-  id ← key_of ring
-  Some (command.Ask (op.RestrictKeyring id []))
-restrict_of _ = None
+restrict_of words = one_of key_of words >>= (λ id. Some (command.Ask (op.RestrictKeyring id [])))
 
 -- a destination: the keyring of the last word, or 0, for none, where that word is left out
 abbrev pub dest_of : List (List ℕ) → Option ℤ
@@ -215,17 +181,11 @@ request_of _ = None
 
 -- `open CAPACITY`
 abbrev pub open_of : List (List ℕ) → Option Command
-open_of (number ∷ []) = do
-  capacity ← u32_of number
-  Some (command.Ask (op.OpenQueue capacity))
-open_of _ = None
+open_of words = one_of u32_of words >>= (λ capacity. Some (command.Ask (op.OpenQueue capacity)))
 
 -- `closeq QUEUE`
 abbrev pub closeq_of : List (List ℕ) → Option Command
-closeq_of (number ∷ []) = do
-  queue ← u32_of number
-  Some (command.Ask (op.CloseQueue queue))
-closeq_of _ = None
+closeq_of words = one_of u32_of words >>= (λ queue. Some (command.Ask (op.CloseQueue queue)))
 
 -- `watch KEY QUEUE ID`
 abbrev pub watch_of : List (List ℕ) → Option Command

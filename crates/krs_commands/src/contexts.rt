@@ -4,6 +4,7 @@ ghost use Rattle.std.specs.Prelude.{map};
 ghost use Rattle.krs_words.specs.Parsed.{Reads};
 ghost use Rattle.krs_commands.specs.Command.{context_of, create_of, hello_of, id_of, join_of, moment_of};
 
+use crate::args::one_number;
 use crate::command::Command;
 use krs_types::{Blob, Caller, Op};
 use krs_words::{NoCommand, groups_words, key_word, u32_word, u64_word};
@@ -24,10 +25,7 @@ pub(crate) fn hello(alloc: Global, args: &[&[u8]]) -> Result<Command, NoCommand>
 pub(crate) fn context(args: &[&[u8]]) -> Result<Command, NoCommand>
     ensures { Reads result (context_of (map (λ w. w.now) args.now)) }
 {
-    let [number] = args else {
-        return Err(NoCommand::Usage);
-    };
-    Ok(Command::Context(u32_word(number).ok_or(NoCommand::Usage)?))
+    Ok(Command::Context(one_number(args)?))
 }
 
 pub(crate) fn moment(args: &[&[u8]]) -> Result<Command, NoCommand>

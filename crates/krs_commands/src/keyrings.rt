@@ -5,6 +5,7 @@ ghost use Rattle.krs_words.specs.Parsed.{Reads};
 ghost use Rattle.krs_commands.specs.Command.{clear_of, dest_of, flags_of, link_of, move_of, newring_of, request_of};
 ghost use Rattle.krs_commands.specs.Command.{restrict_of, search_of, unlink_of};
 
+use crate::args::{key_and_ring, one_key};
 use crate::command::Command;
 use krs_types::{Blob, MOVE_EXCL, Op, TypeName};
 use krs_words::{NoCommand, key_word};
@@ -28,32 +29,21 @@ pub(crate) fn newring(alloc: Global, args: &[&[u8]]) -> Result<Command, NoComman
 pub(crate) fn clear(args: &[&[u8]]) -> Result<Command, NoCommand>
     ensures { Reads result (clear_of (map (λ w. w.now) args.now)) }
 {
-    let [ring] = args else {
-        return Err(NoCommand::Usage);
-    };
-    let id = key_word(ring).ok_or(NoCommand::Usage)?;
+    let id = one_key(args)?;
     Ok(Command::Ask(Op::Clear { id }))
 }
 
 pub(crate) fn link(args: &[&[u8]]) -> Result<Command, NoCommand>
     ensures { Reads result (link_of (map (λ w. w.now) args.now)) }
 {
-    let [key, ring] = args else {
-        return Err(NoCommand::Usage);
-    };
-    let key = key_word(key).ok_or(NoCommand::Usage)?;
-    let ring = key_word(ring).ok_or(NoCommand::Usage)?;
+    let (key, ring) = key_and_ring(args)?;
     Ok(Command::Ask(Op::Link { key, ring }))
 }
 
 pub(crate) fn unlink(args: &[&[u8]]) -> Result<Command, NoCommand>
     ensures { Reads result (unlink_of (map (λ w. w.now) args.now)) }
 {
-    let [key, ring] = args else {
-        return Err(NoCommand::Usage);
-    };
-    let key = key_word(key).ok_or(NoCommand::Usage)?;
-    let ring = key_word(ring).ok_or(NoCommand::Usage)?;
+    let (key, ring) = key_and_ring(args)?;
     Ok(Command::Ask(Op::Unlink { key, ring }))
 }
 
@@ -89,10 +79,7 @@ pub(crate) fn move_link(args: &[&[u8]]) -> Result<Command, NoCommand>
 pub(crate) fn restrict(alloc: Global, args: &[&[u8]]) -> Result<Command, NoCommand>
     ensures { Reads result (restrict_of (map (λ w. w.now) args.now)) }
 {
-    let [ring] = args else {
-        return Err(NoCommand::Usage);
-    };
-    let ring = key_word(ring).ok_or(NoCommand::Usage)?;
+    let ring = one_key(args)?;
     Ok(Command::Ask(Op::RestrictKeyring {
         ring,
         type_name: TypeName::from_slice(alloc, b"")?,

@@ -5,9 +5,10 @@ ghost use Rattle.krs_words.specs.Parsed.{Reads};
 ghost use Rattle.krs_commands.specs.Command.{add_of, chgrp_of, chown_of, invalidate_of, print_of, rdescribe_of};
 ghost use Rattle.krs_commands.specs.Command.{revoke_of, rlist_of, setperm_of, timeout_of, update_of};
 
+use crate::args::{key_and_number, one_key};
 use crate::command::Command;
 use krs_types::{Blob, Op, TypeName, UNCHANGED};
-use krs_words::{NoCommand, data_word, hexadecimal_word, key_word, u32_word};
+use krs_words::{NoCommand, data_word, hexadecimal_word, key_word};
 use std::alloc::Global;
 
 pub(crate) fn add(alloc: Global, args: &[&[u8]]) -> Result<Command, NoCommand>
@@ -40,61 +41,42 @@ pub(crate) fn update(alloc: Global, args: &[&[u8]]) -> Result<Command, NoCommand
 pub(crate) fn print(args: &[&[u8]]) -> Result<Command, NoCommand>
     ensures { Reads result (print_of (map (λ w. w.now) args.now)) }
 {
-    let [key] = args else {
-        return Err(NoCommand::Usage);
-    };
-    let id = key_word(key).ok_or(NoCommand::Usage)?;
+    let id = one_key(args)?;
     Ok(Command::Ask(Op::Read { id }))
 }
 
 pub(crate) fn rlist(args: &[&[u8]]) -> Result<Command, NoCommand>
     ensures { Reads result (rlist_of (map (λ w. w.now) args.now)) }
 {
-    let [key] = args else {
-        return Err(NoCommand::Usage);
-    };
-    let id = key_word(key).ok_or(NoCommand::Usage)?;
+    let id = one_key(args)?;
     Ok(Command::Rlist(id))
 }
 
 pub(crate) fn rdescribe(args: &[&[u8]]) -> Result<Command, NoCommand>
     ensures { Reads result (rdescribe_of (map (λ w. w.now) args.now)) }
 {
-    let [key] = args else {
-        return Err(NoCommand::Usage);
-    };
-    let id = key_word(key).ok_or(NoCommand::Usage)?;
+    let id = one_key(args)?;
     Ok(Command::Ask(Op::Describe { id }))
 }
 
 pub(crate) fn revoke(args: &[&[u8]]) -> Result<Command, NoCommand>
     ensures { Reads result (revoke_of (map (λ w. w.now) args.now)) }
 {
-    let [key] = args else {
-        return Err(NoCommand::Usage);
-    };
-    let id = key_word(key).ok_or(NoCommand::Usage)?;
+    let id = one_key(args)?;
     Ok(Command::Ask(Op::Revoke { id }))
 }
 
 pub(crate) fn invalidate(args: &[&[u8]]) -> Result<Command, NoCommand>
     ensures { Reads result (invalidate_of (map (λ w. w.now) args.now)) }
 {
-    let [key] = args else {
-        return Err(NoCommand::Usage);
-    };
-    let id = key_word(key).ok_or(NoCommand::Usage)?;
+    let id = one_key(args)?;
     Ok(Command::Ask(Op::Invalidate { id }))
 }
 
 pub(crate) fn chown(args: &[&[u8]]) -> Result<Command, NoCommand>
     ensures { Reads result (chown_of (map (λ w. w.now) args.now)) }
 {
-    let [key, owner] = args else {
-        return Err(NoCommand::Usage);
-    };
-    let id = key_word(key).ok_or(NoCommand::Usage)?;
-    let uid = u32_word(owner).ok_or(NoCommand::Usage)?;
+    let (id, uid) = key_and_number(args)?;
     let gid = UNCHANGED;
     Ok(Command::Ask(Op::Chown { id, uid, gid }))
 }
@@ -102,12 +84,8 @@ pub(crate) fn chown(args: &[&[u8]]) -> Result<Command, NoCommand>
 pub(crate) fn chgrp(args: &[&[u8]]) -> Result<Command, NoCommand>
     ensures { Reads result (chgrp_of (map (λ w. w.now) args.now)) }
 {
-    let [key, group] = args else {
-        return Err(NoCommand::Usage);
-    };
-    let id = key_word(key).ok_or(NoCommand::Usage)?;
+    let (id, gid) = key_and_number(args)?;
     let uid = UNCHANGED;
-    let gid = u32_word(group).ok_or(NoCommand::Usage)?;
     Ok(Command::Ask(Op::Chown { id, uid, gid }))
 }
 
@@ -125,10 +103,6 @@ pub(crate) fn setperm(args: &[&[u8]]) -> Result<Command, NoCommand>
 pub(crate) fn timeout(args: &[&[u8]]) -> Result<Command, NoCommand>
     ensures { Reads result (timeout_of (map (λ w. w.now) args.now)) }
 {
-    let [key, seconds] = args else {
-        return Err(NoCommand::Usage);
-    };
-    let id = key_word(key).ok_or(NoCommand::Usage)?;
-    let seconds = u32_word(seconds).ok_or(NoCommand::Usage)?;
+    let (id, seconds) = key_and_number(args)?;
     Ok(Command::Ask(Op::SetTimeout { id, seconds }))
 }

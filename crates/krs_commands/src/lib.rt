@@ -2,6 +2,7 @@
 //! lists of bytes.
 #![tactic(auto)]
 
+mod args;
 mod command;
 mod contexts;
 mod entry;

@@ -4,6 +4,7 @@ ghost use Rattle.std.specs.Prelude.{map};
 ghost use Rattle.krs_words.specs.Parsed.{Reads};
 ghost use Rattle.krs_commands.specs.Command.{closeq_of, filter_of, open_of, readq_of, watch_of};
 
+use crate::args::one_number;
 use crate::command::Command;
 use crate::entry::entries_words;
 use krs_types::Op;
@@ -13,20 +14,14 @@ use std::alloc::Global;
 pub(crate) fn open(args: &[&[u8]]) -> Result<Command, NoCommand>
     ensures { Reads result (open_of (map (λ w. w.now) args.now)) }
 {
-    let [capacity] = args else {
-        return Err(NoCommand::Usage);
-    };
-    let capacity = u32_word(capacity).ok_or(NoCommand::Usage)?;
+    let capacity = one_number(args)?;
     Ok(Command::Ask(Op::OpenQueue { capacity }))
 }
 
 pub(crate) fn closeq(args: &[&[u8]]) -> Result<Command, NoCommand>
     ensures { Reads result (closeq_of (map (λ w. w.now) args.now)) }
 {
-    let [queue] = args else {
-        return Err(NoCommand::Usage);
-    };
-    let queue = u32_word(queue).ok_or(NoCommand::Usage)?;
+    let queue = one_number(args)?;
     Ok(Command::Ask(Op::CloseQueue { queue }))
 }
 
