@@ -1,5 +1,6 @@
 -- A script between two lines, and how it ends from there.
-use Rattle.std.proofs.Common.{[], ◌++◌, ◌+◌, ◌<◌, ◌∙◌, ◌∷◌, ◌≡◌, ◌⊎◌, ap, append-nil, append_assoc, arith, Bool, Err}
+use Rattle.std.proofs.Common.{[], ◌++◌, ◌+◌, ◌<◌, ◌∙◌, ◌∷◌, ◌≡◌, ◌≤◌, ◌⊎◌, ap, append-nil, append_assoc, arith, Bool}
+use Rattle.std.proofs.Common.{Err}
 use Rattle.std.proofs.Common.{IfSome, inl, inr, length, length-append, List, None, Ok, Option, refl, Result, Some}
 use Rattle.std.proofs.Common.{subst, sym, ℕ}
 use Rattle.std.specs.Io.KnownBytes.{Appends, IsAtEnd}
@@ -10,8 +11,25 @@ use Rattle.krs_words.specs.declared.stop.Stop.TheVariants.{Connection, Memory, P
 use Rattle.krs_words.proofs.WritingLemmas.{Prints-nil, Prints-trans, WritesFront-behind}
 use Rattle.krs_commands.specs.declared.command.Command.{Command}
 use Rattle.krs_script.specs.Ending.{Finishes, last_line, most_lines, Says, status_of}
-use Rattle.krs_script.specs.Running.{BeginsWith, Ends, IsPrinted, IsShown, ObeysLine, Runs, TakesLine, TakesLines}
+use Rattle.krs_script.specs.Running.{BeginsWith, Ends, IsPrinted, IsShown, ObeysLine, Runs, StopsBehind, TakesLine}
+use Rattle.krs_script.specs.Running.{TakesLines}
 use Rattle.krs_script.proofs.RunningLemmas.{TakesLines-more}
+
+-- lines were run, by what that says in turn
+runs_is : {S : Type 0} {acts : S → Command → Output → S → Type 0} {breaks : S → Command → Stop → S → Type 0}
+    {input : Option (List ℕ)} {old new : S} {c v : Option (List ℕ)} {p r : List ℕ} {end : Result (Unit {0}) Stop}
+    (lines : List (List ℕ)) (text : List ℕ) (last : S) → TakesLines acts old lines text last
+    → length lines ≤ most_lines → StopsBehind breaks input lines last new end → IsPrinted c p v r text end
+    → Runs acts breaks input old new c p v r end
+runs_is lines text last taken bound behind prints = record {
+  lines = lines;
+  text = text;
+  last = last;
+  taken = taken;
+  bound = bound;
+  behind = behind;
+  prints = prints;
+}
 
 -- so many lines were read and obeyed so far, and this was printed
 pub record Going {S : Type 0} (acts : S → Command → Output → S → Type 0) (count : ℕ) (input left : Option (List ℕ))
@@ -111,62 +129,36 @@ module _ {S : Type 0} (acts : S → Command → Output → S → Type 0) (breaks
       (stop : Stop) → count < most_lines → Going acts count input left old now c p w q
       → ReadsLines left after (line ∷ []) → ObeysLine acts breaks now line new w q v r (Err stop)
       → Runs acts breaks input old new c p v r (Err stop)
-  runs_at_line count left after w v now new q r line Usage low going reads (cause, prints) = record {
-    lines = going.lines;
-    text = going.text;
-    last = now;
-    taken = going.taken;
-    bound = omega (arith, low, going.counted);
-    behind = (line, cause, begins_behind left after line going.lines going.read reads);
-    prints = prints_same c w v p q r going.text going.prints prints;
-  }
-  runs_at_line count left after w v now new q r line Connection low going reads (broke, prints) = record {
-    lines = going.lines;
-    text = going.text;
-    last = now;
-    taken = going.taken;
-    bound = omega (arith, low, going.counted);
-    behind = (line, broke, begins_behind left after line going.lines going.read reads);
-    prints = prints_same c w v p q r going.text going.prints prints;
-  }
-  runs_at_line count left after w v now new q r line Memory low going reads (inl same, prints) = record {
-    lines = going.lines;
-    text = going.text;
-    last = now;
-    taken = going.taken;
-    bound = omega (arith, low, going.counted);
-    behind = inl (same, begins input left going.lines going.read);
-    prints = (going.text, [], sym (append-nil going.text), prints_same c w v p q r going.text going.prints prints);
-  }
-  runs_at_line count left after w v now new q r line Memory low going reads (inr (inl broke), prints) = record {
-    lines = going.lines;
-    text = going.text;
-    last = now;
-    taken = going.taken;
-    bound = omega (arith, low, going.counted);
-    behind = inr (line, broke, begins_behind left after line going.lines going.read reads);
-    prints = (going.text, [], sym (append-nil going.text), prints_same c w v p q r going.text going.prints prints);
-  }
-  runs_at_line count left after w v now new q r line Memory low going reads (inr (inr (text, takes)), prints) = record {
-    lines = going.lines ++ line ∷ [];
-    text = going.text ++ text;
-    last = new;
-    taken = TakesLines-more acts old now new going.lines going.text line text going.taken takes;
-    bound = omega (arith, low, counted_more going.lines line count going.counted);
-    behind = inl (refl, begins_behind left after line going.lines going.read reads);
-    prints = (going.text, text, refl, prints_same c w v p q r going.text going.prints prints);
-  }
+  runs_at_line count left after w v now new q r line Usage low going reads (cause, prints) =
+      runs_is going.lines going.text now going.taken (omega (arith, low, going.counted))
+      (line, cause, begins_behind left after line going.lines going.read reads)
+      (prints_same c w v p q r going.text going.prints prints)
+  runs_at_line count left after w v now new q r line Connection low going reads (broke, prints) =
+      runs_is going.lines going.text now going.taken (omega (arith, low, going.counted))
+      (line, broke, begins_behind left after line going.lines going.read reads)
+      (prints_same c w v p q r going.text going.prints prints)
+  runs_at_line count left after w v now new q r line Memory low going reads (inl same, prints) =
+      runs_is going.lines going.text now going.taken (omega (arith, low, going.counted))
+      (inl (same, begins input left going.lines going.read))
+      (going.text, [], sym (append-nil going.text), prints_same c w v p q r going.text going.prints prints)
+  runs_at_line count left after w v now new q r line Memory low going reads (inr (inl broke), prints) =
+      runs_is going.lines going.text now going.taken (omega (arith, low, going.counted))
+      (inr (line, broke, begins_behind left after line going.lines going.read reads))
+      (going.text, [], sym (append-nil going.text), prints_same c w v p q r going.text going.prints prints)
+  runs_at_line count left after w v now new q r line Memory low going reads (inr (inr (text, takes)), prints) =
+      runs_is (going.lines ++ line ∷ []) (going.text ++ text) new
+      (TakesLines-more acts old now new going.lines going.text line text going.taken takes)
+      (omega (arith, low, counted_more going.lines line count going.counted))
+      (inl (refl, begins_behind left after line going.lines going.read reads))
+      (going.text, text, refl, prints_same c w v p q r going.text going.prints prints)
   runs_at_line count left after w v now new q r line Reading low going reads obeys = absurd obeys
   runs_at_line count left after w v now new q r line TooLong low going reads obeys = absurd obeys
-  runs_at_line count left after w v now new q r line Printing low going reads (text, takes, front) = record {
-    lines = going.lines ++ line ∷ [];
-    text = going.text ++ text;
-    last = new;
-    taken = TakesLines-more acts old now new going.lines going.text line text going.taken takes;
-    bound = omega (arith, low, counted_more going.lines line count going.counted);
-    behind = (refl, begins_behind left after line going.lines going.read reads);
-    prints = WritesFront-behind c w v p q going.text text going.prints front;
-  }
+  runs_at_line count left after w v now new q r line Printing low going reads (text, takes, front) =
+      runs_is (going.lines ++ line ∷ []) (going.text ++ text) new
+      (TakesLines-more acts old now new going.lines going.text line text going.taken takes)
+      (omega (arith, low, counted_more going.lines line count going.counted))
+      (refl, begins_behind left after line going.lines going.read reads)
+      (WritesFront-behind c w v p q going.text text going.prints front)
 
 module _ {S : Type 0} (acts : S → Command → Output → S → Type 0) (breaks : S → Command → Stop → S → Type 0)
     (count : ℕ) (input left : Option (List ℕ)) (old now : S) (c : Option (List ℕ)) (p : List ℕ)
@@ -174,50 +166,23 @@ module _ {S : Type 0} (acts : S → Command → Output → S → Type 0) (breaks
   -- all lines are read
   pub runs_to_end : count < most_lines → Going acts count input left old now c p w q → IsAtEnd left
       → Runs acts breaks input old now c p w q (Ok tt)
-  runs_to_end low going end = record {
-    lines = going.lines;
-    text = going.text;
-    last = now;
-    taken = going.taken;
-    bound = omega (arith, low, going.counted);
-    behind = (refl, all_read input left going.lines going.read end);
-    prints = going.prints;
-  }
+  runs_to_end low going end = runs_is going.lines going.text now going.taken (omega (arith, low, going.counted))
+      (refl, all_read input left going.lines going.read end) going.prints
 
   -- as many lines are read as a script has at most
   pub runs_too_long : count ≡ most_lines → Going acts count input left old now c p w q
       → Runs acts breaks input old now c p w q (Err TooLong)
-  runs_too_long full going = record {
-    lines = going.lines;
-    text = going.text;
-    last = now;
-    taken = going.taken;
-    bound = omega (arith, full, going.counted);
-    behind = (refl, going.counted ∙ full, begins input left going.lines going.read);
-    prints = going.prints;
-  }
+  runs_too_long full going = runs_is going.lines going.text now going.taken (omega (arith, full, going.counted))
+      (refl, going.counted ∙ full, begins input left going.lines going.read) going.prints
 
   -- no line could be read
   pub runs_unread : (stop : Stop) → (stop ≡ Memory) ⊎ (stop ≡ Reading) → count < most_lines
       → Going acts count input left old now c p w q → Runs acts breaks input old now c p w q (Err stop)
-  runs_unread Memory cause low going = record {
-    lines = going.lines;
-    text = going.text;
-    last = now;
-    taken = going.taken;
-    bound = omega (arith, low, going.counted);
-    behind = inl (refl, begins input left going.lines going.read);
-    prints = (going.text, [], sym (append-nil going.text), going.prints);
-  }
-  runs_unread Reading cause low going = record {
-    lines = going.lines;
-    text = going.text;
-    last = now;
-    taken = going.taken;
-    bound = omega (arith, low, going.counted);
-    behind = (refl, begins input left going.lines going.read);
-    prints = going.prints;
-  }
+  runs_unread Memory cause low going = runs_is going.lines going.text now going.taken
+      (omega (arith, low, going.counted)) (inl (refl, begins input left going.lines going.read))
+      (going.text, [], sym (append-nil going.text), going.prints)
+  runs_unread Reading cause low going = runs_is going.lines going.text now going.taken
+      (omega (arith, low, going.counted)) (refl, begins input left going.lines going.read) going.prints
   runs_unread Usage cause low going = absurd (elim cause [ inl e ↦ cc | inr e ↦ cc ])
   runs_unread TooLong cause low going = absurd (elim cause [ inl e ↦ cc | inr e ↦ cc ])
   runs_unread Printing cause low going = absurd (elim cause [ inl e ↦ cc | inr e ↦ cc ])
@@ -227,15 +192,9 @@ module _ {S : Type 0} (acts : S → Command → Output → S → Type 0) (breaks
   pub runs_unwritten : (v : Option (List ℕ)) (r : List ℕ) → count < most_lines
       → Going acts count input left old now c p w q → WritesFront w v q
       → Runs acts breaks input old now c p v r (Err Printing)
-  runs_unwritten v r low going front = record {
-    lines = going.lines;
-    text = going.text;
-    last = now;
-    taken = going.taken;
-    bound = omega (arith, low, going.counted);
-    behind = (refl, begins input left going.lines going.read);
-    prints = front_same c w v p q going.text going.prints front;
-  }
+  runs_unwritten v r low going front = runs_is going.lines going.text now going.taken
+      (omega (arith, low, going.counted)) (refl, begins input left going.lines going.read)
+      (front_same c w v p q going.text going.prints front)
 
 -- a script's text and its last line were said
 pub record Said (c v : Option (List ℕ)) (text : List ℕ) (stopped : Result (Unit {0}) Stop) (refused : Bool)
@@ -264,36 +223,21 @@ three_of q w v status (inr (is, front)) = is
 pub script_ends : (c w v : Option (List ℕ)) (p q text : List ℕ) (stopped : Result (Unit {0}) Stop) (refused : Bool)
     (status : ℕ) → p ≡ [] → IsPrinted c p w q text stopped → Finishes w q v stopped refused status
     → (stopped ≡ Err Printing → v ≡ w) → Said c v text stopped refused status
-script_ends c w v p q text (Ok u) refused status none prints says failed = record {
-  printed = text;
-  shows = refl;
-  ends = says_last c w v q text _ _ status (rw none at prints) says;
-}
-script_ends c w v p q text (Err Usage) refused status none prints says failed = record {
-  printed = text;
-  shows = refl;
-  ends = says_last c w v q text _ _ status (rw none at prints) says;
-}
+script_ends c w v p q text (Ok u) refused status none prints says failed =
+    record { printed = text; shows = refl; ends = says_last c w v q text _ _ status (rw none at prints) says }
+script_ends c w v p q text (Err Usage) refused status none prints says failed =
+    record { printed = text; shows = refl; ends = says_last c w v q text _ _ status (rw none at prints) says }
 script_ends c w v p q text (Err Memory) refused status none (printed, rest, is, prints) says failed = record {
   printed = printed;
   shows = (rest, is);
   ends = says_last c w v q printed _ _ status (rw none at prints) says;
 }
-script_ends c w v p q text (Err Reading) refused status none prints says failed = record {
-  printed = text;
-  shows = refl;
-  ends = says_last c w v q text _ _ status (rw none at prints) says;
-}
-script_ends c w v p q text (Err TooLong) refused status none prints says failed = record {
-  printed = text;
-  shows = refl;
-  ends = says_last c w v q text _ _ status (rw none at prints) says;
-}
-script_ends c w v p q text (Err Connection) refused status none prints says failed = record {
-  printed = text;
-  shows = refl;
-  ends = says_last c w v q text _ _ status (rw none at prints) says;
-}
+script_ends c w v p q text (Err Reading) refused status none prints says failed =
+    record { printed = text; shows = refl; ends = says_last c w v q text _ _ status (rw none at prints) says }
+script_ends c w v p q text (Err TooLong) refused status none prints says failed =
+    record { printed = text; shows = refl; ends = says_last c w v q text _ _ status (rw none at prints) says }
+script_ends c w v p q text (Err Connection) refused status none prints says failed =
+    record { printed = text; shows = refl; ends = says_last c w v q text _ _ status (rw none at prints) says }
 script_ends c w v p q text (Err Printing) refused status none (rest, (y, adds, is)) says failed = record {
   printed = y;
   shows = (rest, rw none at is);
