@@ -14,7 +14,8 @@ use Rattle.krs_world.specs.{Kept.world_of, Knowing.{answered, events_of}}
 use Rattle.krs_world.specs.{World.{event_by, IsServer, recelled, reseated, StepsAs, World}, declared.lane.Lane.Lane}
 use Rattle.krs_world.specs.declared.{lane.Slot.Slot, step.Kind.TheVariants.Answer, view.{Part.Part, Service.Service}}
 use Rattle.krs_world.proofs.KeptHistory.{cells_by, each_at, map_else, seats_by}
-use Rattle.krs_world.proofs.{KeptLanes.lane_more, Lanes.{at_set, snoc_end}, Moves.{after, holding_is, unheld}}
+use Rattle.krs_world.proofs.{KeptLanes.{lane_is, lane_more}, Lanes.{at_set, snoc_end}}
+use Rattle.krs_world.proofs.Moves.{after, holding_is, unheld}
 use Rattle.krs_world.proofs.ServedMoves.{apart_else, cell_apart, holds_true, slot_apart}
 use Rattle.krs_world.proofs.Slots.{cell_more, cell_then, cond_none, known_more, known_then}
 use Rattle.krs_types.specs.declared.ask.Answer as answer
@@ -210,36 +211,16 @@ module _ (store : State) (out : Option ℕ) (serving : Option Service) (log : Li
         let o = k.each i x at in
         let base : (j : ℕ) (l : Lane) → get_elem? (set lanes i y) j ≡ some l → IsLane out serving log j l =
         each_at (IsLane out serving log) lanes i y
-        record {
-          number = o.number;
-          seen = o.seen;
-          base = o.base;
-          after = o.after;
-          holds = o.holds;
-          slot = o.slot;
-        }
+        (lane_is o.number o.seen o.base o.after o.holds o.slot)
         (λ j l apart was. k.each j l was) in
         let b = base call.lane u there in
         let size : length log' ≡ length log + 1 = length-append log (e ∷ []) in
         let seen = b.seen in let based = b.base in let after = b.after in
         each_at (IsLane out None log') (set lanes i y) call.lane z
-        record {
-          number = b.number;
-          seen = omega arith;
-          base = omega arith;
-          after = omega arith;
-          holds = b.holds;
-          slot = (e, snoc_end log e, refl);
-        }
-        (λ j l apart was. let u = base j l was in let m = lane_more out out serving log e j l u u.holds in record {
-          number = m.number;
-          seen = m.seen;
-          base = m.base;
-          after = m.after;
-          holds = m.holds;
-          slot = slot_apart serving None log' j l.slot
-              (apart_else serving call log j l.slot is (λ same. apart (sym same)) u.slot) m.slot;
-        })
+        (lane_is b.number (omega arith) (omega arith) (omega arith) b.holds (e, snoc_end log e, refl))
+        (λ j l apart was. let u = base j l was in let m = lane_more out out serving log e j l u u.holds in
+        lane_is m.number m.seen m.base m.after m.holds (slot_apart serving None log' j l.slot
+        (apart_else serving call log j l.slot is (λ same. apart (sym same)) u.slot) m.slot))
 
     -- the holder answers the call that it serves
     pub answers : (next : State) → Step store e next

@@ -11,7 +11,7 @@ use Rattle.krs_world.specs.Kept.{cell_by, flight_by, IsFresh, IsKept, IsSlotOf, 
 use Rattle.krs_world.specs.{Knowing.{events_of, fresh, one}, World.{begun, cell_of, empty_cells, Free, fresh_lanes}}
 use Rattle.krs_world.specs.{World.{IsOneHistory, new_world, StaysOne, World}, declared.lane.{Lane.Lane, Slot.Slot}}
 use Rattle.krs_world.specs.declared.view.{Cell.TheVariants.Empty, Part.Part, Service.Service, View.View}
-use Rattle.krs_world.proofs.{Lanes.at_snoc, Worlds.{get_map, of_map, prefix_none, runs_keep}}
+use Rattle.krs_world.proofs.{Lanes.{at_snoc, known_is}, Worlds.{get_map, of_map, prefix_none, runs_keep}}
 use Rattle.krs_world.specs.declared.lane.Slot.TheVariants as slots
 
 cells_empty : (k l : ℕ) → cell_of (empty_cells k) l ≡ Empty
@@ -53,16 +53,8 @@ all_fresh lanes = record {
 }
 
 known : (lanes j : ℕ) → j < lanes → Known (all_fresh lanes) j (fresh j)
-known lanes j lt = record {
-  at = refl;
-  given = lt;
-  seen = ([], refl);
-  base = ([], refl);
-  calls = ([], refl);
-  fits = subst (Fits [] (fresh j)) (sym (cells_empty lanes j)) (refl, refl, refl);
-  holding = λ l is. absurd cc;
-  unheld = λ _. refl;
-}
+known lanes j lt = known_is refl lt ([], refl) ([], refl) ([], refl)
+    (subst (Fits [] (fresh j)) (sym (cells_empty lanes j)) (refl, refl, refl)) (λ l is. absurd cc) (λ _. refl)
 
 pub begins_world : (a : State) (lanes : ℕ) → IsOneHistory (begun a lanes)
 begins_world a lanes = record {
@@ -116,7 +108,8 @@ fresh_part : (j : ℕ) (l : Lane) → IsFresh j l → part_by [] None l ≡ fres
 fresh_part j l f =
     let seen : take l.seen [] ≡ [] = ap (λ (n : ℕ). take n []) f.seen in
     let base : take l.base [] ≡ [] = ap (λ (n : ℕ). take n []) f.base in
-    let mine : events_of l.lane (known_by [] l.slot) ≡ [] = ap (λ (s : Slot). events_of l.lane (known_by [] s)) f.slot in
+    let mine : events_of l.lane (known_by [] l.slot) ≡ [] = ap (λ (s : Slot). events_of l.lane (known_by [] s)) f.slot
+    in
     let nothing : Option (List Event) = None in
     let held : cond l.holding (Some []) nothing ≡ nothing = ap (λ (b : Bool). cond b (Some []) nothing) f.holding in
     let unserved : Option Service = None in

@@ -10,7 +10,8 @@ use Rattle.krs_world.specs.History.{HasSeen, Holds, IsSeen, Known, OneHistory, S
 use Rattle.krs_world.specs.Knowing.{events_of, loaded, one, view}
 use Rattle.krs_world.specs.declared.view.{Cell.Cell, Part.Part, Standing.TheVariants.{Spent, Two}, View.View}
 use Rattle.krs_world.proofs.Keeping.{at_snoc, each_set, events_prefix, fits_same, held_set, held_snoc, others_stand}
-use Rattle.krs_world.proofs.Keeping.{prefix_self, prefix_trans, set_at, set_else, shares, snoc_at, snoc_end}
+use Rattle.krs_world.proofs.Keeping.{holds_is, known_is, prefix_self, prefix_trans, set_at, set_else, shares, snoc_at}
+use Rattle.krs_world.proofs.Keeping.{snoc_end}
 use Rattle.krs_world.proofs.Places.{dealing_set, dealing_snoc, seated, seated_else, seated_here, seated_set}
 use Rattle.krs_world.proofs.Places.{seated_snoc, seats_again}
 
@@ -24,21 +25,8 @@ each_snoc S views n w len last others j v e = ⊎_elim (others j v)
 -- another seat for a lane
 pub reseat : (s : Shared) (seat : ℕ → ℕ) (j j' : ℕ) (p : Part) → Known s j p → seat p.lane ≡ j'
     → ((l : List Event) → p.holding ≡ Some l → Holds s j' p l) → Known (record s { seat = seat }) j' p
-reseat s seat j j' p k at holds = record {
-  at = at;
-  given = k.given;
-  seen = k.seen;
-  base = k.base;
-  calls = k.calls;
-  fits = k.fits;
-  holding = λ l is. let h = holds l is in record {
-    out = h.out;
-    here = h.here;
-    whole = h.whole;
-    same_service = h.same_service;
-  };
-  unheld = k.unheld;
-}
+reseat s seat j j' p k at holds = known_is at k.given k.seen k.base k.calls k.fits
+    (λ l is. let h = holds l is in holds_is h.out h.here h.whole h.same_service) k.unheld
 
 -- the longest list that is seen, where one seat takes in the lane of another
 seen_join : (log : List Event) (a b : State) (views : List View) (id other : ℕ) (p q : Part)
@@ -139,22 +127,10 @@ joins a b turn home cell views id other p q o at apart at' np nq =
 
 -- what a lane knows once it has seen the whole list
 sees : (s : Shared) (j : ℕ) (p : Part) → Known s j p → Known s j (loaded p s.log)
-sees s j p k = record {
-  at = k.at;
-  given = k.given;
-  seen = prefix_self s.log;
-  base = k.base;
-  calls = prefix_trans p.mine (events_of p.lane p.seen) (events_of p.lane s.log) k.calls
-      (events_prefix p.lane p.seen s.log k.seen);
-  fits = fits_same s.log p (loaded p s.log) refl refl refl refl (s.cell p.lane) k.fits;
-  holding = λ l is. let h = k.holding l is in record {
-    out = h.out;
-    here = h.here;
-    whole = h.whole;
-    same_service = h.same_service;
-  };
-  unheld = k.unheld;
-}
+sees s j p k = known_is k.at k.given (prefix_self s.log) k.base (prefix_trans p.mine (events_of p.lane p.seen)
+    (events_of p.lane s.log) k.calls (events_prefix p.lane p.seen s.log k.seen))
+    (fits_same s.log p (loaded p s.log) refl refl refl refl (s.cell p.lane) k.fits)
+    (λ l is. let h = k.holding l is in holds_is h.out h.here h.whole h.same_service) k.unheld
 
 -- a seat of two lanes sees the list so far
 pub looks : (a : State) (turn : ℕ) (home : Option State) (cell : ℕ → Cell) (views : List View) (id : ℕ) (p q : Part)

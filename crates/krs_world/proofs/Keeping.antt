@@ -13,7 +13,7 @@ use Rattle.krs_world.specs.declared.view.{Part.Part, Standing.{Standing, TheVari
 pub use Rattle.krs_world.proofs.Lanes.{prefix_self, prefix_more, prefix_trans, prefix_both, events_prefix, own_event}
 pub use Rattle.krs_world.proofs.Lanes.{other_event, at_set, set_at, set_else, snoc_at, snoc_end, at_snoc, seen_set}
 pub use Rattle.krs_world.proofs.Lanes.{held_set, seen_snoc, held_snoc, each_set, shares, others_stand, celled_here}
-pub use Rattle.krs_world.proofs.Lanes.{celled_else, fits_more, fits_same, empty_if_idle, idle_mine}
+pub use Rattle.krs_world.proofs.Lanes.{celled_else, fits_more, fits_same, empty_if_idle, idle_mine, holds_is, known_is}
 use Rattle.krs_world.specs.History.{IsSeated}
 use Rattle.krs_world.proofs.Places.{seated_set, dealing_set}
 
@@ -63,28 +63,13 @@ module _ (a : State) (views : List View) (id : ℕ) (p : Part) (at : get_elem? v
         served = o.served;
         openings = views_open 0 home cell o (One (taken p o.log));
         each = each_set (λ j v. Stands s' j v.stands) views id (one a (taken p o.log))
-            record {
-              at = k.at;
-              given = k.given;
-              seen = k.seen;
-              base = prefix_self o.log;
-              calls = k.calls;
-              fits = fits_same o.log p (taken p o.log) refl refl refl refl (cell p.lane) k.fits;
-              holding = λ l e. record { out = refl; here = refl; whole = cc; same_service = k.unheld none ∙ sym quiet };
-              unheld = λ e. k.unheld none;
-            }
+            (known_is k.at k.given k.seen (prefix_self o.log) k.calls
+            (fits_same o.log p (taken p o.log) refl refl refl refl (cell p.lane) k.fits)
+            (λ l e. record { out = refl; here = refl; whole = cc; same_service = k.unheld none ∙ sym quiet })
+            (λ e. k.unheld none))
             (λ j v not e. others_stand s s' j
-            (λ q h. record {
-              at = h.at;
-              given = h.given;
-              seen = h.seen;
-              base = h.base;
-              calls = h.calls;
-              fits =
-                  h.fits;
-              holding = λ l is. let t : 0 ≡ 1 = (h.holding l is).out in absurd (omega arith);
-              unheld = h.unheld;
-            })
+            (λ q h. known_is h.at h.given h.seen h.base h.calls h.fits
+            (λ l is. let t : 0 ≡ 1 = (h.holding l is).out in absurd (omega arith)) h.unheld)
             (λ (t : 0 ≡ 2). absurd (omega arith)) v.stands (o.each j v e));
       }
 
@@ -121,21 +106,9 @@ module _ (a : State) (views : List View) (id : ℕ) (p : Part) (at : get_elem? v
   pub misses : (turn : ℕ) (home : Option State) (cell : ℕ → Cell) (o : OneHistory a turn home cell views)
       → OneHistory a turn home cell (set views id (one a (missed p)))
   misses turn home cell o = let k = own turn home cell o in
-      stays turn home cell o (missed p) refl refl (λ e. e) record {
-        at = k.at;
-        given = k.given;
-        seen = k.seen;
-        base = k.base;
-        calls = k.calls;
-        fits = fits_same o.log p (missed p) refl refl refl refl (cell p.lane) k.fits;
-        holding = λ l is. let h = k.holding l is in record {
-          out = h.out;
-          here = h.here;
-          whole = h.whole;
-          same_service = h.same_service;
-        };
-        unheld = k.unheld;
-      }
+      stays turn home cell o (missed p) refl refl (λ e. e) (known_is k.at k.given k.seen k.base k.calls
+      (fits_same o.log p (missed p) refl refl refl refl (cell p.lane) k.fits)
+      (λ l is. let h = k.holding l is in holds_is h.out h.here h.whole h.same_service) k.unheld)
 
   -- the seat sees more of the list
   pub loads : (turn : ℕ) (home : Option State) (cell : ℕ
@@ -143,22 +116,10 @@ module _ (a : State) (views : List View) (id : ℕ) (p : Part) (at : get_elem? v
       → OneHistory a turn home cell (set views id (one a (loaded p l)))
   loads turn home cell l o more begins = let k = own turn home cell o in
       stays turn home cell o (loaded p l) refl refl
-      (λ e. prefix_both l o.log begins (subst (λ (x : List Event). Begins x l) e more)) record {
-        at = k.at;
-        given = k.given;
-        seen = begins;
-        base = k.base;
-        calls = prefix_trans p.mine (events_of p.lane p.seen) (events_of p.lane l) k.calls
-            (events_prefix p.lane p.seen l more);
-        fits = fits_same o.log p (loaded p l) refl refl refl refl (cell p.lane) k.fits;
-        holding = λ x is. let h = k.holding x is in record {
-          out = h.out;
-          here = h.here;
-          whole = h.whole;
-          same_service = h.same_service;
-        };
-        unheld = k.unheld;
-      }
+      (λ e. prefix_both l o.log begins (subst (λ (x : List Event). Begins x l) e more)) (known_is k.at k.given begins
+      k.base (prefix_trans p.mine (events_of p.lane p.seen) (events_of p.lane l) k.calls (events_prefix p.lane
+      p.seen l more)) (fits_same o.log p (loaded p l) refl refl refl refl (cell p.lane) k.fits)
+      (λ x is. let h = k.holding x is in holds_is h.out h.here h.whole h.same_service) k.unheld)
 
   -- the holder adds the event of its own call to the list, and brings the store home
   pub puts : (turn : ℕ) (home : Option State) (cell : ℕ → Cell) (log : List Event) (e : Event) (last next : State)
@@ -205,27 +166,17 @@ module _ (a : State) (views : List View) (id : ℕ) (p : Part) (at : get_elem? v
           served = o.served;
           openings = views_open turn home cell o (One (put_own p log e));
           each = each_set (λ j v. Stands s' j v.stands) views id w
-              record {
-                at = k.at;
-                given = k.given;
-                seen = prefix_self (log ++ e ∷ []);
-                base = subst (λ l. Begins p.base (l ++ e ∷ [])) (sym all) (prefix_more p.base o.log (e ∷ []) k.base);
-                calls = subst (Begins (p.mine ++ e ∷ [])) (sym mine) (prefix_self (p.mine ++ e ∷ []));
-                fits = subst (Fits (log ++ e ∷ []) (put_own p log e)) (sym empty) (quiet, mine, fits.2);
-                holding = λ l is. absurd cc;
-                unheld = λ _. idle;
-              }
+              (known_is k.at k.given (prefix_self (log ++ e ∷ []))
+              (subst (λ l. Begins p.base (l ++ e ∷ [])) (sym all) (prefix_more p.base o.log (e ∷ []) k.base))
+              (subst (Begins (p.mine ++ e ∷ [])) (sym mine) (prefix_self (p.mine ++ e ∷ [])))
+              (subst (Fits (log ++ e ∷ []) (put_own p log e)) (sym empty) (quiet, mine, fits.2)) (λ l is. absurd cc)
+              (λ _. idle))
               (λ j v not at'. others_stand s s' j
-              (λ q h. record {
-                at = h.at;
-                given = h.given;
-                seen = subst (λ l. Begins q.seen (l ++ e ∷ [])) (sym all) (prefix_more q.seen o.log (e ∷ []) h.seen);
-                base = subst (λ l. Begins q.base (l ++ e ∷ [])) (sym all) (prefix_more q.base o.log (e ∷ []) h.base);
-                calls = h.calls;
-                fits = more q (λ same. not (sym h.at ∙ (ap o.seat same ∙ k.at))) h.fits;
-                holding = λ l is. let u = h.holding l is in absurd (not (u.here ∙ sym t.here));
-                unheld = h.unheld;
-              })
+              (λ q h. known_is h.at h.given
+              (subst (λ l. Begins q.seen (l ++ e ∷ [])) (sym all) (prefix_more q.seen o.log (e ∷ []) h.seen))
+              (subst (λ l. Begins q.base (l ++ e ∷ [])) (sym all) (prefix_more q.base o.log (e ∷ []) h.base))
+              h.calls (more q (λ same. not (sym h.at ∙ (ap o.seat same ∙ k.at))) h.fits)
+              (λ l is. let u = h.holding l is in absurd (not (u.here ∙ sym t.here))) h.unheld)
               (λ two is. absurd (let n : 1 ≡ 2 = sym out ∙ two in omega arith)) v.stands (o.each j v at'));
         },
       )
@@ -273,32 +224,17 @@ module _ (a : State) (views : List View) (id : ℕ) (p : Part) (at : get_elem? v
         served = o.served;
         openings = views_open turn home cell o (One q);
         each = each_set (λ j v. Stands s' j v.stands) views id w
-            record {
-              at = k.at;
-              given = k.given;
-              seen = prefix_self (log ++ e ∷ []);
-              base = subst (λ l. Begins p.base (l ++ e ∷ [])) (sym all) (prefix_more p.base o.log (e ∷ []) k.base);
-              calls = subst (Begins (p.mine ++ e ∷ [])) (sym mine) (prefix_self (p.mine ++ e ∷ []));
-              fits = subst (Fits (log ++ e ∷ []) q) (sym empty) (quiet, mine, fits.2);
-              holding = λ l is. record {
-                out = out;
-                here = t.here;
-                whole = cc;
-                same_service = t.same_service;
-              };
-              unheld = λ no. absurd cc;
-            }
+            (known_is k.at k.given (prefix_self (log ++ e ∷ []))
+            (subst (λ l. Begins p.base (l ++ e ∷ [])) (sym all) (prefix_more p.base o.log (e ∷ []) k.base))
+            (subst (Begins (p.mine ++ e ∷ [])) (sym mine) (prefix_self (p.mine ++ e ∷ [])))
+            (subst (Fits (log ++ e ∷ []) q) (sym empty) (quiet, mine, fits.2))
+            (λ l is. record { out = out; here = t.here; whole = cc; same_service = t.same_service }) (λ no. absurd cc))
             (λ j v not at'. others_stand s s' j
-            (λ x h. record {
-              at = h.at;
-              given = h.given;
-              seen = subst (λ l. Begins x.seen (l ++ e ∷ [])) (sym all) (prefix_more x.seen o.log (e ∷ []) h.seen);
-              base = subst (λ l. Begins x.base (l ++ e ∷ [])) (sym all) (prefix_more x.base o.log (e ∷ []) h.base);
-              calls = h.calls;
-              fits = more x (λ same. not (sym h.at ∙ (ap o.seat same ∙ k.at))) h.fits;
-              holding = λ l is. let u = h.holding l is in absurd (not (u.here ∙ sym t.here));
-              unheld = h.unheld;
-            })
+            (λ x h. known_is h.at h.given
+            (subst (λ l. Begins x.seen (l ++ e ∷ [])) (sym all) (prefix_more x.seen o.log (e ∷ []) h.seen))
+            (subst (λ l. Begins x.base (l ++ e ∷ [])) (sym all) (prefix_more x.base o.log (e ∷ []) h.base))
+            h.calls (more x (λ same. not (sym h.at ∙ (ap o.seat same ∙ k.at))) h.fits)
+            (λ l is. let u = h.holding l is in absurd (not (u.here ∙ sym t.here))) h.unheld)
             (λ two is. absurd (let n : 1 ≡ 2 = sym out ∙ two in omega arith)) v.stands (o.each j v at'));
       }
 
@@ -332,28 +268,14 @@ module _ (a : State) (views : List View) (id : ℕ) (p : Part) (at : get_elem? v
           served = o.served;
           openings = views_open turn home cell o (One (put_none p log));
           each = each_set (λ j v. Stands s' j v.stands) views id w
-              record {
-                at = k.at;
-                given = k.given;
-                seen = subst (λ l. Begins l o.log) (sym all) (prefix_self o.log);
-                base = k.base;
-                calls = prefix_trans p.mine (events_of p.lane p.seen) (events_of p.lane log) k.calls
-                    (events_prefix p.lane p.seen log (subst (Begins p.seen) (sym all) k.seen));
-                fits = fits_same o.log p (put_none p log) refl refl refl refl (cell p.lane) k.fits;
-                holding = λ l is. absurd cc;
-                unheld = λ _. idle;
-              }
+              (known_is k.at k.given (subst (λ l. Begins l o.log) (sym all) (prefix_self o.log)) k.base (prefix_trans
+              p.mine (events_of p.lane p.seen) (events_of p.lane log) k.calls (events_prefix p.lane p.seen log (subst
+              (Begins p.seen) (sym all) k.seen)))
+              (fits_same o.log p (put_none p log) refl refl refl refl (cell p.lane) k.fits) (λ l is. absurd cc)
+              (λ _. idle))
               (λ j v not e. others_stand s s' j
-              (λ q h. record {
-                at = h.at;
-                given = h.given;
-                seen = h.seen;
-                base = h.base;
-                calls = h.calls;
-                fits = h.fits;
-                holding = λ l is. let u = h.holding l is in absurd (not (u.here ∙ sym t.here));
-                unheld = h.unheld;
-              })
+              (λ q h. known_is h.at h.given h.seen h.base h.calls h.fits
+              (λ l is. let u = h.holding l is in absurd (not (u.here ∙ sym t.here))) h.unheld)
               (λ two is. absurd (let n : 1 ≡ 2 = sym out ∙ two in omega arith)) v.stands (o.each j v e));
         },
       )

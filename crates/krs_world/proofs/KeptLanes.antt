@@ -1,36 +1,31 @@
 -- What is kept of a lane, where another lane is out, and where the list of all calls has an event more.
-use Rattle.std.proofs.Common.{[], ◌++◌, ◌+◌, ◌∙◌, ◌∷◌, ◌≡◌, ◌≢◌, ap, arith, Bool, cond, false, length, length-append}
+use Rattle.std.proofs.Common.{[], ◌++◌, ◌+◌, ◌∙◌, ◌∷◌, ◌≡◌, ◌≢◌, ◌≤◌, ap, arith, Bool, cond, false, length}
+use Rattle.std.proofs.Common.{length-append}
 use Rattle.std.proofs.{Common.{List, None, Option, refl, Some, subst, sym, take, true, ℕ}, lemmas.List.take-append-le}
 use Rattle.krs_types.specs.declared.event.Event.{Event}
-use Rattle.krs_world.specs.Kept.{flight_by, IsLane, known_by, lane_cell, part_by}
+use Rattle.krs_world.specs.Kept.{flight_by, IsLane, IsSlotOf, known_by, lane_cell, part_by}
 use Rattle.krs_world.specs.{Knowing.events_of, declared.{lane.Lane.Lane, view.Service.Service}}
 use Rattle.krs_world.proofs.Slots.{cell_more, known_more, slot_more}
+
+-- what is kept of a lane, by its parts
+pub lane_is : {out : Option ℕ} {serving : Option Service} {log : List Event} {j : ℕ} {l : Lane} → l.lane ≡ j
+    → l.seen ≤ length log → l.base ≤ length log → l.after ≤ length log → (l.holding ≡ true → out ≡ Some j)
+    → IsSlotOf serving log j l.slot → IsLane out serving log j l
+lane_is number seen base after holds slot =
+    record { number = number; seen = seen; base = base; after = after; holds = holds; slot = slot }
 
 -- what is kept of a lane, where another lane is out or none is
 pub lane_out : (out out' : Option ℕ) (serving : Option Service) (log : List Event) (j : ℕ) (l : Lane)
     → IsLane out serving log j l → (l.holding ≡ true → out' ≡ Some j) → IsLane out' serving log j l
-lane_out out out' serving log j l o holds = record {
-  number = o.number;
-  seen = o.seen;
-  base = o.base;
-  after = o.after;
-  holds = holds;
-  slot = o.slot;
-}
+lane_out out out' serving log j l o holds = lane_is o.number o.seen o.base o.after holds o.slot
 
 -- the same, where the list has an event more
 pub lane_more : (out out' : Option ℕ) (serving : Option Service) (log : List Event) (e : Event) (j : ℕ) (l : Lane)
     → IsLane out serving log j l → (l.holding ≡ true → out' ≡ Some j) → IsLane out' serving (log ++ e ∷ []) j l
 lane_more out out' serving log e j l o holds =
     let size : length (log ++ e ∷ []) ≡ length log + 1 = length-append log (e ∷ []) in
-    let seen = o.seen in let base = o.base in let after = o.after in record {
-      number = o.number;
-      seen = omega arith;
-      base = omega arith;
-      after = omega arith;
-      holds = holds;
-      slot = slot_more serving log e j l.slot o.slot;
-    }
+    let seen = o.seen in let base = o.base in let after = o.after in
+    lane_is o.number (omega arith) (omega arith) (omega arith) holds (slot_more serving log e j l.slot o.slot)
 
 -- what a lane's seat knows where the list has an event more, of another lane, and where the lane doesn't hold the list
 pub part_more : (out : Option ℕ) (serving : Option Service) (log : List Event) (e : Event) (j : ℕ) (l : Lane)

@@ -1,5 +1,5 @@
 -- Lists, the lists that seats see and hold, and what holds of a lane where the list or its seat changes.
-use Rattle.std.proofs.Common.{[], ⊎_elim, ◌++◌, ◌==◌, ◌∙◌, ◌∷◌, ◌≡◌, ◌≢◌, ◌⊎◌, ap, append-nil, append_assoc, arith}
+use Rattle.std.proofs.Common.{[], ⊎_elim, ◌++◌, ◌<◌, ◌==◌, ◌∙◌, ◌∷◌, ◌≡◌, ◌≢◌, ◌⊎◌, ap, append-nil, append_assoc, arith}
 use Rattle.std.proofs.Common.{cond, eq-eqb, inl, inr, length, List, ne_eqb, None, Option, refl, set, Some, subst, suc}
 use Rattle.std.proofs.{Common.{sym, zero, ℕ}, lemmas.List.Elements.filter-append}
 use lib.ListN.{get_elem?}
@@ -7,7 +7,7 @@ use mathlib.Core.{Logic.dite, Option.{some, some-injective, some-ne-none}}
 use native.Mathlib.Decide.{ℕ_discrete}
 use Rattle.krs_types.specs.declared.event.Event.{Event}
 use Rattle.krs_model.specs.{History.event_of, Lists.Begins, State.State}
-use Rattle.krs_world.specs.History.{Fits, HasSeen, HasTurn, IsHeld, IsSeen, Known, OneHistory, Shared, Stands}
+use Rattle.krs_world.specs.History.{Fits, HasSeen, HasTurn, Holds, IsHeld, IsSeen, Known, OneHistory, Shared, Stands}
 use Rattle.krs_world.specs.Knowing.{celled, events_of, flight}
 use Rattle.krs_world.specs.declared.view.{Cell.{Cell, TheVariants.{Answered, Empty, Posted, Serving}}, Part.Part}
 use Rattle.krs_world.specs.declared.view.{Standing.{Standing, TheVariants.{One, Opening, Spent, Two}}, View.View}
@@ -156,6 +156,26 @@ celled_here cell lane c = ap (λ b. cond b c (cell lane)) (eq-eqb lane lane refl
 
 pub celled_else : (cell : ℕ → Cell) (lane l : ℕ) (c : Cell) → l ≢ lane → celled cell lane c l ≡ cell l
 celled_else cell lane l c not = ap (λ b. cond b c (cell l)) (ne_eqb l lane not)
+
+-- that a seat holds the history, by what that says in turn
+pub holds_is : {s : Shared} {j : ℕ} {p : Part} {l : List Event} → s.turn ≡ 1 → j ≡ s.holder → l ≡ s.log
+    → p.serving ≡ s.serving → Holds s j p l
+holds_is out here whole same = record { out = out; here = here; whole = whole; same_service = same }
+
+-- what is so of a lane, by its place, number, what it has seen, its base, calls and fit, and what it holds
+pub known_is : {s : Shared} {j : ℕ} {p : Part} → s.seat p.lane ≡ j → p.lane < s.dealt → Begins p.seen s.log
+    → Begins p.base s.log → Begins p.mine (events_of p.lane p.seen) → Fits s.log p (s.cell p.lane)
+    → ((l : List Event) → p.holding ≡ Some l → Holds s j p l) → (p.holding ≡ None → p.serving ≡ None) → Known s j p
+known_is at given seen base calls fits holding unheld = record {
+  at = at;
+  given = given;
+  seen = seen;
+  base = base;
+  calls = calls;
+  fits = fits;
+  holding = holding;
+  unheld = unheld;
+}
 
 -- a list that gains an event of another lane fits as before
 pub fits_more : (log : List Event) (e : Event) (p : Part) → e.lane ≢ p.lane → (c : Cell) → Fits log p c

@@ -10,8 +10,8 @@ use native.Mathlib.Decide.{ℕ_discrete}
 use Rattle.krs_types.specs.declared.{ask.{Answer.Answer, Ask.Ask}, errno.Errno.Errno, event.Event.Event}
 use Rattle.krs_model.specs.{History.{event_of, IsLegal}, State.{starting_at, State}, Step.Step}
 use Rattle.krs_model.proofs.History.Legal.{legal_more}
-use Rattle.krs_world.specs.Kept.{cell_by, flight_by, IsKept, IsLane, known_by, lane_cell, part_by, turn_by, world_of}
-use Rattle.krs_world.specs.Knowing.{events_of, kept, loaded, missed, put_none, put_own, taken}
+use Rattle.krs_world.specs.Kept.{cell_by, flight_by, IsKept, IsLane, known_by, lane_cell, part_by, Serves, turn_by}
+use Rattle.krs_world.specs.{Kept.world_of, Knowing.{events_of, kept, loaded, missed, put_none, put_own, taken}}
 use Rattle.krs_world.specs.World.{IsHistory, IsHolder, IsOneHistory, reseated, StepsAs, World}
 use Rattle.krs_world.specs.declared.lane.Lane.{Lane}
 use Rattle.krs_world.specs.declared.{lane.Slot.Slot, step.Kind.{Kind, TheVariants.{Load, Put, Serve, Take, TakeFound}}}
@@ -19,7 +19,8 @@ use Rattle.krs_world.specs.declared.view.{Part.Part, Service.Service}
 use Rattle.krs_world.proofs.Keeping.{at_set, own_event, set_at, set_else}
 use Rattle.krs_world.proofs.KeptHistory.{begins_further, begins_short, begins_take, cells_by, each_at, history_kept}
 use Rattle.krs_world.proofs.KeptHistory.{IsSeenWhole, kept_history, map_alike, map_else, not_true, reseats, seats_by}
-use Rattle.krs_world.proofs.{KeptHistory.{seen_whole, whole_now}, KeptLanes.{held_true, lane_more, lane_out, part_more}}
+use Rattle.krs_world.proofs.KeptHistory.{seen_whole, whole_now}
+use Rattle.krs_world.proofs.KeptLanes.{held_true, lane_is, lane_more, lane_out, part_more}
 use Rattle.krs_world.proofs.{Slots.{cell_more, cond_none, slot_more}, Worlds.{get_map, step_as}}
 use Rattle.krs_world.specs.declared.lane.Slot.TheVariants as slots
 
@@ -29,6 +30,11 @@ module _ (store : State) (out : Option ℕ) (serving : Option Service) (log : Li
   abbrev pub w : World
   w = world_of store out serving log lanes
 
+  -- the lane of the call that is served says so
+  abbrev pub Served : Option Service → List Lane → Type 0
+  Served serving' lanes' = (s : Service) → serving' ≡ Some s
+      → (l : Lane) × (get_elem? lanes' s.lane ≡ some l) × (l.slot ≡ slots.Serving)
+
   -- a step leaves the machine kept
   pub after : (store' : State) (out' : Option ℕ) (serving' : Option Service) (log' : List Event) (lanes' : List Lane)
       (kind : Kind)
@@ -36,8 +42,7 @@ module _ (store : State) (out : Option ℕ) (serving : Option Service) (log : Li
       → (out' ≡ None → IsSeenWhole log' lanes') → IsLegal (starting_at 3) log' store'
       → ((j : ℕ) (l : Lane) → get_elem? lanes' j ≡ some l → IsLane out' serving' log' j l)
       → (out' ≡ None → serving' ≡ None)
-      → ((s : Service) → serving' ≡ Some s → (l : Lane) × (get_elem? lanes' s.lane ≡ some l) × (l.slot ≡ slots.Serving))
-      → IsKept store' out' serving' log' lanes'
+      → Served serving' lanes' → IsKept store' out' serving' log' lanes'
   after store' out' serving' log' lanes' kind steps free legal each idle served =
       let w' : World = world_of store' out' serving' log' lanes' in
       let now : IsOneHistory w' = step_as w i (part_by log serving x) kind w' k.one
@@ -52,8 +57,7 @@ module _ (store : State) (out : Option ℕ) (serving : Option Service) (log : Li
       }
 
   -- the lane of the call that is served, where a lane keeps its slot
-  pub still_served : (y : Lane) → y.slot ≡ x.slot → (s : Service) → serving ≡ Some s
-      → (l : Lane) × (get_elem? (set lanes i y) s.lane ≡ some l) × (l.slot ≡ slots.Serving)
+  pub still_served : (y : Lane) → y.slot ≡ x.slot → Served serving (set lanes i y)
   still_served y same s is = let t = k.served s is in dite (ℕ_discrete s.lane i)
       (λ here. let one : t.0 ≡ x = some-injective t.0 x (sym t.1 ∙ (ap (get_elem? lanes) here ∙ at)) in (
         y,
@@ -72,6 +76,28 @@ module _ (store : State) (out : Option ℕ) (serving : Option Service) (log : Li
       IsKept store' out' serving log' (set lanes i y)
       × StepsAs w i (part_by log serving x) kind (world_of store' out' serving log' (set lanes i y))
 
+  -- the lane as y by such a step, which leaves the call that is served
+  pub moved : (store' : State) (out' : Option ℕ) (log' : List Event) (y : Lane) (kind : Kind)
+      → (out' ≡ None → IsSeenWhole log' (set lanes i y)) → IsLegal (starting_at 3) log' store'
+      → IsLane out' serving log' i y
+      → ((j : ℕ) (l : Lane) → j ≢ i → get_elem? lanes j ≡ some l → IsLane out' serving log' j l)
+      → (out' ≡ None → serving ≡ None) → Served serving (set lanes i y)
+      → StepsAs w i (part_by log serving x) kind (world_of store' out' serving log' (set lanes i y))
+      → Moved store' out' log' y kind
+  moved store' out' log' y kind free legal own others idle served steps = (
+    after store' out' serving log' (set lanes i y) kind steps free legal
+        (each_at (IsLane out' serving log') lanes i y own others) idle served,
+    steps,
+  )
+
+  -- the same, where nothing changes but the lane
+  pub stays : (y : Lane) (kind : Kind) → (out ≡ None → IsSeenWhole log (set lanes i y)) → IsLane out serving log i y
+      → Served serving (set lanes i y)
+      → StepsAs w i (part_by log serving x) kind (world_of store out serving log (set lanes i y))
+      → Moved store out log y kind
+  stays y kind free own served steps =
+      moved store out log y kind free k.legal own (λ j l not e. k.each j l e) k.idle served steps
+
   -- take
   pub takes : (base n : ℕ) (v : Vec ℕ Global) → out ≡ None → base ≡ length log → n ≡ x.taken + 1 → v.items ≡ []
       → Moved store (Some i) log record x { base = base; holding = true; taken = n; checked = v } Take
@@ -85,28 +111,17 @@ module _ (store : State) (out : Option ℕ) (serving : Option Service) (log : Li
         taken = en j;
         checked = ev j;
       } in
-      let steps : StepsAs w i (part_by log serving x) Take (world_of store (Some i) serving log (set lanes i y)) = (
+      let o = k.each i x at in
+      moved store (Some i) log y Take (λ no. absurd (cc)) k.legal
+      (lane_is o.number o.seen (omega arith) o.after (λ _. refl) o.slot)
+      (λ j l not e. let u = k.each j l e in lane_out out (Some i) serving log j l u
+      (λ held. absurd (let no : None ≡ Some j = sym free ∙ u.holds held in cc)))
+      (λ no. absurd (cc)) (still_served y refl) (
         store,
         log,
         ap (turn_by store) free,
         kept_history store out serving log lanes k,
         reseats store out (Some i) serving log lanes i x y (taken (part_by log serving x) log) at refl part,
-      ) in
-      let o = k.each i x at in (
-        after store (Some i) serving log (set lanes i y) Take steps (λ no. absurd (cc)) k.legal
-            (each_at (IsLane (Some i) serving log) lanes i y
-            record {
-              number = o.number;
-              seen = o.seen;
-              base = omega arith;
-              after = o.after;
-              holds = λ _. refl;
-              slot = o.slot;
-            }
-            (λ j l not e. let u = k.each j l e in lane_out out (Some i) serving log j l u
-            (λ held. absurd (let no : None ≡ Some j = sym free ∙ u.holds held in cc))))
-            (λ no. absurd (cc)) (still_served y refl),
-        steps,
       )
 
   -- take, found out
@@ -116,27 +131,13 @@ module _ (store : State) (out : Option ℕ) (serving : Option Service) (log : Li
       let y : Lane = record x { found = n } in
       let part : part_by log serving y ≡ missed (part_by log serving x) =
       λ j. record (missed (part_by log serving x)) { found = en j } in
-      let steps : StepsAs w i (part_by log serving x) TakeFound (world_of store out serving log (set lanes i y)) = (
+      let o = k.each i x at in
+      stays y TakeFound (λ no. absurd (let both : None ≡ Some holder = sym no ∙ is in cc))
+      (lane_is o.number o.seen o.base o.after o.holds o.slot) (still_served y refl) (
         holder,
         ap (turn_by store) is,
         not,
         reseats store out out serving log lanes i x y (missed (part_by log serving x)) at refl part,
-      ) in
-      let o = k.each i x at in (
-        after store out serving log (set lanes i y) TakeFound steps
-            (λ no. absurd (let both : None ≡ Some holder = sym no ∙ is in cc)) k.legal
-            (each_at (IsLane out serving log) lanes i y
-            record {
-              number = o.number;
-              seen = o.seen;
-              base = o.base;
-              after = o.after;
-              holds = o.holds;
-              slot = o.slot;
-            }
-            (λ j l not e. k.each j l e))
-            k.idle (still_served y refl),
-        steps,
       )
 
   -- the list that the holder holds
@@ -158,6 +159,10 @@ module _ (store : State) (out : Option ℕ) (serving : Option Service) (log : Li
     legal = k.legal;
   }
 
+  -- a lane with nothing in its cell has no call in flight
+  pub no_flight : x.slot ≡ slots.Empty → (part_by log serving x).flight ≡ None
+  no_flight idle = ap (λ (s : Slot). flight_by (take x.after log) (cell_by log serving s)) idle
+
   -- put with no call of its own
   pub puts_none : (seen : ℕ) → out ≡ Some i → serving ≡ None → seen ≡ length log
       → Moved store None log record x { seen = seen; holding = false } (Put None)
@@ -168,26 +173,14 @@ module _ (store : State) (out : Option ℕ) (serving : Option Service) (log : Li
         seen = (ap (λ (b : ℕ). take b log) es ∙ take-length log) j;
         serving = sym (cond_none x.holding serving none) j;
       } in
-      let steps : StepsAs w i (part_by log serving x) (Put None) (world_of store None serving log (set lanes i y)) = (
+      let o = k.each i x at in
+      moved store None log y (Put None) (λ _. inr (i, y, set_at lanes i y x at, es)) k.legal
+      (lane_is o.number (omega arith) o.base o.after (λ no. absurd (cc)) o.slot)
+      (λ j l not e. let u = k.each j l e in lane_out out None serving log j l u
+      (λ held. absurd (not (let both : Some j ≡ Some i = sym (u.holds held) ∙ here in cc))))
+      (λ _. none) (still_served y refl) (
         holder here none,
         reseats store out None serving log lanes i x y (put_none (part_by log serving x) log) at refl part,
-      ) in
-      let o = k.each i x at in (
-        after store None serving log (set lanes i y) (Put None) steps (λ _. inr (i, y, set_at lanes i y x at, es))
-            k.legal
-            (each_at (IsLane None serving log) lanes i y
-            record {
-              number = o.number;
-              seen = omega arith;
-              base = o.base;
-              after = o.after;
-              holds = λ no. absurd (cc);
-              slot = o.slot;
-            }
-            (λ j l not e. let u = k.each j l e in lane_out out None serving log j l u
-            (λ held. absurd (not (let both : Some j ≡ Some i = sym (u.holds held) ∙ here in cc)))))
-            (λ _. none) (still_served y refl),
-        steps,
       )
 
   -- The machine behind an own call of the lane: its seat, as y, knows q, and the list has the event more.
@@ -272,33 +265,20 @@ module _ (store : State) (out : Option ℕ) (serving : Option Service) (log : Li
       let part : part_by log' serving y ≡ put_own (part_by log serving x) log e =
       own_part seen false e idle refl es
       ∙ (λ j. record (put_own (part_by log serving x) log e) { serving = sym (cond_none x.holding serving none) j }) in
-      let quiet : flight_by (take x.after log) (cell_by log serving x.slot) ≡ None =
-      ap (λ (s : Slot). flight_by (take x.after log) (cell_by log serving s)) idle in
-      let steps : StepsAs w i (part_by log serving x) (Put (Some call))
-      (world_of next None serving log' (set lanes i y)) = (
+      moved next None log' y (Put (Some call)) (λ _. inr (i, y, set_at lanes i y x at, whole))
+      (legal_more (starting_at 3) store next log e k.legal step)
+      (let b = o.base in let a = o.after in lane_is o.number (omega arith) (omega arith) (omega arith)
+      (λ no. absurd (cc))
+      (slot_more serving log e i x.slot o.slot))
+      (λ j l not is. let u = k.each j l is in lane_more out None serving log e j l u
+      (λ held. absurd (not (let both : Some j ≡ Some i = sym (u.holds held) ∙ here in cc))))
+      (λ _. none) (still_served y refl) (
         holder here none,
         reply,
         next,
-        quiet,
+        no_flight idle,
         step,
         own_more next None y (put_own (part_by log serving x) log e) e here refl refl part,
-      ) in (
-        after next None serving log' (set lanes i y) (Put (Some call)) steps
-            (λ _. inr (i, y, set_at lanes i y x at, whole))
-            (legal_more (starting_at 3) store next log e k.legal step)
-            (each_at (IsLane None serving log') lanes i y
-            (let b = o.base in let a = o.after in record {
-              number = o.number;
-              seen = omega arith;
-              base = omega arith;
-              after = omega arith;
-              holds = λ no. absurd (cc);
-              slot = slot_more serving log e i x.slot o.slot;
-            })
-            (λ j l not is. let u = k.each j l is in lane_more out None serving log e j l u
-            (λ held. absurd (not (let both : Some j ≡ Some i = sym (u.holds held) ∙ here in cc)))))
-            (λ _. none) (still_served y refl),
-        steps,
       )
 
   -- serve
@@ -318,58 +298,48 @@ module _ (store : State) (out : Option ℕ) (serving : Option Service) (log : Li
       let part : part_by log' serving y ≡ q =
       own_part seen x.holding e idle refl es
       ∙ (λ j. record q { holding = ap (λ (b : Bool). cond b (Some log') None) holds j }) in
-      let quiet : flight_by (take x.after log) (cell_by log serving x.slot) ≡ None =
-      ap (λ (s : Slot). flight_by (take x.after log) (cell_by log serving s)) idle in
       let turns : turn_by next out ≡ turn_by store out = ap (turn_by next) here ∙ sym (ap (turn_by store) here) in
-      let steps : StepsAs w i (part_by log serving x) (Serve call.0 call.1)
-      (world_of next out serving log' (set lanes i y)) = (
+      moved next out log' y (Serve call.0 call.1)
+      (λ no. absurd (let both : None ≡ Some i = sym no ∙ here in cc))
+      (legal_more (starting_at 3) store next log e k.legal step)
+      (let b = o.base in let a = o.after in lane_is o.number (omega arith) (omega arith) (omega arith) o.holds
+      (slot_more serving log e i x.slot o.slot))
+      (λ j l not is. let u = k.each j l is in lane_more out out serving log e j l u u.holds)
+      k.idle (still_served y refl) (
         holder here none,
         reply,
         next,
-        quiet,
+        no_flight idle,
         step,
         own_more next out y q e here refl refl part ∙ (λ j. record (reseated w i q) { turn = turns j }),
-      ) in (
-        after next out serving log' (set lanes i y) (Serve call.0 call.1) steps
-            (λ no. absurd (let both : None ≡ Some i = sym no ∙ here in cc))
-            (legal_more (starting_at 3) store next log e k.legal step)
-            (each_at (IsLane out serving log') lanes i y
-            (let b = o.base in let a = o.after in record {
-              number = o.number;
-              seen = omega arith;
-              base = omega arith;
-              after = omega arith;
-              holds = o.holds;
-              slot = slot_more serving log e i x.slot o.slot;
-            })
-            (λ j l not is. let u = k.each j l is in lane_more out out serving log e j l u u.holds))
-            k.idle (still_served y refl),
-        steps,
       )
 
-  -- the same, by what was appended
-  pub keeps_at : (seen : ℕ) (call : ℕ × Ask) (reply : Result Answer Errno) (next : State) (log' : List Event)
-      → out ≡ Some i → serving ≡ None → x.slot ≡ slots.Empty → Step store (event_of i call.0 call.1 reply) next
-      → log' ≡ log ++ event_of i call.0 call.1 reply ∷ [] → seen ≡ length log'
-      → Moved next out log' record x { seen = seen } (Serve call.0 call.1)
-  keeps_at seen call reply next log' here none idle step is es =
-      let e : Event = event_of i call.0 call.1 reply in
-      let size : seen ≡ length log + 1 = es ∙ (ap length is ∙ length-append log (e ∷ [])) in
-      subst (λ (l : List Event). Moved next out l record x { seen = seen } (Serve call.0 call.1)) (sym is)
-      (keeps seen call reply next here none idle step size)
+  -- a call that was served is one event more
+  one_more : (moment : ℕ) (ask : Ask) (next : State) (was log' : List Event) → was ≡ log
+      → (s : Serves store was i moment ask next log')
+      → (log' ≡ log ++ event_of i moment ask s.0 ∷ []) × (length log' ≡ length log + 1)
+  one_more moment ask next was log' same s =
+      let e : Event = event_of i moment ask s.0 in
+      let is : log' ≡ log ++ e ∷ [] = s.2 ∙ ap (λ (l : List Event). l ++ e ∷ []) same in
+      (is, ap length is ∙ length-append log (e ∷ []))
 
-  -- the same, by what was appended
-  pub puts_at : (seen : ℕ) (call : ℕ × Ask) (reply : Result Answer Errno) (next : State) (log' : List Event)
-      → out ≡ Some i → serving ≡ None → x.slot ≡ slots.Empty → Step store (event_of i call.0 call.1 reply) next
-      → log' ≡ log ++ event_of i call.0 call.1 reply ∷ [] → seen ≡ length log'
-      → Moved next None log'
-      record x { seen = seen; holding = false } (Put (Some call))
-  puts_at seen call reply next log' here none idle step is es =
-      let e : Event = event_of i call.0 call.1 reply in
-      let size : seen ≡ length log + 1 = es ∙ (ap length is ∙ length-append log (e ∷ [])) in
-      subst (λ (l : List Event). Moved next None l
-      record x { seen = seen; holding = false } (Put (Some call)))
-      (sym is) (puts seen call reply next here none idle step size)
+  -- the same, by what was served
+  pub keeps_at : (seen moment : ℕ) (ask : Ask) (next : State) (was log' : List Event) → out ≡ Some i
+      → serving ≡ None → x.slot ≡ slots.Empty → was ≡ log → Serves store was i moment ask next log'
+      → seen ≡ length log' → Moved next out log' record x { seen = seen } (Serve moment ask)
+  keeps_at seen moment ask next was log' here none idle same serves es =
+      let h = one_more moment ask next was log' same serves in
+      subst (λ (l : List Event). Moved next out l record x { seen = seen } (Serve moment ask)) (sym h.0)
+      (keeps seen (moment, ask) serves.0 next here none idle serves.1 (es ∙ h.1))
+
+  pub puts_at : (seen moment : ℕ) (ask : Ask) (next : State) (was log' : List Event) → out ≡ Some i
+      → serving ≡ None → x.slot ≡ slots.Empty → was ≡ log → Serves store was i moment ask next log'
+      → seen ≡ length log'
+      → Moved next None log' record x { seen = seen; holding = false } (Put (Some (moment, ask)))
+  puts_at seen moment ask next was log' here none idle same serves es =
+      let h = one_more moment ask next was log' same serves in
+      subst (λ (l : List Event). Moved next None l record x { seen = seen; holding = false } (Put (Some (moment, ask))))
+      (sym h.0) (puts seen (moment, ask) serves.0 next here none idle serves.1 (es ∙ h.1))
 
   -- after a load some lane has seen all calls, where one had before
   pub still : (n : ℕ) (y : Lane) → y.seen ≡ n → x.seen ≤ n → n ≤ length log → out ≡ None
@@ -388,7 +358,9 @@ module _ (store : State) (out : Option ℕ) (serving : Option Service) (log : Li
       → Moved store out log record x { seen = n } (Load n)
   loads n more within =
       let y : Lane = record x { seen = n } in
-      let steps : StepsAs w i (part_by log serving x) (Load n) (world_of store out serving log (set lanes i y)) = (
+      let o = k.each i x at in
+      stays y (Load n) (λ free. still n y refl more within free)
+      (lane_is o.number within o.base o.after o.holds o.slot) (still_served y refl) (
         log,
         take n log,
         kept_history store out serving log lanes k,
@@ -396,21 +368,6 @@ module _ (store : State) (out : Option ℕ) (serving : Option Service) (log : Li
         begins_take n log,
         length-take-le n log within,
         reseats store out out serving log lanes i x y (loaded (part_by log serving x) (take n log)) at refl refl,
-      ) in
-      let o = k.each i x at in (
-        after store out serving log (set lanes i y) (Load n) steps (λ free. still n y refl more within free) k.legal
-            (each_at (IsLane out serving log) lanes i y
-            record {
-              number = o.number;
-              seen = within;
-              base = o.base;
-              after = o.after;
-              holds = o.holds;
-              slot = o.slot;
-            }
-            (λ j l not e. k.each j l e))
-            k.idle (still_served y refl),
-        steps,
       )
 
   -- A step that isn't possible.

@@ -6,14 +6,15 @@ use lib.ListN.{get_elem?}
 use mathlib.Core.Option.{some, some-injective, some-ne-none}
 use Rattle.krs_types.specs.declared.{ask.Ask.Ask, errno.Errno.Errno, event.Event.Event}
 use Rattle.krs_model.specs.{History.event_of, Lists.Begins, State.{starting_at, State}}
-use Rattle.krs_world.specs.{History.Fits, Kept.{answered_cell, cell_by, IsKept, IsLane, IsSlotOf, known_by, lane_cell}}
+use Rattle.krs_world.specs.{History.Fits, Kept.{answered_cell, cell_by, IsKept, IsSlotOf, known_by, lane_cell}}
 use Rattle.krs_world.specs.{Kept.{part_by, world_of}, Knowing.{collected, events_of, one, posted}}
 use Rattle.krs_world.specs.{World.{cell_of, IsReady, IsUnanswered, StepsAs, World}, declared.lane.Lane.Lane}
 use Rattle.krs_world.specs.declared.{lane.Slot.Slot, step.Kind.{Kind, TheVariants.{Collect, CollectFound, Post}}}
 use Rattle.krs_world.specs.declared.view.{Cell.Cell, Part.Part, Service.Service}
-use Rattle.krs_world.proofs.KeptHistory.{begins_further, begins_short, begins_take, each_at, history_kept, kept_history}
+use Rattle.krs_world.proofs.KeptHistory.{begins_further, begins_short, begins_take, history_kept, kept_history}
 use Rattle.krs_world.proofs.{KeptHistory.recells, Lanes.{events_prefix, own_event, prefix_both, set_else}}
-use Rattle.krs_world.proofs.{Moves.{after, seat_is, still}, Slots.slot_answered, Worlds.{cell_at, get_map}}
+use Rattle.krs_world.proofs.{KeptLanes.lane_is, Moves.{seat_is, stays, still}, Slots.slot_answered}
+use Rattle.krs_world.proofs.Worlds.{cell_at, get_map}
 use Rattle.krs_types.specs.declared.ask.Answer as answer
 use Rattle.krs_world.specs.declared.lane.Slot.TheVariants as slots
 use Rattle.krs_world.specs.declared.view.Cell.TheVariants as cells
@@ -74,25 +75,12 @@ module _ (store : State) (out : Option ℕ) (serving : Option Service) (log : Li
       let calls : events_of x.lane log ≡ events_of x.lane (known_by log x.slot) =
       ap (λ (s : Slot). events_of x.lane (known_by log s)) (sym idle) in
       let part : part_by log serving y ≡ posted p m ask = λ j. record (posted p m ask) { mine = calls j } in
-      let steps : StepsAs w i p (Post m ask) (world_of store out serving log (set lanes i y)) = (
+      stays store out serving log lanes i x k at y (Post m ask)
+      (λ free. still store out serving log lanes i x k at x.seen y refl (omega arith) o.seen free)
+      (lane_is o.number o.seen o.base o.seen o.holds tt)
+      (served_else y (λ is. let no : slots.Empty ≡ slots.Serving = sym idle ∙ is in cc)) (
         cell_is slots.Empty idle,
         recells store out serving log lanes i y (posted p m ask) (cells.Posted m ask) part refl,
-      ) in (
-        after store out serving log lanes i x k at store out serving log (set lanes i y) (Post m ask) steps
-            (λ free. still store out serving log lanes i x k at x.seen y refl (omega arith) o.seen free) k.legal
-            (each_at (IsLane out serving log) lanes i y
-            record {
-              number = o.number;
-              seen = o.seen;
-              base = o.base;
-              after = o.seen;
-              holds = o.holds;
-              slot = tt;
-            }
-            (λ j l not e. k.each j l e))
-            k.idle
-            (served_else y (λ is. let no : slots.Empty ≡ slots.Serving = sym idle ∙ is in cc)),
-        steps,
       )
 
   -- the event of an answered call is the last of its lane
@@ -161,24 +149,11 @@ module _ (store : State) (out : Option ℕ) (serving : Option Service) (log : Li
         size = length-take-le n log within;
         has = collected_has place n e is t.1 t.2 lt ∙ (λ j. sym known j ++ same j ∷ []);
       } in
-      let steps : StepsAs w i p (Collect n) (world_of store out serving log (set lanes i y)) =
-      (ready, recells store out serving log lanes i y (collected p (take n log) own) cells.Empty part refl) in (
-        after store out serving log lanes i x k at store out serving log (set lanes i y) (Collect n) steps
-            (λ free. still store out serving log lanes i x k at n y refl more within free) k.legal
-            (each_at (IsLane out serving log) lanes i y
-            record {
-              number = o.number;
-              seen = within;
-              base = o.base;
-              after = o.after;
-              holds = o.holds;
-              slot = tt;
-            }
-            (λ j l not e. k.each j l e))
-            k.idle
-            (served_else y (λ no. let never : slots.Answered place ≡ slots.Serving = sym is ∙ no in cc)),
-        steps,
-      )
+      stays store out serving log lanes i x k at y (Collect n)
+      (λ free. still store out serving log lanes i x k at n y refl more within free)
+      (lane_is o.number within o.base o.after o.holds tt)
+      (served_else y (λ no. let never : slots.Answered place ≡ slots.Serving = sym is ∙ no in cc))
+      (ready, recells store out serving log lanes i y (collected p (take n log) own) cells.Empty part refl)
 
   -- collect, found otherwise
   pub finds : ((n : ℕ) → x.slot ≡ slots.Answered n → ⊥) → StepsAs w i p CollectFound w

@@ -12,7 +12,7 @@ use Rattle.krs_world.specs.declared.view.Cell.{Cell, TheVariants.{Answered, Empt
 use Rattle.krs_world.specs.declared.view.{Part.Part, Standing.TheVariants.One, View.View}
 use Rattle.krs_world.proofs.Keeping.{own, seats_stay, views_open}
 use Rattle.krs_world.proofs.Lanes.{celled_else, celled_here, each_set, empty_if_idle, held_set, idle_mine, others_stand}
-use Rattle.krs_world.proofs.{Lanes.{prefix_both, seen_set, shares}, Places.dealing_set}
+use Rattle.krs_world.proofs.{Lanes.{holds_is, known_is, prefix_both, seen_set, shares}, Places.dealing_set}
 
 -- an idle lane's seat writes its call into its empty cell; the history is as before
 pub posts : (a : State) (views : List View) (id : ℕ) (p : Part) → get_elem? views id ≡ some (one a p)
@@ -54,39 +54,13 @@ posts a views id p at turn home cell o m ask idle = let k = own a views id p at 
           (λ not. celled_else cell p.lane v.lane c not ∙ o.served v is);
       openings = views_open a views id p at turn home cell o (One q);
       each = each_set (λ j v. Stands s' j v.stands) views id (one a q)
-          record {
-            at = k.at;
-            given = k.given;
-            seen = k.seen;
-            base = k.base;
-            calls = k.calls;
-            fits = subst (Fits o.log q) (sym (celled_here cell p.lane c))
-                (p.seen, refl, idle_mine p o.log (cell p.lane) idle k.fits, refl, k.seen);
-            holding = λ l is. let h = k.holding l is in record {
-              out = h.out;
-              here = h.here;
-              whole = h.whole;
-              same_service = h.same_service;
-            };
-            unheld = k.unheld;
-          }
+          (known_is k.at k.given k.seen k.base k.calls (subst (Fits o.log q) (sym (celled_here cell p.lane c))
+          (p.seen, refl, idle_mine p o.log (cell p.lane) idle k.fits, refl, k.seen))
+          (λ l is. let h = k.holding l is in holds_is h.out h.here h.whole h.same_service) k.unheld)
           (λ j v not e. others_stand s s' j
-          (λ r h. record {
-            at = h.at;
-            given = h.given;
-            seen = h.seen;
-            base = h.base;
-            calls = h.calls;
-            fits = subst (Fits o.log r)
-                (sym (celled_else cell p.lane r.lane c (λ same. not (sym h.at ∙ (ap o.seat same ∙ k.at))))) h.fits;
-            holding = λ l is. let u = h.holding l is in record {
-              out = u.out;
-              here = u.here;
-              whole = u.whole;
-              same_service = u.same_service;
-            };
-            unheld = h.unheld;
-          })
+          (λ r h. known_is h.at h.given h.seen h.base h.calls (subst (Fits o.log r) (sym (celled_else cell p.lane
+          r.lane c (λ same. not (sym h.at ∙ (ap o.seat same ∙ k.at))))) h.fits)
+          (λ l is. let u = h.holding l is in holds_is u.out u.here u.whole u.same_service) h.unheld)
           (λ two here. (two, here, refl)) v.stands (o.each j v e));
     }
 
@@ -134,38 +108,12 @@ collects a views id p at turn home cell o m ask r l is_answered more begins has 
           (λ not. celled_else cell p.lane v.lane Empty not ∙ o.served v is);
       openings = views_open a views id p at turn home cell o (One q);
       each = each_set (λ j v. Stands s' j v.stands) views id (one a q)
-          record {
-            at = k.at;
-            given = k.given;
-            seen = begins;
-            base = k.base;
-            calls = has;
-            fits = subst (Fits o.log q) (sym (celled_here cell p.lane Empty)) (refl, fit.2, refl);
-            holding = λ x is. let h = k.holding x is in record {
-              out = h.out;
-              here = h.here;
-              whole = h.whole;
-              same_service = h.same_service;
-            };
-            unheld = k.unheld;
-          }
+          (known_is k.at k.given begins k.base has
+          (subst (Fits o.log q) (sym (celled_here cell p.lane Empty)) (refl, fit.2, refl))
+          (λ x is. let h = k.holding x is in holds_is h.out h.here h.whole h.same_service) k.unheld)
           (λ j v not at'. others_stand s s' j
-          (λ w h. record {
-            at = h.at;
-            given = h.given;
-            seen = h.seen;
-            base = h.base;
-            calls = h.calls;
-            fits = subst (Fits o.log w)
-                (sym (celled_else cell p.lane w.lane Empty
-                (λ same. not (sym h.at ∙ (ap o.seat same ∙ k.at))))) h.fits;
-            holding = λ x is. let u = h.holding x is in record {
-              out = u.out;
-              here = u.here;
-              whole = u.whole;
-              same_service = u.same_service;
-            };
-            unheld = h.unheld;
-          })
+          (λ w h. known_is h.at h.given h.seen h.base h.calls (subst (Fits o.log w) (sym (celled_else cell p.lane
+          w.lane Empty (λ same. not (sym h.at ∙ (ap o.seat same ∙ k.at))))) h.fits)
+          (λ x is. let u = h.holding x is in holds_is u.out u.here u.whole u.same_service) h.unheld)
           (λ two here. (two, here, refl)) v.stands (o.each j v at'));
     }

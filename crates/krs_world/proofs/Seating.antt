@@ -9,7 +9,7 @@ use Rattle.krs_world.specs.History.{Fits, OneHistory, Shared, Stands}
 use Rattle.krs_world.specs.{Knowing.{events_of, fresh, one, view}, declared.view.Cell.Cell}
 use Rattle.krs_world.specs.declared.view.{Cell.TheVariants.Empty, Standing.TheVariants.{Opening, Spent}, View.View}
 use Rattle.krs_world.proofs.Keeping.{each_set, held_set, held_snoc, others_stand, seen_set, seen_snoc, set_at, shares}
-use Rattle.krs_world.proofs.{Keeping.{snoc_at, snoc_end}, Places.dealing_set}
+use Rattle.krs_world.proofs.{Keeping.{holds_is, known_is, snoc_at, snoc_end}, Places.dealing_set}
 use Rattle.krs_world.proofs.Places.{dealing_snoc, seated_else, seated_here, seated_set, seated_snoc, seats_again}
 pub use Rattle.krs_world.proofs.Places.{seated}
 use Rattle.krs_world.proofs.Joining.{each_snoc}
@@ -58,34 +58,15 @@ deals a turn home cell views id n o at = let k = o.each id (view a (Opening n)) 
           (each_set (λ j v. (v.stands ≡ Spent) ⊎ (v.opening ≡ a)) views id w (inr refl) (λ j v _ e. o.openings j v e));
       each = each_snoc (λ j v. Stands s' j v.stands)
           (set views id w) N (one a (fresh n)) len
-          record {
-            at = seated_here o.seat n N;
-            given = omega arith;
-            seen = (o.log, refl);
-            base = (o.log, refl);
-            calls = ([], refl);
-            fits = subst (Fits o.log (fresh n)) (sym empty) (refl, ap (events_of n) quiet, refl);
-            holding = λ l e. absurd cc;
-            unheld = λ _. refl;
-          }
+          (known_is (seated_here o.seat n N) (omega arith) (o.log, refl) (o.log, refl) ([], refl)
+          (subst (Fits o.log (fresh n)) (sym empty) (refl, ap (events_of n) quiet, refl)) (λ l e. absurd cc)
+          (λ _. refl))
           (each_set (λ j v. Stands s' j v.stands) views id
           w (k.0, k.1, refl)
           (λ j v not e. others_stand s s' j
-          (λ q h. let g : q.lane < o.dealt = h.given in record {
-            at = seated_else o.seat n N q.lane (λ e. omega arith) ∙ h.at;
-            given = omega arith;
-            seen = h.seen;
-            base = h.base;
-            calls = h.calls;
-            fits = h.fits;
-            holding = λ l is. let t = h.holding l is in record {
-              out = t.out;
-              here = t.here;
-              whole = t.whole;
-              same_service = t.same_service;
-            };
-            unheld = h.unheld;
-          })
+          (λ q h. let g : q.lane < o.dealt = h.given in known_is
+          (seated_else o.seat n N q.lane (λ e. omega arith) ∙ h.at) (omega arith) h.seen h.base h.calls h.fits
+          (λ l is. let t = h.holding l is in holds_is t.out t.here t.whole t.same_service) h.unheld)
           (λ t is. absurd (not (is ∙ sym k.1))) v.stands (o.each j v e)));
     }
 
@@ -119,16 +100,8 @@ opens a turn home cell views id n o at = let k = o.each id (view a (Opening n)) 
           (λ j v _ e. o.openings j v e);
       each = each_set (λ j v. Stands s' j v.stands) views id (view a Spent) tt
           (λ j v not e. others_stand s s' j
-          (λ q h. record {
-            at = h.at;
-            given = h.given;
-            seen = h.seen;
-            base = h.base;
-            calls = h.calls;
-            fits = h.fits;
-            holding = λ l is. let t0 : turn ≡ 1 = (h.holding l is).out in absurd (omega arith);
-            unheld = h.unheld;
-          })
+          (λ q h. known_is h.at h.given h.seen h.base h.calls h.fits
+          (λ l is. let t0 : turn ≡ 1 = (h.holding l is).out in absurd (omega arith)) h.unheld)
           (λ t is. absurd (not (is ∙ sym k.1))) v.stands (o.each j v e));
     }
 

@@ -13,8 +13,9 @@ use Rattle.krs_world.specs.Knowing.{events_of, grabbed, looked_at, service}
 use Rattle.krs_world.specs.World.{is_answered, IsOneHistory, IsUnposted, recelled, reseated, StepsAs, World}
 use Rattle.krs_world.specs.declared.lane.{Lane.Lane, Slot.Slot}
 use Rattle.krs_world.specs.declared.{step.Kind.TheVariants.{Grab, LookAt}, view.{Part.Part, Service.Service}}
-use Rattle.krs_world.proofs.{KeptHistory.{cells_by, each_at, map_else, reseats, seats_by}, KeptLanes.held_true}
-use Rattle.krs_world.proofs.{Lanes.{at_set, set_at}, Moves.{after, holder, holding_is, still_served, unheld}}
+use Rattle.krs_world.proofs.KeptHistory.{cells_by, each_at, map_else, reseats, seats_by}
+use Rattle.krs_world.proofs.KeptLanes.{held_true, lane_is}
+use Rattle.krs_world.proofs.{Lanes.{at_set, set_at}, Moves.{after, holder, holding_is, stays, still_served, unheld}}
 use Rattle.krs_world.proofs.{Slots.slot_posted, Worlds.{get_map, of_map}}
 use Rattle.krs_world.specs.declared.lane.Slot.TheVariants as slots
 use Rattle.krs_world.specs.declared.view.Cell.TheVariants as cells
@@ -104,27 +105,15 @@ module _ (store : State) (out : Option ℕ) (serving : Option Service) (log : Li
       (slot_replies serving log other z.slot (k.each other z there).slot) in
       let part : part_by log serving y ≡ looked_at p other fin =
       λ j. record (looked_at p other fin) { checked = ev j; done = finished j } in
-      let steps : StepsAs w i p (LookAt other) (world_of store out serving log (set lanes i y)) = (
+      stays store out serving log lanes i x k at y (LookAt other)
+      (λ no. absurd (let both : None ≡ Some i = sym no ∙ here in cc))
+      (lane_is o.number o.seen o.base o.after o.holds o.slot) (still_served store out serving log lanes i x k at y
+      refl) (
         lane_cell log serving z,
         ap (turn_by store) here,
         get_map (lane_cell log serving) lanes other z there,
         unposted serving log z.slot not,
         reseats store out out serving log lanes i x y (looked_at p other fin) at refl part,
-      ) in (
-        after store out serving log lanes i x k at store out serving log (set lanes i y) (LookAt other) steps
-            (λ no. absurd (let both : None ≡ Some i = sym no ∙ here in cc)) k.legal
-            (each_at (IsLane out serving log) lanes i y
-            record {
-              number = o.number;
-              seen = o.seen;
-              base = o.base;
-              after = o.after;
-              holds = o.holds;
-              slot = o.slot;
-            }
-            (λ j l apart e. k.each j l e))
-            k.idle (still_served store out serving log lanes i x k at y refl),
-        steps,
       )
 
   -- the same lane in two lists that differ at one place
@@ -231,22 +220,10 @@ module _ (store : State) (out : Option ℕ) (serving : Option Service) (log : Li
         after store out serving log lanes i x k at store out serves log lanes' (Grab other) steps
             (λ no. absurd (let both : None ≡ Some i = sym no ∙ here in cc)) k.legal
             (each_at (IsLane out serves log) lanes other y
-            record {
-              number = o.number;
-              seen = o.seen;
-              base = o.base;
-              after = o.after;
-              holds = o.holds;
-              slot = (call, refl, refl);
-            }
-            (λ j l apart e. let u = k.each j l e in record {
-              number = u.number;
-              seen = u.seen;
-              base = u.base;
-              after = u.after;
-              holds = u.holds;
-              slot = slot_apart serving serves log j l.slot (not_served j l e) u.slot;
-            }))
+            (lane_is o.number o.seen o.base o.after o.holds (call, refl, refl))
+            (λ j l apart e. let u = k.each j l e in
+            lane_is u.number u.seen u.base u.after u.holds (slot_apart serving serves log j l.slot (not_served j l e)
+            u.slot)))
             (λ no. absurd (let both : None ≡ Some i = sym no ∙ here in cc))
             (λ s e. let same : call ≡ s = cc in
             subst (λ (v : Service). (l : Lane) × (get_elem? lanes' v.lane ≡ some l) × (l.slot ≡ slots.Serving)) same
@@ -301,15 +278,7 @@ module _ (store : State) (out : Option ℕ) (serving : Option Service) (log : Li
           one = b.0;
           whole = b.1;
           legal = k.legal;
-          each = each_at (IsLane out serving log) lanes i y
-              record {
-                number = o.number;
-                seen = o.seen;
-                base = o.base;
-                after = o.after;
-                holds = o.holds;
-                slot = o.slot;
-              }
+          each = each_at (IsLane out serving log) lanes i y (lane_is o.number o.seen o.base o.after o.holds o.slot)
               (λ j l apart e. k.each j l e);
           idle = k.idle;
           served = still_served store out serving log lanes i x k at y refl;

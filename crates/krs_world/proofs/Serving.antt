@@ -14,7 +14,7 @@ use Rattle.krs_world.specs.declared.view.Cell.{Cell, TheVariants.{Answered, Empt
 use Rattle.krs_world.specs.declared.view.{Part.Part, Service.Service, Standing.TheVariants.One, View.View}
 use Rattle.krs_world.proofs.Keeping.{own, seats_stay, stays, views_open}
 use Rattle.krs_world.proofs.Lanes.{celled_else, celled_here, each_set, fits_more, fits_same, held_set, other_event}
-use Rattle.krs_world.proofs.Lanes.{others_stand, own_event, prefix_more, set_at, shares}
+use Rattle.krs_world.proofs.Lanes.{holds_is, known_is, others_stand, own_event, prefix_more, set_at, shares}
 
 module _ (a : State) (views : List View) (id : ℕ) (p : Part) (at : get_elem? views id ≡ some (one a p)) where
   -- the holder takes up a posted call
@@ -62,32 +62,13 @@ module _ (a : State) (views : List View) (id : ℕ) (p : Part) (at : get_elem? v
             subst (λ (z : Service). c' z.lane ≡ Serving z.moment z.ask) same (celled_here cell lane c);
         openings = views_open a views id p at turn home cell o (One q);
         each = each_set (λ j v. Stands s' j v.stands) views id (one a q)
-            record {
-              at = k.at;
-              given = k.given;
-              seen = k.seen;
-              base = k.base;
-              calls = k.calls;
-              fits = fits_same o.log p q refl refl refl refl (c' p.lane) (go p k.fits);
-              holding = λ l is. let u = k.holding l is in record {
-                out = u.out;
-                here = u.here;
-                whole = u.whole;
-                same_service = refl;
-              };
-              unheld = λ no. absurd (let never : Some log ≡ None = sym held ∙ no in cc);
-            }
+            (known_is k.at k.given k.seen k.base k.calls
+            (fits_same o.log p q refl refl refl refl (c' p.lane) (go p k.fits))
+            (λ l is. let u = k.holding l is in holds_is u.out u.here u.whole refl)
+            (λ no. absurd (let never : Some log ≡ None = sym held ∙ no in cc)))
             (λ j v not e. others_stand s s' j
-            (λ r h. record {
-              at = h.at;
-              given = h.given;
-              seen = h.seen;
-              base = h.base;
-              calls = h.calls;
-              fits = go r h.fits;
-              holding = λ l is. let u = h.holding l is in absurd (not (u.here ∙ sym t.here));
-              unheld = h.unheld;
-            })
+            (λ r h. known_is h.at h.given h.seen h.base h.calls (go r h.fits)
+            (λ l is. let u = h.holding l is in absurd (not (u.here ∙ sym t.here))) h.unheld)
             (λ two here. (two, here, refl)) v.stands (o.each j v e));
       }
 
@@ -146,7 +127,8 @@ module _ (a : State) (views : List View) (id : ℕ) (p : Part) (at : get_elem? v
         unserved = λ _. refl;
         seated = seats_stay a views id p at turn home cell o q refl;
         undealt = λ l le. let u = o.undealt l le in
-            let apart : l ≢ lane = λ same. absurd (let no : Serving m ask ≡ Empty = sym was ∙ (ap cell (sym same) ∙ u.0) in
+            let apart : l ≢ lane = λ same. absurd (let no : Serving m ask ≡ Empty = sym was ∙
+            (ap cell (sym same) ∙ u.0) in
             cc) in (
               celled_else cell lane l c apart ∙ u.0,
               other_event l log e (λ is. apart (sym is)) ∙ (ap (events_of l) all ∙ u.1),
@@ -159,38 +141,21 @@ module _ (a : State) (views : List View) (id : ℕ) (p : Part) (at : get_elem? v
         served = λ x is. absurd cc;
         openings = views_open a views id p at turn home cell o (One q);
         each = each_set (λ j v. Stands s' j v.stands) views id (one a q)
-            record {
-              at = k.at;
-              given = k.given;
-              seen = subst (λ l. Begins p.seen (l ++ e ∷ [])) (sym all) (prefix_more p.seen o.log (e ∷ []) k.seen);
-              base = subst (λ l. Begins p.base (l ++ e ∷ [])) (sym all) (prefix_more p.base o.log (e ∷ []) k.base);
-              calls = k.calls;
-              fits = dite (ℕ_discrete p.lane lane)
-                  (λ same. let f : Fits (log ++ e ∷ []) p (Answered m ask r) = subst (Fits (log ++ e ∷ []) p)
-                  (ap c' same ∙ celled_here cell lane c) (go p k.fits) in
-                  subst (Fits (log ++ e ∷ []) q) (sym (ap c' same ∙ celled_here cell lane c)) (f.0, f.1, f.2, f.3))
-                  (λ not. fits_same (log ++ e ∷ []) p q refl refl refl
-                  (ap (λ b. cond b true p.done) (ne_eqb lane p.lane (λ same. not (sym same)))) (c' p.lane)
-                  (go p k.fits));
-              holding = λ l is. record {
-                out = out;
-                here = t.here;
-                whole = cc;
-                same_service = refl;
-              };
-              unheld = λ _. refl;
-            }
+            (known_is k.at k.given
+            (subst (λ l. Begins p.seen (l ++ e ∷ [])) (sym all) (prefix_more p.seen o.log (e ∷ []) k.seen))
+            (subst (λ l. Begins p.base (l ++ e ∷ [])) (sym all) (prefix_more p.base o.log (e ∷ []) k.base)) k.calls
+            (dite (ℕ_discrete p.lane lane)
+            (λ same. let f : Fits (log ++ e ∷ []) p (Answered m ask r) =
+            subst (Fits (log ++ e ∷ []) p) (ap c' same ∙ celled_here cell lane c) (go p k.fits) in
+            subst (Fits (log ++ e ∷ []) q) (sym (ap c' same ∙ celled_here cell lane c)) (f.0, f.1, f.2, f.3))
+            (λ not. fits_same (log ++ e ∷ []) p q refl refl refl
+            (ap (λ b. cond b true p.done) (ne_eqb lane p.lane (λ same. not (sym same)))) (c' p.lane) (go p k.fits)))
+            (λ l is. record { out = out; here = t.here; whole = cc; same_service = refl }) (λ _. refl))
             (λ j v not at'. others_stand s s' j
-            (λ x h. record {
-              at = h.at;
-              given = h.given;
-              seen = subst (λ l. Begins x.seen (l ++ e ∷ [])) (sym all) (prefix_more x.seen o.log (e ∷ []) h.seen);
-              base = subst (λ l. Begins x.base (l ++ e ∷ [])) (sym all) (prefix_more x.base o.log (e ∷ []) h.base);
-              calls = h.calls;
-              fits = go x h.fits;
-              holding = λ l is. let u = h.holding l is in absurd (not (u.here ∙ sym t.here));
-              unheld = h.unheld;
-            })
+            (λ x h. known_is h.at h.given
+            (subst (λ l. Begins x.seen (l ++ e ∷ [])) (sym all) (prefix_more x.seen o.log (e ∷ []) h.seen))
+            (subst (λ l. Begins x.base (l ++ e ∷ [])) (sym all) (prefix_more x.base o.log (e ∷ []) h.base))
+            h.calls (go x h.fits) (λ l is. let u = h.holding l is in absurd (not (u.here ∙ sym t.here))) h.unheld)
             (λ two _. absurd (let no : 1 ≡ 2 = sym out ∙ two in omega arith)) v.stands (o.each j v at'));
       }
 
@@ -207,21 +172,9 @@ module _ (a : State) (views : List View) (id : ℕ) (p : Part) (at : get_elem? v
       → (finished ≡ true → (m : ℕ) × (ask : Ask) × (r : Result Answer Errno) × (cell p.lane ≡ Answered m ask r))
       → OneHistory a turn home cell (set views id (one a (looked_at p lane finished)))
   looks_at turn home cell lane finished o is = let k = own a views id p at turn home cell o in
-      stays a views id p at turn home cell o (looked_at p lane finished) refl refl (λ e. e) record {
-        at = k.at;
-        given = k.given;
-        seen = k.seen;
-        base = k.base;
-        calls = k.calls;
-        fits = looked_fits o.log lane (cell p.lane) finished is k.fits;
-        holding = λ l is. let h = k.holding l is in record {
-          out = h.out;
-          here = h.here;
-          whole = h.whole;
-          same_service = h.same_service;
-        };
-        unheld = k.unheld;
-      }
+      stays a views id p at turn home cell o (looked_at p lane finished) refl refl (λ e. e) (known_is k.at k.given
+      k.seen k.base k.calls (looked_fits o.log lane (cell p.lane) finished is k.fits)
+      (λ l is. let h = k.holding l is in holds_is h.out h.here h.whole h.same_service) k.unheld)
 
   -- the holder's own call, if it has one, is posted or answered
   pub own_cell : (turn : ℕ) (home : Option State) (cell : ℕ → Cell) (log : List Event)

@@ -1,15 +1,13 @@
-use Rattle.std.proofs.Common.{◌<◌, ◌∙◌, ◌≡◌, ap, length, List, refl, subst, sym, ℕ}
-use lib.ListN.{get_elem?}
-use mathlib.Core.Option.{some, some-injective}
+use Rattle.std.proofs.Common.{◌<◌, false, List, refl, set, subst, sym, ℕ}
 use Rattle.krs_world.specs.{Kept.IsIdle, declared.{lane.Lane.Lane, step.Kind.TheVariants.Post}}
-use Rattle.krs_world.proofs.{Answering.{lane_here, moves, posts_not}, KeptHistory.in_bounds, PostedMoves.posts}
+use Rattle.krs_world.proofs.{Answering.{Comes, idle_here, moves, posts_not}, KeptHistory.in_bounds, PostedMoves.posts}
 use Rattle.krs_world.proofs.world.World.post.Goals as goal
 use Rattle.krs_world.specs.declared.lane.Slot.TheVariants as slots
 
 pub returns-then-not-is_idle : goal.returns-then-not-is_idle
 returns-then-not-is_idle c = let w = c.self.inside in
-    posts_not c.args.self.now w.store w.out w.serving w.log.items w.lanes.items c.args.lane c.args.moment c.args.ask
-    c.self.invariant c.self.view_is
+    posts_not c.args.self.now w.store w.out w.serving w.log.items w.lanes.items c.args.lane c.self.view_is
+    c.self.invariant c.args.moment c.args.ask
     (subst (λ (l : List Lane). IsIdle l c.args.lane → ⊥) c.deref.ensures.value (c.if-not-is_idle.ensures.not refl))
 
 pub index_mut-seat-requires : goal.index_mut-seat-requires
@@ -18,26 +16,26 @@ index_mut-seat-requires c = let w = c.self.inside in
     subst (λ (l : List Lane). IsIdle l c.args.lane) c.deref.ensures.value (c.if-not-is_idle.ensures.idle refl) in
     subst (λ (n : ℕ). c.args.lane < n) (sym w.lanes.ok.0) (in_bounds w.lanes.items c.args.lane free.0 free.1)
 
+-- the call is in the cell
+made : (c : goal.Joined-seat) → Comes c.args.self.now c.args.lane (Post c.args.moment c.args.ask) c.self.inside.store
+    c.self.inside.out c.self.inside.serving c.self.inside.log.items (set c.self.inside.lanes.items c.args.lane
+    (record c.index_mut-seat.result.now {
+      after = c.index_mut-seat.result.now.seen;
+      slot = slots.Posted c.args.moment c.args.ask;
+      done = false;
+    }))
+made c = let w = c.self.inside in let x = c.index_mut-seat.result.now in
+    let here = idle_here w.lanes.items c.args.lane x
+    (subst (λ (l : List Lane). IsIdle l c.args.lane) c.deref.ensures.value (c.if-not-is_idle.ensures.idle refl))
+    c.index_mut-seat.ensures.value in
+    moves c.args.self.now w.store w.out w.serving w.log.items w.lanes.items c.args.lane c.self.view_is x here.0
+    (Post c.args.moment c.args.ask)
+    (posts w.store w.out w.serving w.log.items w.lanes.items c.args.lane x c.self.invariant here.0 c.args.moment
+    c.args.ask
+    here.1)
+
 pub invariant_of-self : goal.invariant_of-self
-invariant_of-self c = let w = c.self.inside in let x = c.index_mut-seat.result.now in
-    let free : IsIdle w.lanes.items c.args.lane =
-    subst (λ (l : List Lane). IsIdle l c.args.lane) c.deref.ensures.value (c.if-not-is_idle.ensures.idle refl) in
-    let within : c.args.lane < length w.lanes.items = in_bounds w.lanes.items c.args.lane free.0 free.1 in
-    let at : get_elem? w.lanes.items c.args.lane ≡ some x =
-    lane_here w.lanes.items c.args.lane x within c.index_mut-seat.ensures.value in
-    let idle : x.slot ≡ slots.Empty =
-    ap (λ (z : Lane). z.slot) (some-injective x free.0 (sym at ∙ free.1)) ∙ free.2 in
-    (posts w.store w.out w.serving w.log.items w.lanes.items c.args.lane x c.self.invariant at c.args.moment c.args.ask idle).0
+invariant_of-self c = (made c).0
 
 pub returns : goal.returns
-returns c = let w = c.self.inside in let x = c.index_mut-seat.result.now in
-    let free : IsIdle w.lanes.items c.args.lane =
-    subst (λ (l : List Lane). IsIdle l c.args.lane) c.deref.ensures.value (c.if-not-is_idle.ensures.idle refl) in
-    let within : c.args.lane < length w.lanes.items = in_bounds w.lanes.items c.args.lane free.0 free.1 in
-    let at : get_elem? w.lanes.items c.args.lane ≡ some x =
-    lane_here w.lanes.items c.args.lane x within c.index_mut-seat.ensures.value in
-    let idle : x.slot ≡ slots.Empty =
-    ap (λ (z : Lane). z.slot) (some-injective x free.0 (sym at ∙ free.1)) ∙ free.2 in
-    moves c.args.self.now _ w.store w.out w.serving w.log.items w.lanes.items c.args.lane x
-    (Post c.args.moment c.args.ask) c.self.view_is at
-    (posts w.store w.out w.serving w.log.items w.lanes.items c.args.lane x c.self.invariant at c.args.moment c.args.ask idle).1
+returns c = (made c).1

@@ -1,38 +1,35 @@
-use Rattle.std.proofs.Common.{◌<◌, ◌∙◌, ◌≡◌, ap, length, None, Some, subst, sym, ℕ}
-use lib.ListN.{get_elem?}
-use mathlib.Core.Option.{some}
+use Rattle.std.proofs.Common.{◌<◌, ◌∙◌, ◌≡◌, ap, false, None, set, Some, subst, sym, ℕ}
 use Rattle.krs_world.specs.declared.step.Kind.TheVariants.{Put}
-use Rattle.krs_world.proofs.{Answering.{busy, lane_here, moves}, KeptHistory.out_within, Moves.puts_none}
+use Rattle.krs_world.proofs.{Answering.{busy, Comes, moves, out_here}, KeptHistory.out_within, Moves.puts_none}
 use Rattle.krs_world.proofs.world.World.put_none.Goals as goal
 
 pub returns-in_default-serving : goal.returns-in_default-serving
 returns-in_default-serving c = let w = c.self.inside in
-    busy c.args.self.now w.store w.out w.serving w.log.items w.lanes.items c.args.lane (Put None) c.self.invariant c.self.view_is c.in_default-serving.not-None (λ p other steps. steps.0)
+    busy c.args.self.now w.store w.out w.serving w.log.items w.lanes.items c.args.lane c.self.view_is c.self.invariant
+    (Put None) c.in_default-serving.not-None (λ p other steps. steps.0)
 
 pub index_mut-seat-requires : goal.index_mut-seat-requires
 index_mut-seat-requires c = let w = c.self.inside in
+    subst (λ (n : ℕ). c.args.lane < n) (sym w.lanes.ok.0)
+    (out_within w.store w.out w.serving w.log.items w.lanes.items c.args.lane c.self.invariant
+    (c.in-Some.is ∙ ap (λ (n : ℕ). Some n) c.if-holder-lane.false))
+
+-- the store is brought home
+made : (c : goal.After-self-2-1) → Comes c.args.self.now c.args.lane (Put None) c.self.inside.store None
+    c.self.inside.serving
+    c.self.inside.log.items (set c.self.inside.lanes.items c.args.lane
+    (record c.index_mut-seat.result.now { seen = c.len-seat.result; holding = false }))
+made c = let w = c.self.inside in let x = c.index_mut-seat.result.now in
     let here : w.out ≡ Some c.args.lane = c.in-Some.is ∙ ap (λ (n : ℕ). Some n) c.if-holder-lane.false in
-    let within : c.args.lane < length w.lanes.items =
-    out_within w.store w.out w.serving w.log.items w.lanes.items c.args.lane c.self.invariant here in
-    subst (λ (n : ℕ). c.args.lane < n) (sym w.lanes.ok.0) within
+    let at = out_here w.store w.out w.serving w.log.items w.lanes.items c.args.lane x c.self.invariant here
+    c.index_mut-seat.ensures.value in
+    moves c.args.self.now w.store w.out w.serving w.log.items w.lanes.items c.args.lane c.self.view_is x at (Put None)
+    (puts_none w.store w.out w.serving w.log.items w.lanes.items c.args.lane x c.self.invariant at c.len-seat.result
+    here
+    c.in-None.is (c.len-seat.ensures ∙ w.log.ok.0))
 
 pub invariant_of-self : goal.invariant_of-self
-invariant_of-self c = let w = c.self.inside in let x = c.index_mut-seat.result.now in
-    let here : w.out ≡ Some c.args.lane = c.in-Some.is ∙ ap (λ (n : ℕ). Some n) c.if-holder-lane.false in
-    let within : c.args.lane < length w.lanes.items =
-    out_within w.store w.out w.serving w.log.items w.lanes.items c.args.lane c.self.invariant here in
-    let at : get_elem? w.lanes.items c.args.lane ≡ some x =
-    lane_here w.lanes.items c.args.lane x within c.index_mut-seat.ensures.value in
-    let size : c.len-seat.result ≡ length w.log.items = c.len-seat.ensures ∙ w.log.ok.0 in
-    (puts_none w.store w.out w.serving w.log.items w.lanes.items c.args.lane x c.self.invariant at c.len-seat.result here c.in-None.is size).0
+invariant_of-self c = (made c).0
 
 pub returns : goal.returns
-returns c = let w = c.self.inside in let x = c.index_mut-seat.result.now in
-    let here : w.out ≡ Some c.args.lane = c.in-Some.is ∙ ap (λ (n : ℕ). Some n) c.if-holder-lane.false in
-    let within : c.args.lane < length w.lanes.items =
-    out_within w.store w.out w.serving w.log.items w.lanes.items c.args.lane c.self.invariant here in
-    let at : get_elem? w.lanes.items c.args.lane ≡ some x =
-    lane_here w.lanes.items c.args.lane x within c.index_mut-seat.ensures.value in
-    let size : c.len-seat.result ≡ length w.log.items = c.len-seat.ensures ∙ w.log.ok.0 in
-    moves c.args.self.now _ w.store w.out w.serving w.log.items w.lanes.items c.args.lane x (Put None) c.self.view_is at
-    (puts_none w.store w.out w.serving w.log.items w.lanes.items c.args.lane x c.self.invariant at c.len-seat.result here c.in-None.is size).1
+returns c = (made c).1

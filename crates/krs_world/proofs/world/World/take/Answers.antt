@@ -1,51 +1,41 @@
-use Rattle.std.proofs.Common.{◌+◌, ◌<◌, ◌∙◌, ◌≡◌, ◌≤◌, ap, length, List, refl, subst}
-use borrow.Author.Tests.{true-ltb}
-use lib.ListN.{get_elem?}
-use mathlib.Core.Option.{some}
-use Rattle.krs_world.specs.declared.{lane.Lane.Lane, step.Kind.TheVariants.Take}
-use Rattle.krs_world.proofs.{Answering.{greatest, lane_at, lanes_same, moves, take_full, unseated}, Moves.takes}
+use Rattle.std.proofs.Common.{◌+◌, ◌∙◌, ap, refl, set, Some, true}
+use Rattle.krs_types.specs.declared.errno.Errno.TheVariants.{ENOSPC}
+use Rattle.krs_world.specs.{Kept.turn_by, declared.{lane.Lane.Lane, step.Kind.TheVariants.Take}}
+use Rattle.krs_world.proofs.Answering.{Comes, greatest, lane_at, lanes_same, moves, none_there, refuses}
+use Rattle.krs_world.proofs.Moves.{takes}
 use Rattle.krs_world.proofs.world.World.take.Goals as goal
 
 pub returns-in_default-get-clause-moved : goal.returns-in_default-get-clause-moved
 returns-in_default-get-clause-moved c = let w = c.self.inside in
-    let beyond : length w.lanes.items ≤ c.args.lane =
-    subst (λ (z : List Lane). length z ≤ c.args.lane) c.deref.ensures.value c.in_default-get.ensures.lookup.3 in (
-      refl,
-      λ p other at steps. unseated c.args.self.now w.store w.out w.serving w.log.items w.lanes.items c.args.lane p
-          c.self.view_is at beyond,
-    )
+    none_there c.args.self.now w.store w.out w.serving w.log.items w.lanes.items c.args.lane c.self.view_is
+    c.deref.result.now Take c.deref.ensures.value c.in_default-get.ensures.lookup.3
 
 pub returns-in_default-checked_add-clause-refused : goal.returns-in_default-checked_add-clause-refused
 returns-in_default-checked_add-clause-refused c = let w = c.self.inside in let x = c.in-Some.seat.now in
-    let within : c.args.lane < length c.deref.result.now = true-ltb _ _ c.in-Some.ensures.lookup.0 in
-    let at : get_elem? w.lanes.items c.args.lane ≡ some x =
-    lane_at w.lanes.items c.deref.result.now c.args.lane x c.deref.ensures.value within c.in-Some.ensures.lookup.1 in
-    let full : 18446744073709551615 ≤ x.taken = greatest x.taken c.in_default-checked_add.ensures in
-    take_full c.args.self.now w.store w.out w.serving w.log.items w.lanes.items c.args.lane x at c.self.view_is c.in-None.is full
+    refuses c.args.self.now w.store w.out w.serving w.log.items w.lanes.items c.args.lane c.self.view_is x
+    (lane_at w.lanes.items c.deref.result.now c.args.lane x c.deref.ensures.value c.in-Some.ensures.lookup.0
+    c.in-Some.ensures.lookup.1) Take ENOSPC
+    (refl, greatest x.taken c.in_default-checked_add.ensures, (w.store, ap (turn_by w.store) c.in-None.is))
+
+-- the seat has the turn
+made : (c : goal.After-self-2-1) → Comes c.args.self.now c.args.lane Take c.self.inside.store (Some c.args.lane)
+    c.self.inside.serving c.self.inside.log.items (set c.self.inside.lanes.items c.args.lane
+    (record c.index_mut-seat.result.now {
+      base = c.len-seat.result;
+      holding = true;
+      taken = c.in-Some-checked_add.taken;
+      checked = c.clear.new.self;
+    }))
+made c = let w = c.self.inside in let x = c.index_mut-seat.result.now in
+    let t = lanes_same w.lanes.items c.deref.result.now c.args.lane c.in-Some.seat.now x c.deref.ensures.value
+    c.in-Some.ensures.lookup.0 c.in-Some.ensures.lookup.1 c.index_mut-seat.ensures.value in
+    moves c.args.self.now w.store w.out w.serving w.log.items w.lanes.items c.args.lane c.self.view_is x t.0 Take
+    (takes w.store w.out w.serving w.log.items w.lanes.items c.args.lane x c.self.invariant t.0 c.len-seat.result
+    c.in-Some-checked_add.taken c.clear.new.self c.in-None.is (c.len-seat.ensures ∙ w.log.ok.0)
+    (c.in-Some-checked_add.ensures.1 ∙ ap (λ (z : Lane). z.taken + 1) t.1) c.clear.ensures.items)
 
 pub invariant_of-self : goal.invariant_of-self
-invariant_of-self c = let w = c.self.inside in let x = c.index_mut-seat.result.now in
-    let within : c.args.lane < length c.deref.result.now = true-ltb _ _ c.in-Some.ensures.lookup.0 in
-    let t = lanes_same w.lanes.items c.deref.result.now c.args.lane c.in-Some.seat.now x c.deref.ensures.value within
-    c.in-Some.ensures.lookup.1 c.index_mut-seat.ensures.value in
-    let at : get_elem? w.lanes.items c.args.lane ≡ some x = t.0 in
-    let size : c.len-seat.result ≡ length w.log.items = c.len-seat.ensures ∙ w.log.ok.0 in
-    let same : c.in-Some.seat.now ≡ x = t.1 in
-    let old : c.in-Some-checked_add.taken ≡ c.in-Some.seat.now.taken + 1 = c.in-Some-checked_add.ensures.1 in
-    let more : c.in-Some-checked_add.taken ≡ x.taken + 1 = old ∙ ap (λ (z : Lane). z.taken + 1) same in
-    (takes w.store w.out w.serving w.log.items w.lanes.items c.args.lane x c.self.invariant at c.len-seat.result c.in-Some-checked_add.taken c.clear.new.self
-    c.in-None.is size more c.clear.ensures.items).0
+invariant_of-self c = (made c).0
 
 pub returns-clause-moved : goal.returns-clause-moved
-returns-clause-moved c = let w = c.self.inside in let x = c.index_mut-seat.result.now in
-    let within : c.args.lane < length c.deref.result.now = true-ltb _ _ c.in-Some.ensures.lookup.0 in
-    let t = lanes_same w.lanes.items c.deref.result.now c.args.lane c.in-Some.seat.now x c.deref.ensures.value within
-    c.in-Some.ensures.lookup.1 c.index_mut-seat.ensures.value in
-    let at : get_elem? w.lanes.items c.args.lane ≡ some x = t.0 in
-    let size : c.len-seat.result ≡ length w.log.items = c.len-seat.ensures ∙ w.log.ok.0 in
-    let same : c.in-Some.seat.now ≡ x = t.1 in
-    let old : c.in-Some-checked_add.taken ≡ c.in-Some.seat.now.taken + 1 = c.in-Some-checked_add.ensures.1 in
-    let more : c.in-Some-checked_add.taken ≡ x.taken + 1 = old ∙ ap (λ (z : Lane). z.taken + 1) same in
-    moves c.args.self.now _ w.store w.out w.serving w.log.items w.lanes.items c.args.lane x Take c.self.view_is at
-    (takes w.store w.out w.serving w.log.items w.lanes.items c.args.lane x c.self.invariant at c.len-seat.result c.in-Some-checked_add.taken c.clear.new.self
-    c.in-None.is size more c.clear.ensures.items).1
+returns-clause-moved c = (made c).1
