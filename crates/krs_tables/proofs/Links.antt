@@ -1,8 +1,8 @@
 -- What one link more, or one less, comes to in the definitions.
-use Rattle.std.proofs.Common.{[], ◌&&◌, ◌*◌, ◌==◌, ◌||◌, ◌∙◌, ◌∷◌, ◌≡◌, ap, Bool, cond, Err, false, length, List}
+use Rattle.std.proofs.Common.{[], ◌&&◌, ◌*◌, ◌==◌, ◌||◌, ◌∙◌, ◌∷◌, ◌≡◌, ap, cond, Err, false, length, List}
 use Rattle.std.proofs.Common.{nat_le, None, Ok, Option, option_map, refl, Some, subst, suc, sym, true, ℕ}
 use Rattle.std.proofs.lemmas.Option.{none-some, same_Some}
-use Rattle.krs_types.specs.{Kind.same_kind, declared.errno.Errno.TheVariants.{ENFILE, ENOMEM}}
+use Rattle.krs_types.specs.{Kind.same_kind, declared.errno.Errno.TheVariants.ENFILE}
 use Rattle.krs_types.specs.declared.{kind.Kind.{Kind, TheVariants.Keyring}, name.Name.Name}
 use Rattle.krs_model.specs.Asks.{Adding.IsKeyringAt, Linked.name_of, Reading.serial_bytes}
 use Rattle.krs_model.specs.{Levels.is_in, Linking.{has_room, link_named, linking}, Reach.{is_ring, links_of_key_at}}
@@ -128,11 +128,6 @@ is_keyring s ring kinds keyring =
     subst (λ (o : Option model.Key). is_ring o ≡ true) (sym (at_map seen es ring))
     (keyring_of (at es ring) keyring.0 keyring.2 (λ key there. kinds ring key there)
     (sym (at_map seen es ring) ∙ keyring.1) keyring.3)
-
--- ENOMEM is another error
-pub refused_full : (b : Bool) → ENFILE ≡ cond b ENFILE ENOMEM → b ≡ true
-refused_full true h = refl
-refused_full false h = absurd cc
 
 -- four bytes each
 pub length-serial_bytes : (xs : List ℕ) → length (serial_bytes xs) ≡ 4 * length xs
