@@ -4,7 +4,7 @@ use Rattle.std.proofs.Common.{None, not, Option, option_map, refl, remove, slice
 use Rattle.std.proofs.{Common.{true≢false, zero, ℕ}, lemmas.Option.{none-some, same_Some}}
 use Rattle.krs_types.specs.{Name.same_name, declared.name.Name.Name}
 use Rattle.krs_types.proofs.Names.{equal_names, other_way, same_name_equiv}
-use Rattle.krs_model.specs.{Levels.is_in, Table.{alter, at, put, Table}}
+use Rattle.krs_model.specs.Table.{alter, at, put, Table}
 use Rattle.krs_model.proofs.{Reach.Levels.{or_true, same_is}, Tables.Changes.at_alter_other}
 use Rattle.krs_model.proofs.Tables.Changes.{at_alter_same, at_kept, at_or_apart, at_put_other, at_put_same}
 use Rattle.krs_links.specs.Links.{has_link, link_put, LinkList, serial_named, serials, unlinked_key}
@@ -162,18 +162,6 @@ none_named names (Some key) h = h key refl
 -- links have the names of their keys
 pub ring_named : (es : Table Key) (ring : ℕ) → AreFit es → AreNamed (name_at es) (named_links_of_key_at es ring)
 ring_named es ring fit = none_named (name_at es) (at es ring) (λ key there. fit ring key there)
-
--- what is found by name is linked
-pub found_in : (name : Name) (serial : ℕ) (links : LinkList) → serial_named links name ≡ Some serial
-    → is_in serial (serials links) ≡ true
-found_in name serial [] h = absurd (none-some serial h)
-found_in name serial (link ∷ links) h =
-    elim (same_name name link.0) as (λ b. option_map (λ (l : Name × ℕ). l.1)
-    (cond b (Some link) (find (λ (l : Name × ℕ). same_name name l.0) links)) ≡ Some serial
-    → ((link.1 == serial) || is_in serial (serials links)) ≡ true) [
-      | true ↦ λ here. rw (same_is link.1 serial (same_Some link.1 serial here)) refl
-      | false ↦ λ there. or_true (link.1 == serial) (is_in serial (serials links)) (found_in name serial links there)
-    ] h
 
 map_name : (f : Key → Key) → ((v : Key) → (f v).name ≡ v.name) → (o : Option Key) (name : Name)
     → option_map (λ key. key.name) o ≡ Some name → option_map (λ key. key.name) (option_map f o) ≡ Some name
