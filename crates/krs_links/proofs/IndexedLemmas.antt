@@ -7,7 +7,7 @@ use Rattle.indexmap.specs.IndexMap.{set_value_at}
 use Rattle.std.specs.Cmp.{nat_eq_equiv}
 use Rattle.std.specs.{List.{AllByRecursion, IsDistinct, position_from}, Map.{keys_of, lookup, values_of}}
 use Rattle.std.proofs.lemmas.Iterator.Adapters.{position_from-zero}
-use Rattle.std.proofs.lemmas.List.{map-append, take-set, Quantifiers.position-Some}
+use Rattle.std.proofs.lemmas.List.{take-set, Quantifiers.position-Some}
 use Rattle.std.proofs.lemmas.Map.{Entries.lookup_from_place, Keys.{IsDistinct-head, IsDistinct-tail}}
 use Rattle.std.proofs.lemmas.Option.{none-some, same_Some, slice_get-map, slice_get_within}
 use Rattle.krs_types.specs.{Name.same_name, declared.name.Name.Name}
@@ -133,10 +133,6 @@ pub AllStand-last : (seed : Seed) (span more digest steps : ℕ) (entries : List
 AllStand-last seed span more digest steps entries link le below is all =
     last_stands seed more entries (behind digest steps, link) (wider seed span more entries le all)
     (steps, below, ap (λ d. behind d steps) is)
-
-pub linked_in-last : (entries : List (ℕ × Link)) (e : ℕ × Link) → linked_in (entries ++ e ∷ []) ≡ linked_in entries
-    ++ link_of e ∷ []
-linked_in-last entries e = map-append link_of entries (e ∷ [])
 
 -- ---- another serial
 pub set_is : (entries : List (ℕ × Link)) (i serial : ℕ) (link : Link) → slice_get (values_of entries) i ≡ Some link →
