@@ -63,12 +63,6 @@ pub record IsSearch (p : ℕ → Bool) (f : ℕ → List ℕ) (heads : List ℕ)
   pub missed : list_any p (take start all) ≡ false
   pub not_yet : list_any p (levels f heads n) ≡ false
 
-pub search_starts : (p : ℕ → Bool) (f : ℕ → List ℕ) (heads all : List ℕ) → all ≡ join [] heads
-    → IsSearch p f heads 0 0 all
-unfolding levels
-search_starts p f heads all e =
-    record { within = omega arith; walk = at_heads f heads all e; missed = refl; not_yet = refl }
-
 -- a key of this level passes
 pub search_finds : (p : ℕ → Bool) (f : ℕ → List ℕ) (heads : List ℕ) (n m start : ℕ) (all : List ℕ)
     → IsSearch p f heads n start all → n < m → list_any p (drop start all) ≡ true

@@ -1,11 +1,11 @@
 -- The keyrings of a level, visited one after the other.
 use Rattle.std.proofs.Common.{◌+◌, ◌<◌, ◌∙◌, ◌≡◌, ◌≤◌, ap, arith, drop, Err, flat_map, get_or, length, List, Result}
-use Rattle.std.proofs.{Common.{sym, ℕ}, lemmas.List.{drop_all, drop_more, get_or_append_left}}
+use Rattle.std.proofs.{Common.{sym, ℕ}, lemmas.List.{drop_more, get_or_append_left}}
 use Rattle.krs_types.specs.declared.{errno.Errno.Errno, name.Name.Name}
 use Rattle.krs_model.specs.Search.{entered, or_next, Searcher, sought}
 use Rattle.krs_model.proofs.Reach.Searches.{sought_append}
 use Rattle.krs_walk.specs.{Lists.join, Searching.entered_rings}
-use Rattle.krs_walk.proofs.{RoundsLemmas.{Grown, IsRound, longer, round_more}, SoughtLemmas.{next_next, next_none}}
+use Rattle.krs_walk.proofs.{RoundsLemmas.{Grown, IsRound, longer, round_more}, SoughtLemmas.next_next}
 
 -- the keyrings of a level before this place were visited: their links have this fault, what is left gives the rest
 pub record IsVisit (by : Searcher) (name : Name) (first all : List ℕ) (start place : ℕ)
@@ -38,14 +38,6 @@ turn_goes_on by name g first place here fault r whole lt same rest h =
     ap (λ (q : Result ℕ Errno). or_next q (sought by name (flat_map g (drop (place + 1) first))))
     (h ∙ ap (λ (k : ℕ). or_next (Err fault) (sought by name (g k))) same)
     ∙ (sym (one_turn by name g first place fault lt) ∙ rest)
-
--- all have had theirs
-pub turns_end : (by : Searcher) (name : Name) (g : ℕ → List ℕ) (first : List ℕ) (place : ℕ) (fault : Errno)
-    (whole : Result ℕ Errno) → length first ≤ place
-    → or_next (Err fault) (sought by name (flat_map g (drop place first))) ≡ whole → Err fault ≡ whole
-turns_end by name g first place fault whole le rest =
-    sym (next_none (Err fault))
-    ∙ (ap (λ (zs : List ℕ). or_next (Err fault) (sought by name (flat_map g zs))) (sym (drop_all place first le)) ∙ rest)
 
 same_place : (first all : List ℕ) (place here : ℕ) → Grown first all → place < length first
     → here ≡ get_or all place 0 → here ≡ get_or first place 0

@@ -33,22 +33,11 @@ impl Walker {
         ensures { result ≡ possessed_with (shown keys.now.keys) clock context.now process_ring serial }
     {
         keys.only_keyrings_link();
-        if is_attached(context, &process_ring, serial) {
-            return true;
-        }
         match keys.get(serial) {
             Some(key) => {
-                let sought = Sought {
-                    keys,
-                    context,
-                    process_ring,
-                    clock,
-                    name: &key.name,
-                    serial,
-                };
-                sought.is_linked(self)
+                self.possesses_named(keys, context, process_ring, clock, &key.name, serial)
             }
-            None => false,
+            None => is_attached(context, &process_ring, serial),
         }
     }
 
