@@ -66,7 +66,8 @@ pub found_is :
     (s : State) (client number : ℕ) (c : Context) (into : ℕ × Key) (serial : ℕ) → context_of s client number ≡ Ok c
     → IsFoundRing s into → within_serials s (found_into s c into (Ok serial))
     ≡ link_found s client number into.0 serial
-found_is s client number c into serial own is = by_key s c into serial (at s.keys serial) is ∙ sym (rw (own, is.there) refl)
+found_is s client number c into serial own is =
+    by_key s c into serial (at s.keys serial) is ∙ sym (rw (own, is.there) refl)
 
 -- what SEARCH has looked up, with a destination that is there
 pub record Seeks (s : State) (client number : ℕ) (head : ℤ) (sought : Result Name Errno) (dest : ℤ) (c : Context)
@@ -77,67 +78,51 @@ pub record Seeks (s : State) (client number : ℕ) (head : ℤ) (sought : Result
   pub made : made_for s number c dest ≡ (s, c)
   pub wanted : has_destination dest ≡ true
 
-pub search_is :
-    (s : State) (client number : ℕ) (head : ℤ) (sought : Result Name Errno) (dest : ℤ) (c : Context) (name : Name)
-    (from : ℕ × Key)
-    → Seeks s client number head sought dest c name from
-    → search_named s client number head sought dest ≡ within_serials s (sought_into s c from name dest)
-unfolding search_named
-search_is s client number head sought dest c name from seeks =
-    rw (seeks.own, seeks.named, seeks.from_found, seeks.wanted, seeks.made) refl
-
 -- a number that is not 0 is a destination
 pub wanted_of : (z : ℤ) → (of_z w32 z ≡ 0 → ⊥) → has_destination z ≡ true
 wanted_of (pos zero) h = absurd (h refl)
 wanted_of (pos (suc n)) h = refl
 wanted_of (negsuc n) h = refl
 
-pub seeks :
-    (s : State) (client number : ℕ) (head : ℤ) (sought : Result Name Errno) (dest : ℤ) (c : Context) (name : Name)
-    (from : ℕ × Key)
-    → FitsSigned w32 head → FitsSigned w32 dest → context_of s client number ≡ Ok c
-    → sought ≡ Ok name
-    → look_up s c (to_z w32 (of_z w32 head)) (Granted SEARCH) ≡ Ok from → (of_z w32 dest ≡ 0 → ⊥)
-    → made_for s number c (to_z w32 (of_z w32 dest)) ≡ (s, c)
-    → Seeks s client number head sought dest c name from
-seeks s client number head sought dest c name from head_fits dest_fits own named from_found wanted made =
-    record {
-      own = own;
-      named = named;
-      from_found = ap (λ id. look_up s c id (Granted SEARCH)) (sym (to_z-of_z w32 head head_fits)) ∙ from_found;
-      made = ap (made_for s number c) (sym (to_z-of_z w32 dest dest_fits)) ∙ made;
-      wanted = wanted_of dest wanted;
-    }
+module _ (s : State) (client number : ℕ) (head : ℤ) (sought : Result Name Errno) (dest : ℤ) (c : Context)
+    (name : Name) (from : ℕ × Key) where
+  search_is : Seeks s client number head sought dest c name from
+      → search_named s client number head sought dest ≡ within_serials s (sought_into s c from name dest)
+  unfolding search_named
+  search_is seeks = rw (seeks.own, seeks.named, seeks.from_found, seeks.wanted, seeks.made) refl
 
--- a search whose destination and key were found comes to the link of the key
-pub search_links :
-    (s : State) (client number : ℕ) (head : ℤ) (sought : Result Name Errno) (dest : ℤ) (c : Context) (name : Name)
-    (from into : ℕ × Key) (links : List ℕ) (serial : ℕ)
-    → Seeks s client number head sought dest c name from → look_up s c dest (Granted WRITE) ≡ Ok into
-    → ring_links from.1.content ≡ Ok links → IsFoundRing s into → found s c from.0 name ≡ Ok serial
-    → search_named s client number head sought dest ≡ link_found s client number into.0 serial
-search_links s client number head sought dest c name from into links serial l into_found heads is key_found =
-    search_is s client number head sought dest c name from l
-    ∙ (rw (into_found, heads, is.links, key_found) refl ∙ found_is s client number c into serial l.own is)
+  pub seeks : FitsSigned w32 head → FitsSigned w32 dest → context_of s client number ≡ Ok c → sought ≡ Ok name
+      → look_up s c (to_z w32 (of_z w32 head)) (Granted SEARCH) ≡ Ok from → (of_z w32 dest ≡ 0 → ⊥)
+      → made_for s number c (to_z w32 (of_z w32 dest)) ≡ (s, c)
+      → Seeks s client number head sought dest c name from
+  seeks head_fits dest_fits own named from_found wanted made =
+      record {
+        own = own;
+        named = named;
+        from_found = ap (λ id. look_up s c id (Granted SEARCH)) (sym (to_z-of_z w32 head head_fits)) ∙ from_found;
+        made = ap (made_for s number c) (sym (to_z-of_z w32 dest dest_fits)) ∙ made;
+        wanted = wanted_of dest wanted;
+      }
 
--- a search whose destination is refused
-pub search_unlooked :
-    (s : State) (client number : ℕ) (head : ℤ) (sought : Result Name Errno) (dest : ℤ) (c : Context) (name : Name)
-    (from : ℕ × Key) (e : Errno)
-    → Seeks s client number head sought dest c name from → look_up s c dest (Granted WRITE) ≡ Err e
-    → (search_named s client number head sought dest ≡ Err e) × (s ≡ s)
-search_unlooked s client number head sought dest c name from e l h =
-    (search_is s client number head sought dest c name from l ∙ rw h refl, refl)
+  -- a search whose destination and key were found comes to the link of the key
+  pub search_links : (into : ℕ × Key) (links : List ℕ) (serial : ℕ)
+      → Seeks s client number head sought dest c name from → look_up s c dest (Granted WRITE) ≡ Ok into
+      → ring_links from.1.content ≡ Ok links → IsFoundRing s into → found s c from.0 name ≡ Ok serial
+      → search_named s client number head sought dest ≡ link_found s client number into.0 serial
+  search_links into links serial l into_found heads is key_found = search_is l
+      ∙ (rw (into_found, heads, is.links, key_found) refl ∙ found_is s client number c into serial l.own is)
 
--- a search whose destination is no keyring
-pub search_no_ring :
-    (s : State) (client number : ℕ) (head : ℤ) (sought : Result Name Errno) (dest : ℤ) (c : Context) (name : Name)
-    (from into : ℕ × Key) (links : List ℕ) (e : Errno)
-    → Seeks s client number head sought dest c name from → look_up s c dest (Granted WRITE) ≡ Ok into
-    → ring_links from.1.content ≡ Ok links → ring_links into.1.content ≡ Err e
-    → (search_named s client number head sought dest ≡ Err e) × (s ≡ s)
-search_no_ring s client number head sought dest c name from into links e l into_found heads h =
-    (search_is s client number head sought dest c name from l ∙ rw (into_found, heads, h) refl, refl)
+  -- a search whose destination is refused
+  pub search_unlooked : (e : Errno) → Seeks s client number head sought dest c name from
+      → look_up s c dest (Granted WRITE) ≡ Err e → (search_named s client number head sought dest ≡ Err e) × (s ≡ s)
+  search_unlooked e l h = (search_is l ∙ rw h refl, refl)
+
+  -- a search whose destination is no keyring
+  pub search_no_ring : (into : ℕ × Key) (links : List ℕ) (e : Errno)
+      → Seeks s client number head sought dest c name from → look_up s c dest (Granted WRITE) ≡ Ok into
+      → ring_links from.1.content ≡ Ok links → ring_links into.1.content ≡ Err e
+      → (search_named s client number head sought dest ≡ Err e) × (s ≡ s)
+  search_no_ring into links e l into_found heads h = (search_is l ∙ rw (into_found, heads, h) refl, refl)
 
 -- what REQUEST has looked up, with a destination that is there
 pub record Requests (s : State) (client number : ℕ) (sought : Result Name Errno) (dest : ℤ) (c : Context)
@@ -147,41 +132,31 @@ pub record Requests (s : State) (client number : ℕ) (sought : Result Name Errn
   pub made : made_for s number c dest ≡ (s, c)
   pub wanted : has_destination dest ≡ true
 
-pub requests :
-    (s : State) (client number : ℕ) (sought : Result Name Errno) (dest : ℤ) (c : Context) (name : Name)
-    → FitsSigned w32 dest → context_of s client number ≡ Ok c → sought ≡ Ok name
-    → (of_z w32 dest ≡ 0 → ⊥)
-    → made_for s number c (to_z w32 (of_z w32 dest)) ≡ (s, c) → Requests s client number sought dest c name
-requests s client number sought dest c name dest_fits own named wanted made = record {
-  own = own;
-  named = named;
-  made = ap (made_for s number c) (sym (to_z-of_z w32 dest dest_fits)) ∙ made;
-  wanted = wanted_of dest wanted;
-}
+module _ (s : State) (client number : ℕ) (sought : Result Name Errno) (dest : ℤ) (c : Context) (name : Name) where
+  pub requests : FitsSigned w32 dest → context_of s client number ≡ Ok c → sought ≡ Ok name
+      → (of_z w32 dest ≡ 0 → ⊥) → made_for s number c (to_z w32 (of_z w32 dest)) ≡ (s, c)
+      → Requests s client number sought dest c name
+  requests dest_fits own named wanted made = record {
+    own = own;
+    named = named;
+    made = ap (made_for s number c) (sym (to_z-of_z w32 dest dest_fits)) ∙ made;
+    wanted = wanted_of dest wanted;
+  }
 
-request_is :
-    (s : State) (client number : ℕ) (sought : Result Name Errno) (dest : ℤ) (c : Context) (name : Name)
-    → Requests s client number sought dest c name
-    → request_named s client number sought dest ≡ within_serials s (requested_into s c name dest)
-unfolding request_named
-request_is s client number sought dest c name l = rw (l.own, l.named, l.wanted, l.made) refl
+  request_is : Requests s client number sought dest c name
+      → request_named s client number sought dest ≡ within_serials s (requested_into s c name dest)
+  unfolding request_named
+  request_is l = rw (l.own, l.named, l.wanted, l.made) refl
 
--- a request whose destination and key were found comes to the link of the key
-pub request_links :
-    (s : State) (client number : ℕ) (sought : Result Name Errno) (dest : ℤ) (c : Context) (name : Name) (into : ℕ × Key)
-    (serial : ℕ)
-    → Requests s client number sought dest c name → look_up s c dest (Granted WRITE) ≡ Ok into
-    → IsFoundRing s into → requested s c name ≡ Ok serial
-    → request_named s client number sought dest ≡ link_found s client number into.0 serial
-request_links s client number sought dest c name into serial l into_found is key_found =
-    request_is s client number sought dest c name l
-    ∙ (rw (into_found, is.links, key_found) refl ∙ found_is s client number c into serial l.own is)
+  -- a request whose destination and key were found comes to the link of the key
+  pub request_links : (into : ℕ × Key) (serial : ℕ) → Requests s client number sought dest c name
+      → look_up s c dest (Granted WRITE) ≡ Ok into → IsFoundRing s into → requested s c name ≡ Ok serial
+      → request_named s client number sought dest ≡ link_found s client number into.0 serial
+  request_links into serial l into_found is key_found = request_is l
+      ∙ (rw (into_found, is.links, key_found) refl ∙ found_is s client number c into serial l.own is)
 
--- a request whose destination is no keyring
-pub request_no_ring :
-    (s : State) (client number : ℕ) (sought : Result Name Errno) (dest : ℤ) (c : Context) (name : Name) (into : ℕ × Key)
-    (e : Errno)
-    → Requests s client number sought dest c name → look_up s c dest (Granted WRITE) ≡ Ok into
-    → ring_links into.1.content ≡ Err e → (request_named s client number sought dest ≡ Err e) × (s ≡ s)
-request_no_ring s client number sought dest c name into e l into_found h =
-    (request_is s client number sought dest c name l ∙ rw (into_found, h) refl, refl)
+  -- a request whose destination is no keyring
+  pub request_no_ring : (into : ℕ × Key) (e : Errno) → Requests s client number sought dest c name
+      → look_up s c dest (Granted WRITE) ≡ Ok into → ring_links into.1.content ≡ Err e
+      → (request_named s client number sought dest ≡ Err e) × (s ≡ s)
+  request_no_ring into e l into_found h = (request_is l ∙ rw (into_found, h) refl, refl)

@@ -144,67 +144,52 @@ into_new special s number c answer =
     found_into (with_ring special s number c) (context_with special s c)
     (s.next_serial, special_ring (special_name special).desc c.caller) answer
 
--- a key that was found is linked there
-found_new :
-    (special : Special) (s : State) (client number : ℕ) (c : Context) (dest : ℤ) (k : ℕ)
-    → context_of s client number ≡ Ok c → IsNew special s number c dest → IsSome (at s.keys k)
-    → within_serials s (into_new special s number c (Ok k)) ≡ found_made special s client number k
-found_new special s client number c dest k own new there =
-    let t = with_ring special s number c in
-    let d = context_with special s c in
-    let desc = (special_name special).desc in
-    let ring : ℕ × Key = (s.next_serial, special_ring desc c.caller) in
-    let first = before special c in
-    let last = behind special s c in
-    let apart : k ≢ s.next_serial = other s k new.fit.none there in
-    ap (within_serials s) (found_into_new s t c d desc first last k new.made new.fit.none apart)
-    ∙ (by_key s t c ring k (at s.keys k)
-    (λ key. linked_into_new s t c d desc first last (k, key) new.made new.fit.linked new.fit.none apart)
-    ∙ sym (rw own refl))
+module _ (special : Special) (s : State) (client number : ℕ) (c : Context) (dest : ℤ)
+    (own : context_of s client number ≡ Ok c) (new : IsNew special s number c dest) where
+  -- a key that was found is linked there
+  found_new : (k : ℕ) → IsSome (at s.keys k)
+      → within_serials s (into_new special s number c (Ok k)) ≡ found_made special s client number k
+  found_new k there =
+      let t = with_ring special s number c in
+      let d = context_with special s c in
+      let desc = (special_name special).desc in
+      let ring : ℕ × Key = (s.next_serial, special_ring desc c.caller) in
+      let first = before special c in
+      let last = behind special s c in
+      let apart : k ≢ s.next_serial = other s k new.fit.none there in
+      ap (within_serials s) (found_into_new s t c d desc first last k new.made new.fit.none apart)
+      ∙ (by_key s t c ring k (at s.keys k)
+      (λ key. linked_into_new s t c d desc first last (k, key) new.made new.fit.linked new.fit.none apart)
+      ∙ sym (rw own refl))
 
-by_answer :
-    (special : Special) (s : State) (client number : ℕ) (c : Context) (dest : ℤ) (answer : Result ℕ Errno)
-    → context_of s client number ≡ Ok c → IsNew special s number c dest
-    → ((k : ℕ) → answer ≡ Ok k → IsSome (at s.keys k))
-    → within_serials s (into_new special s number c answer)
-    ≡ (answer >>= (λ k. found_made special s client number k))
-by_answer special s client number c dest (Ok k) own new there =
-    found_new special s client number c dest k own new (there k refl)
-by_answer special s client number c dest (Err e) own new there = refl
+  by_answer : (answer : Result ℕ Errno) → ((k : ℕ) → answer ≡ Ok k → IsSome (at s.keys k))
+      → within_serials s (into_new special s number c answer)
+      ≡ (answer >>= (λ k. found_made special s client number k))
+  by_answer (Ok k) there = found_new k (there k refl)
+  by_answer (Err e) there = refl
 
--- the keyring that was found itself is not
-by_itself :
-    (special : Special) (s : State) (client number : ℕ) (c : Context) (dest : ℤ) (answer : Result ℕ Errno)
-    → context_of s client number ≡ Ok c → IsNew special s number c dest
-    → ((k : ℕ) → answer ≡ Ok k → IsSome (at s.keys k))
-    → within_serials s (into_new special s number c (or_next answer (Ok s.next_serial)))
-    ≡ (or_itself answer >>= (λ k. found_made special s client number k))
-by_itself special s client number c dest (Ok k) own new there =
-    found_new special s client number c dest k own new (there k refl)
-by_itself special s client number c dest (Err e) own new there =
-    ap (within_serials s) (found_into_self s (with_ring special s number c) c (context_with special s c)
-    (special_name special).desc (before special c) (behind special s c) new.made)
+  -- the keyring that was found itself is not
+  by_itself : (answer : Result ℕ Errno) → ((k : ℕ) → answer ≡ Ok k → IsSome (at s.keys k))
+      → within_serials s (into_new special s number c (or_next answer (Ok s.next_serial)))
+      ≡ (or_itself answer >>= (λ k. found_made special s client number k))
+  by_itself (Ok k) there = found_new k (there k refl)
+  by_itself (Err e) there =
+      ap (within_serials s) (found_into_self s (with_ring special s number c) c (context_with special s c)
+      (special_name special).desc (before special c) (behind special s c) new.made)
 
-by_name :
-    (special : Special) (s : State) (client number : ℕ) (c : Context) (dest : ℤ) (name : Name) (named : Bool)
-    → context_of s client number ≡ Ok c → IsNew special s number c dest
-    → within_serials s (into_new special s number c
-    (cond named (or_next (found_before special s c name) (Ok s.next_serial)) (requested s c name)))
-    ≡ (cond named (or_itself (found_before special s c name)) (requested s c name)
-    >>= (λ k. found_made special s client number k))
-by_name special s client number c dest name true own new =
-    by_itself special s client number c dest (found_before special s c name) own new (before_there special s c name)
-by_name special s client number c dest name false own new =
-    by_answer special s client number c dest (requested s c name) own new (requested_there s c name)
+  by_name : (name : Name) (named : Bool)
+      → within_serials s (into_new special s number c
+      (cond named (or_next (found_before special s c name) (Ok s.next_serial)) (requested s c name)))
+      ≡ (cond named (or_itself (found_before special s c name)) (requested s c name)
+      >>= (λ k. found_made special s client number k))
+  by_name name true = by_itself (found_before special s c name) (before_there special s c name)
+  by_name name false = by_answer (requested s c name) (requested_there s c name)
 
-by_links :
-    (special : Special) (s : State) (client number : ℕ) (c : Context) (dest : ℤ) (name : Name) (head : ℕ)
-    (links : Result (List ℕ) Errno) → context_of s client number ≡ Ok c → IsNew special s number c dest
-    → within_serials s (links >>= (λ heads. into_new special s number c (found s c head name)))
-    ≡ ((links >>= (λ heads. found s c head name)) >>= (λ k. found_made special s client number k))
-by_links special s client number c dest name head (Ok links) own new =
-    by_answer special s client number c dest (found s c head name) own new (found_there s c head name)
-by_links special s client number c dest name head (Err e) own new = refl
+  by_links : (name : Name) (head : ℕ) (links : Result (List ℕ) Errno)
+      → within_serials s (links >>= (λ heads. into_new special s number c (found s c head name)))
+      ≡ ((links >>= (λ heads. found s c head name)) >>= (λ k. found_made special s client number k))
+  by_links name head (Ok links) = by_answer (found s c head name) (found_there s c head name)
+  by_links name head (Err e) = refl
 
 -- what is refused first is the answer
 refused_first :
@@ -221,69 +206,54 @@ pub record SeeksNew (special : Special) (s : State) (client number : ℕ) (head 
   pub wanted : has_destination dest ≡ true
   pub new : IsNew special s number c dest
 
-pub seeks_new :
-    (special : Special) (s : State) (client number : ℕ) (head : ℤ) (sought : Result Name Errno) (dest : ℤ) (c : Context)
-    (name : Name) (from : ℕ × Key) → IsSound s → FitsSigned w32 head → FitsSigned w32 dest
-    → context_of s client number ≡ Ok c → sought ≡ Ok name
-    → look_up s c (to_z w32 (of_z w32 head)) (Granted SEARCH) ≡ Ok from → (of_z w32 dest ≡ 0 → ⊥)
-    → Makes (Some special) s number c (to_z w32 (of_z w32 dest))
-    → SeeksNew special s client number head sought dest c name from
-seeks_new special s client number head sought dest c name from sound head_fits dest_fits own named from_found
-    wanted makes =
-    let makes_it = subst (Makes (Some special) s number c) (to_z-of_z w32 dest dest_fits) makes in
-    record {
-      own = own;
-      named = named;
-      from_found = ap (λ id. look_up s c id (Granted SEARCH)) (sym (to_z-of_z w32 head head_fits)) ∙ from_found;
-      wanted = wanted_of dest wanted;
-      new = is_new special s client number c dest makes_it sound own;
-    }
+module _ (special : Special) (s : State) (client number : ℕ) (head : ℤ) (sought : Result Name Errno) (dest : ℤ)
+    (c : Context) (name : Name) (from : ℕ × Key) where
+  pub seeks_new : IsSound s → FitsSigned w32 head → FitsSigned w32 dest → context_of s client number ≡ Ok c
+      → sought ≡ Ok name → look_up s c (to_z w32 (of_z w32 head)) (Granted SEARCH) ≡ Ok from
+      → (of_z w32 dest ≡ 0 → ⊥) → Makes (Some special) s number c (to_z w32 (of_z w32 dest))
+      → SeeksNew special s client number head sought dest c name from
+  seeks_new sound head_fits dest_fits own named from_found wanted makes =
+      let makes_it = subst (Makes (Some special) s number c) (to_z-of_z w32 dest dest_fits) makes in
+      record {
+        own = own;
+        named = named;
+        from_found = ap (λ id. look_up s c id (Granted SEARCH)) (sym (to_z-of_z w32 head head_fits)) ∙ from_found;
+        wanted = wanted_of dest wanted;
+        new = is_new special s client number c dest makes_it sound own;
+      }
 
-search_is_new :
-    (special : Special) (s : State) (client number : ℕ) (head : ℤ) (sought : Result Name Errno) (dest : ℤ) (c : Context)
-    (name : Name) (from : ℕ × Key) → SeeksNew special s client number head sought dest c name from
-    → search_named s client number head sought dest
-    ≡ within_serials s (sought_into (with_ring special s number c) (context_with special s c) from name dest)
-unfolding search_named
-search_is_new special s client number head sought dest c name from l =
-    rw (l.own, l.named, l.from_found, l.wanted, l.new.is) refl
+  search_is_new : SeeksNew special s client number head sought dest c name from
+      → search_named s client number head sought dest
+      ≡ within_serials s (sought_into (with_ring special s number c) (context_with special s c) from name dest)
+  unfolding search_named
+  search_is_new l = rw (l.own, l.named, l.from_found, l.wanted, l.new.is) refl
 
--- a search whose destination is made comes to the link of what it finds
-search_new :
-    (special : Special) (s : State) (client number : ℕ) (head : ℤ) (sought : Result Name Errno) (dest : ℤ) (c : Context)
-    (name : Name) (from : ℕ × Key) → SeeksNew special s client number head sought dest c name from
-    → search_named s client number head sought dest
-    ≡ (found_below s c from name >>= (λ k. found_made special s client number k))
-search_new special s client number head sought dest c name from l =
-    let there : at s.keys from.0 ≡ Some from.1 = (look_up_usable s c head (Granted SEARCH) from l.from_found).there in
-    let apart : from.0 ≢ s.next_serial = other s from.0 l.new.fit.none (rw there refl) in
-    let into = sought_into_new s (with_ring special s number c) c (context_with special s c)
-    (special_name special).desc (before special c) (behind special s c) from name dest l.new.made l.new.fit.linked
-    l.new.fit.none l.new.named apart in
-    search_is_new special s client number head sought dest c name from l
-    ∙ (ap (within_serials s) into
-    ∙ by_links special s client number c dest name from.0 (ring_links from.1.content) l.own l.new)
+  -- a search whose destination is made comes to the link of what it finds
+  search_new : SeeksNew special s client number head sought dest c name from
+      → search_named s client number head sought dest
+      ≡ (found_below s c from name >>= (λ k. found_made special s client number k))
+  search_new l =
+      let there : at s.keys from.0 ≡ Some from.1 = (look_up_usable s c head (Granted SEARCH) from l.from_found).there in
+      let apart : from.0 ≢ s.next_serial = other s from.0 l.new.fit.none (rw there refl) in
+      let into = sought_into_new s (with_ring special s number c) c (context_with special s c)
+      (special_name special).desc (before special c) (behind special s c) from name dest l.new.made l.new.fit.linked
+      l.new.fit.none l.new.named apart in
+      search_is_new l ∙ (ap (within_serials s) into
+      ∙ by_links special s client number c dest l.own l.new name from.0 (ring_links from.1.content))
 
--- a search that finds nothing
-pub search_new_refused :
-    (special : Special) (s : State) (client number : ℕ) (head : ℤ) (sought : Result Name Errno) (dest : ℤ) (c : Context)
-    (name : Name) (from : ℕ × Key) (e : Errno) → SeeksNew special s client number head sought dest c name from
-    → found_below s c from name ≡ Err e → (search_named s client number head sought dest ≡ Err e) × (s ≡ s)
-search_new_refused special s client number head sought dest c name from e l h = (
-  search_new special s client number head sought dest c name from l
-      ∙ refused_first e (found_below s c from name) (λ k. found_made special s client number k) h,
-  refl,
-)
+  -- a search that finds nothing
+  pub search_new_refused : (e : Errno) → SeeksNew special s client number head sought dest c name from
+      → found_below s c from name ≡ Err e → (search_named s client number head sought dest ≡ Err e) × (s ≡ s)
+  search_new_refused e l h = (
+    search_new l ∙ refused_first e (found_below s c from name) (λ k. found_made special s client number k) h,
+    refl,
+  )
 
--- a search that finds a key
-pub search_new_links :
-    (special : Special) (s : State) (client number : ℕ) (head : ℤ) (sought : Result Name Errno) (dest : ℤ) (c : Context)
-    (name : Name) (from : ℕ × Key) (serial : ℕ)
-    → SeeksNew special s client number head sought dest c name from
-    → found_below s c from name ≡ Ok serial
-    → search_named s client number head sought dest ≡ found_made special s client number serial
-search_new_links special s client number head sought dest c name from serial l found_it =
-    search_new special s client number head sought dest c name from l ∙ rw found_it refl
+  -- a search that finds a key
+  pub search_new_links : (serial : ℕ) → SeeksNew special s client number head sought dest c name from
+      → found_below s c from name ≡ Ok serial
+      → search_named s client number head sought dest ≡ found_made special s client number serial
+  search_new_links serial l found_it = search_new l ∙ rw found_it refl
 
 -- what REQUEST has looked up, with a destination that is made
 pub record RequestsNew (special : Special) (s : State) (client number : ℕ) (sought : Result Name Errno) (dest : ℤ)
@@ -293,59 +263,45 @@ pub record RequestsNew (special : Special) (s : State) (client number : ℕ) (so
   pub wanted : has_destination dest ≡ true
   pub new : IsNew special s number c dest
 
-pub requests_new :
-    (special : Special) (s : State) (client number : ℕ) (sought : Result Name Errno) (dest : ℤ) (c : Context)
-    (name : Name) → IsSound s → FitsSigned w32 dest → context_of s client number ≡ Ok c
-    → sought ≡ Ok name
-    → (of_z w32 dest ≡ 0 → ⊥) → Makes (Some special) s number c (to_z w32 (of_z w32 dest))
-    → RequestsNew special s client number sought dest c name
-requests_new special s client number sought dest c name sound dest_fits own named wanted makes =
-    let makes_it = subst (Makes (Some special) s number c) (to_z-of_z w32 dest dest_fits) makes in
-    record {
-      own = own;
-      named = named;
-      wanted = wanted_of dest wanted;
-      new = is_new special s client number c dest makes_it sound own;
-    }
+module _ (special : Special) (s : State) (client number : ℕ) (sought : Result Name Errno) (dest : ℤ) (c : Context)
+    (name : Name) where
+  pub requests_new : IsSound s → FitsSigned w32 dest → context_of s client number ≡ Ok c → sought ≡ Ok name
+      → (of_z w32 dest ≡ 0 → ⊥) → Makes (Some special) s number c (to_z w32 (of_z w32 dest))
+      → RequestsNew special s client number sought dest c name
+  requests_new sound dest_fits own named wanted makes =
+      let makes_it = subst (Makes (Some special) s number c) (to_z-of_z w32 dest dest_fits) makes in
+      record {
+        own = own;
+        named = named;
+        wanted = wanted_of dest wanted;
+        new = is_new special s client number c dest makes_it sound own;
+      }
 
-request_is_new :
-    (special : Special) (s : State) (client number : ℕ) (sought : Result Name Errno) (dest : ℤ) (c : Context)
-    (name : Name) → RequestsNew special s client number sought dest c name
-    → request_named s client number sought dest
-    ≡ within_serials s (requested_into (with_ring special s number c) (context_with special s c) name dest)
-unfolding request_named
-request_is_new special s client number sought dest c name l =
-    rw (l.own, l.named, l.wanted, l.new.is) refl
+  request_is_new : RequestsNew special s client number sought dest c name
+      → request_named s client number sought dest
+      ≡ within_serials s (requested_into (with_ring special s number c) (context_with special s c) name dest)
+  unfolding request_named
+  request_is_new l = rw (l.own, l.named, l.wanted, l.new.is) refl
 
--- a request whose destination is made comes to the link of what it finds beside it
-request_new :
-    (special : Special) (s : State) (client number : ℕ) (sought : Result Name Errno) (dest : ℤ) (c : Context)
-    (name : Name) → RequestsNew special s client number sought dest c name
-    → request_named s client number sought dest
-    ≡ (beside special s c name >>= (λ k. found_made special s client number k))
-request_new special s client number sought dest c name l =
-    let into = requested_into_new s (with_ring special s number c) c (context_with special s c)
-    (special_name special).desc (before special c) (behind special s c) name dest l.new.made l.new.named in
-    request_is_new special s client number sought dest c name l
-    ∙ (ap (within_serials s) (into ∙ ap (into_new special s number c) (asked special s number c dest name l.new))
-    ∙ by_name special s client number c dest name (is_of_name special c name) l.own l.new)
+  -- a request whose destination is made comes to the link of what it finds beside it
+  request_new : RequestsNew special s client number sought dest c name
+      → request_named s client number sought dest
+      ≡ (beside special s c name >>= (λ k. found_made special s client number k))
+  request_new l =
+      let into = requested_into_new s (with_ring special s number c) c (context_with special s c)
+      (special_name special).desc (before special c) (behind special s c) name dest l.new.made l.new.named in
+      request_is_new l
+      ∙ (ap (within_serials s) (into ∙ ap (into_new special s number c) (asked special s number c dest name l.new))
+      ∙ by_name special s client number c dest l.own l.new name (is_of_name special c name))
 
--- a request that finds nothing beside it
-pub request_new_refused :
-    (special : Special) (s : State) (client number : ℕ) (sought : Result Name Errno) (dest : ℤ) (c : Context)
-    (name : Name) (e : Errno) → RequestsNew special s client number sought dest c name
-    → beside special s c name ≡ Err e → (request_named s client number sought dest ≡ Err e) × (s ≡ s)
-request_new_refused special s client number sought dest c name e l h = (
-  request_new special s client number sought dest c name l
-      ∙ refused_first e (beside special s c name) (λ k. found_made special s client number k) h,
-  refl,
-)
+  -- a request that finds nothing beside it
+  pub request_new_refused : (e : Errno) → RequestsNew special s client number sought dest c name
+      → beside special s c name ≡ Err e → (request_named s client number sought dest ≡ Err e) × (s ≡ s)
+  request_new_refused e l h =
+      (request_new l ∙ refused_first e (beside special s c name) (λ k. found_made special s client number k) h, refl)
 
--- a request that finds a key
-pub request_new_links :
-    (special : Special) (s : State) (client number : ℕ) (sought : Result Name Errno) (dest : ℤ) (c : Context)
-    (name : Name) (serial : ℕ) → RequestsNew special s client number sought dest c name
-    → beside special s c name ≡ Ok serial
-    → request_named s client number sought dest ≡ found_made special s client number serial
-request_new_links special s client number sought dest c name serial l found_it =
-    request_new special s client number sought dest c name l ∙ rw found_it refl
+  -- a request that finds a key
+  pub request_new_links : (serial : ℕ) → RequestsNew special s client number sought dest c name
+      → beside special s c name ≡ Ok serial
+      → request_named s client number sought dest ≡ found_made special s client number serial
+  request_new_links serial l found_it = request_new l ∙ rw found_it refl
