@@ -83,17 +83,8 @@ impl Tables {
         self.contexts.process_ring(process)
     }
 
-    /// Whether a context possesses a key: keyrings(7), "Possession".
-    #[tactic(auto, unfolding(krs_model::specs::Possession::possessed))]
-    pub fn possesses(&self, context: &Context, serial: Serial) -> bool
-        ensures { result ≡ possessed self.now context.now serial }
-    {
-        let ring = self.process_ring(context.process);
-        self.walker
-            .possesses(&self.keys, context, ring, self.clock, serial)
-    }
-
-    /// The same of a key whose name is at hand, so that it needn't be looked up again.
+    /// Whether a context possesses a key, whose name is at hand, so that it needn't be looked up again: keyrings(7),
+    /// "Possession".
     #[tactic(auto, unfolding(krs_model::specs::Possession::possessed))]
     fn possesses_named(&self, context: &Context, serial: Serial, name: &HashedName) -> bool
         requires { name_in self.now serial ≡ Some name.now }
