@@ -120,16 +120,6 @@ impl Links {
         }
     }
 
-    /// The same of a name that was hashed.
-    pub fn place_of_hashed(&self, name: &HashedName) -> Option<usize>
-        ensures { result ≡ place_of name.now self.now }
-    {
-        match &self.kept {
-            Some(table) => table.place_of_hashed(name),
-            None => None,
-        }
-    }
-
     /// A place where a serial is linked under what this name hashes to. Serials are compared, and no names, so that it costs
     /// little for whoever has a key with its name: if the link of the name has the serial, it is found.
     pub fn place_linked(&self, name: &HashedName, serial: Serial) -> Option<usize>
@@ -144,13 +134,6 @@ impl Links {
 
     /// Whether a link under this name would be refused: there are as many as there may be, and none is displaced.
     /// Profile, full keyrings.
-    pub fn would_refuse(&self, name: &Name) -> bool
-        ensures { result ≡ is_refused self.now name.now }
-    {
-        self.is_full() && self.find(name).is_none()
-    }
-
-    /// The same of a name that was hashed.
     pub fn would_refuse_hashed(&self, name: &HashedName) -> bool
         ensures { result ≡ is_refused self.now name.now }
     {

@@ -99,13 +99,6 @@ impl LinkTable {
         lists::place_of(&self.entries, name, self.entries.digest_of(name))
     }
 
-    /// The same of a name that was hashed.
-    pub(crate) fn place_of_hashed(&self, name: &HashedName) -> Option<usize>
-        ensures { result ≡ place_of name.now self.now }
-    {
-        lists::place_of(&self.entries, name.as_name(), self.entries.digest_in(name))
-    }
-
     /// A place where a serial is linked under what a name hashes to.
     pub(crate) fn place_linked(&self, name: &HashedName, serial: Serial) -> Option<usize>
         ensures there { IfSome result (λ place. slice_get (serials self.now) place ≡ Some serial) }
