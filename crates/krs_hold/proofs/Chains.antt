@@ -70,19 +70,19 @@ out_of es first (x ∷ ks) k h r =
       | false ↦ λ t. out_of es (next_at (at es x)) ks k h.1.1.1 r
     ] refl
 
--- one holder less, and not the last, or it waits already
-staying :
-    (es : Table Count) (first : Option ℕ) (k : ℕ) (c : Count) → at es k ≡ Some c → falls c ≡ false
-    → IsChained es first → IsChained (alter es k (lowered first)) first
-staying es first k c e f h =
-    let fs = alter es k (lowered first) in
-    let mine : at fs k ≡ Some (record c { holders = c.holders - 1 }) = at_some es k (lowered first) c e
-    ∙ ap Some (lowered_stays first c f) in
-    let others : (q : ℕ) → (q ≡ k → ⊥) → at fs q ≡ at es q = λ q n. alter_other es k q (lowered first) n in
+-- a count that changes as to its holders alone leaves the chain as it is
+altered :
+    (es : Table Count) (first : Option ℕ) (k : ℕ) (f : Count → Count)
+    → is_waiting (at (alter es k f) k) ≡ is_waiting (at es k) → next_at (at (alter es k f) k) ≡ next_at (at es k)
+    → (IsSome (at (alter es k f) k) → holders_at (at (alter es k f) k) ≡ 0 → is_waiting (at (alter es k f) k) ≡ true)
+    → IsChained es first → IsChained (alter es k f) first
+altered es first k f waits nexts due h =
+    let fs = alter es k f in
+    let others : (q : ℕ) → (q ≡ k → ⊥) → at fs q ≡ at es q = λ q n. alter_other es k q f n in
     let stays : (q : ℕ) → (is_waiting (at fs q) ≡ is_waiting (at es q)) × (next_at (at fs q) ≡ next_at (at es q)) =
     λ q. ⊎_elim
     (λ s. subst (λ (z : ℕ). (is_waiting (at fs z) ≡ is_waiting (at es z)) × (next_at (at fs z) ≡ next_at (at es z)))
-    (sym s) (ap is_waiting mine ∙ sym (ap is_waiting e), ap next_at mine ∙ sym (ap next_at e)))
+    (sym s) (waits, nexts))
     (λ n. (ap is_waiting (others q n), ap next_at (others q n)))
     (cases_eq q k) in
     record {
@@ -90,13 +90,23 @@ staying es first k c e f h =
       linked = chain_same es fs first h.chain (λ q i. stays q) h.linked;
       whole = λ q w. h.whole q (sym (stays q).0 ∙ w);
       due = λ q there none. ⊎_elim
-          (λ s. let zero : c.holders - 1 ≡ 0 = sym (ap holders_at mine)
-          ∙ subst (λ (z : ℕ). holders_at (at fs z) ≡ 0) s none in
-          ap is_waiting (ap (at fs) s ∙ mine) ∙ due_stays c f zero (λ z. sym (ap is_waiting e)
-          ∙ h.due k (rw e refl) (ap holders_at e ∙ z)))
+          (λ s. subst (λ (z : ℕ). is_waiting (at fs z) ≡ true) (sym s)
+          (due (subst (λ (z : ℕ). IsSome (at fs z)) s there) (subst (λ (z : ℕ). holders_at (at fs z) ≡ 0) s none)))
           (λ n. (stays q).0 ∙ h.due q (subst IsSome (others q n) there) (sym (ap holders_at (others q n)) ∙ none))
           (cases_eq q k);
     }
+
+-- one holder less, and not the last, or it waits already
+staying :
+    (es : Table Count) (first : Option ℕ) (k : ℕ) (c : Count) → at es k ≡ Some c → falls c ≡ false
+    → IsChained es first → IsChained (alter es k (lowered first)) first
+staying es first k c e f h =
+    let mine : at (alter es k (lowered first)) k ≡ Some (record c { holders = c.holders - 1 }) =
+    at_some es k (lowered first) c e ∙ ap Some (lowered_stays first c f) in
+    altered es first k (lowered first) (ap is_waiting mine ∙ sym (ap is_waiting e))
+    (ap next_at mine ∙ sym (ap next_at e))
+    (λ there none. ap is_waiting mine ∙ due_stays c f (sym (ap holders_at mine) ∙ none) (λ z. sym (ap is_waiting e)
+    ∙ h.due k (rw e refl) (ap holders_at e ∙ z))) h
 
 -- a count of 0 that comes into the chain
 pub pushed :
@@ -194,26 +204,9 @@ raised_some (Some c) s z = absurd (omega (arith, z))
 pub raised_chained :
     (es : Table Count) (first : Option ℕ) (k : ℕ) → IsChained es first → IsChained (alter es k raised) first
 raised_chained es first k h =
-    let fs = alter es k raised in
-    let others : (q : ℕ) → (q ≡ k → ⊥) → at fs q ≡ at es q = λ q n. alter_other es k q raised n in
-    let mine : at fs k ≡ option_map raised (at es k) = at_alter_same es k raised in
-    let stays : (q : ℕ) → (is_waiting (at fs q) ≡ is_waiting (at es q)) × (next_at (at fs q) ≡ next_at (at es q)) =
-    λ q. ⊎_elim
-    (λ s. subst (λ (z : ℕ). (is_waiting (at fs z) ≡ is_waiting (at es z)) × (next_at (at fs z) ≡ next_at (at es z)))
-    (sym s) (ap is_waiting mine ∙ raised_waits (at es k), ap next_at mine ∙ raised_next (at es k)))
-    (λ n. (ap is_waiting (others q n), ap next_at (others q n)))
-    (cases_eq q k) in
-    record {
-      chain = h.chain;
-      linked = chain_same es fs first h.chain (λ q i. stays q) h.linked;
-      whole = λ q w. h.whole q (sym (stays q).0 ∙ w);
-      due = λ q there none. ⊎_elim
-          (λ s. absurd (raised_some (at es k) (subst IsSome mine (subst
-          (λ (z : ℕ). IsSome (at fs z)) s there)) (sym (ap holders_at mine)
-          ∙ subst (λ (z : ℕ). holders_at (at fs z) ≡ 0) s none)))
-          (λ n. (stays q).0 ∙ h.due q (subst IsSome (others q n) there) (sym (ap holders_at (others q n)) ∙ none))
-          (cases_eq q k);
-    }
+    let mine : at (alter es k raised) k ≡ option_map raised (at es k) = at_alter_same es k raised in
+    altered es first k raised (ap is_waiting mine ∙ raised_waits (at es k)) (ap next_at mine ∙ raised_next (at es k))
+    (λ there none. absurd (raised_some (at es k) (subst IsSome mine there) (sym (ap holders_at mine) ∙ none))) h
 
 pub gone_chained :
     (es : Table Count) (first : Option ℕ) (k : ℕ) → IsChained es first
