@@ -1,7 +1,10 @@
 -- What a hint that the keys bear out shows of the levels below an attached keyring.
-use Rattle.std.proofs.Common.{[], ◌+◌, ◌∙◌, ◌∷◌, ◌≡◌, ◌≤◌, ap, arith, Bool, false, List, suc, sym, true, ℕ}
+use Rattle.std.proofs.Common.{[], ◌+◌, ◌∙◌, ◌∷◌, ◌≡◌, ◌≤◌, ap, arith, Bool, false, List, Option, suc, sym, true, ℕ}
 use Rattle.std.specs.List.{list_any}
-use Rattle.krs_model.specs.Levels.{is_in, level, levels}
+use Rattle.krs_types.specs.declared.context.Context.{Context}
+use Rattle.krs_model.specs.{Levels.{is_in, level, levels, search_depth}, Possession.attached_with, State.Key}
+use Rattle.krs_model.specs.{Table.Table}
+use Rattle.krs_walk.specs.Walks.{followed_rings, follows_link_to, is_linked, is_linked_within}
 use Rattle.krs_walk.proofs.DepthLemmas.{any_deeper, any_heads}
 use Rattle.krs_walk.proofs.{ListsLemmas.{any_at, or_left, or_right}, RoundsLemmas.any_up}
 
@@ -32,3 +35,13 @@ pub within_more : (p : ℕ → Bool) (f : ℕ → List ℕ) (heads : List ℕ) (
     → list_any (λ j. list_any p (levels f (j ∷ []) m)) heads ≡ true
 within_more p f heads n m up h =
     sym (any_heads p f heads m) ∙ any_up p f heads n m up (any_heads p f heads n ∙ h)
+
+-- what the two nearest levels link is linked
+pub near_linked : (keys : Table Key) (clock : ℕ) (c : Context) (ring : Option ℕ) (serial : ℕ)
+    → list_any (is_linked_within keys clock c.caller serial 2) (attached_with c ring) ≡ true
+    → is_linked keys clock c ring serial ≡ true
+near_linked keys clock c ring serial near =
+    let test = follows_link_to keys clock c.caller serial in
+    let rings = followed_rings keys clock c.caller in
+    any_up test rings (attached_with c ring) 2 search_depth (omega arith)
+    (any_heads test rings (attached_with c ring) 2 ∙ near)
