@@ -6,7 +6,8 @@ use Rattle.std.specs.List.{AllByRecursion}
 use Rattle.std.proofs.lemmas.List.{map-append}
 use Rattle.krs_screen.specs.{Claim.voided, Counting.waiting, Front.{front_of, le32}, Reading.passed_of, Run.AreAsks}
 use Rattle.krs_screen.specs.Run.{AreFrames, AreReplies, asks_gone, crowded, gets_eperm, gone, Heard, IsRight, IsRightOf}
-use Rattle.krs_screen.specs.Run.{kept, Line, may_pass, more, named, passed_as, refused, replies_gone, Told, Verdict, Way}
+use Rattle.krs_screen.specs.Run.{kept, Line, may_pass, more, named, passed_as, refused, replies_gone, Told, Verdict}
+use Rattle.krs_screen.specs.Run.{Way}
 use Rattle.krs_screen.specs.declared.claim.Peer.{Peer}
 use Rattle.krs_screen.specs.declared.front.Front.{Front, TheVariants.{Crowd, Fault, Hello, Other, Part}}
 use Rattle.krs_screen.proofs.Growing.{front_more, IsSeated, le32_more, may_pass_more, seated, with_more}
