@@ -3,8 +3,7 @@ ghost use Rattle.std.specs.{Duration.as_nanos, IoError.raw_os_error};
 ghost use Rattle.krs_listen.specs.Accepting.{accepted_by, failed_at, is_passing};
 
 use crate::SocketEnds;
-use crate::ends::{ends_of, shared};
-use std::alloc::Global;
+use crate::ends::ends_of;
 use std::io;
 use std::os::unix::net::{UnixListener, UnixStream};
 use std::sync::Wait;
@@ -73,7 +72,6 @@ fn pause() -> Duration
 #[derive(Drop)]
 pub struct SocketAcceptor<'a, R, F> {
     rt: &'a R,
-    alloc: Global,
     listener: UnixListener,
     free: &'a F,
     accepted: u64,
@@ -82,18 +80,12 @@ pub struct SocketAcceptor<'a, R, F> {
 }
 
 impl<'a, R: Wait + Clock, F: AwaitsEnd<R>> SocketAcceptor<'a, R, F> {
-    pub fn new(
-        rt: &'a R,
-        alloc: Global,
-        listener: UnixListener,
-        free: &'a F,
-    ) -> SocketAcceptor<'a, R, F>
+    pub fn new(rt: &'a R, listener: UnixListener, free: &'a F) -> SocketAcceptor<'a, R, F>
         ensures accepted { accepted_by result ≡ 0 }
         ensures failures { failed_at result ≡ 0 }
     {
         SocketAcceptor {
             rt,
-            alloc,
             listener,
             free,
             accepted: 0,
@@ -155,16 +147,17 @@ impl<'a, R: Wait + Clock, F: AwaitsEnd<R>> SocketAcceptor<'a, R, F> {
         unreachable!()
     }
 
-    /// The ends of a stream. Where there is no memory for what they share, it waits until others have given some back.
+    /// The ends of a stream. Where no descriptor is free for the second, that is waited for as for a connection.
     fn in_two(&self, stream: UnixStream) -> io::Result<SocketEnds> {
-        let mut stream = stream;
+        let (mut stream, mut idle) = (stream, 0);
         for _ in self.rt.forever() {
-            match shared(self.alloc, stream) {
-                Ok(whole) => return Ok(ends_of(whole)?),
-                Err(refused) => {
+            match ends_of(stream) {
+                Ok(ends) => return Ok(ends),
+                Err((refused, error)) if is_tried_again(&error, idle) => {
                     stream = refused;
-                    self.free.await_end(self.rt, pause());
+                    idle = idle_after(idle, self.free.await_end(self.rt, pause()));
                 }
+                Err((_, error)) => return Err(error),
             }
         }
         unreachable!()

@@ -1,77 +1,75 @@
-//! The two ends of a connection that was accepted. The stream is closed with the last of them.
-use std::alloc::{AllocError, Global};
+//! The two ends of a connection that was accepted. What reads and writes here is proved for every stream, so it can't know
+//! that a socket shows nothing. The connection is closed with the last of them.
 use std::io;
 use std::io::{Read, Write};
 use std::os::unix::net::UnixStream;
-use std::sync::Arc;
 
-/// Where its bytes come from.
+/// Where its bytes come from. It reads what its stream reads.
 #[derive(Drop)]
-pub struct SocketReader {
-    stream: Arc<UnixStream, Global>,
+pub struct ReadEnd<S> {
+    stream: S,
 }
 
-/// Where its replies go.
+/// Where its replies go. It writes what its stream writes.
 #[derive(Drop)]
-pub struct SocketWriter {
-    stream: Arc<UnixStream, Global>,
+pub struct WriteEnd<S> {
+    stream: S,
 }
 
-/// Both ends of one connection. Only `ends_of` makes them, of one stream, so that nobody joins an end of one connection to
-/// an end of another.
+/// Both ends of one connection. Only `ends_of` makes them, of one stream, so that nobody joins an end of one connection
+/// to an end of another.
 #[derive(Drop)]
-pub struct SocketEnds {
-    reader: SocketReader,
-    writer: SocketWriter,
+pub struct BothEnds<S> {
+    reader: ReadEnd<S>,
+    writer: WriteEnd<S>,
 }
 
-impl SocketEnds {
+pub type SocketReader = ReadEnd<UnixStream>;
+
+pub type SocketWriter = WriteEnd<UnixStream>;
+
+pub type SocketEnds = BothEnds<UnixStream>;
+
+impl<S> BothEnds<S> {
     ghost use Rattle.std.specs.Prelude.{◌≡◌};
     ghost use Rattle.krs_listen.specs.Ends.{reader_of, writer_of};
 
-    pub fn into_two(self) -> (SocketReader, SocketWriter)
+    pub fn into_two(self) -> (ReadEnd<S>, WriteEnd<S>)
         ensures reader { result.0 ≡ reader_of self }
         ensures writer { result.1 ≡ writer_of self }
     {
-        let SocketEnds { reader, writer } = self;
+        let BothEnds { reader, writer } = self;
         (reader, writer)
     }
 }
 
-/// What both ends of a connection share, if there is memory for it. Else the stream comes back.
-pub(crate) fn shared(
-    alloc: Global,
-    stream: UnixStream,
-) -> Result<Arc<UnixStream, Global>, UnixStream> {
-    match Arc::new(alloc, stream) {
-        Ok(shared) => Ok(shared),
-        Err(refused) => Err(refused.value),
+/// Both ends, each over a descriptor of its own. Where none is free for the second, the stream comes back, and why.
+pub(crate) fn ends_of(stream: UnixStream) -> Result<SocketEnds, (UnixStream, io::Error)> {
+    match stream.try_clone() {
+        Ok(other) => Ok(BothEnds {
+            reader: ReadEnd { stream },
+            writer: WriteEnd { stream: other },
+        }),
+        Err(error) => Err((stream, error)),
     }
 }
 
-/// Both ends. There are never too many ends to count.
-pub(crate) fn ends_of(stream: Arc<UnixStream, Global>) -> Result<SocketEnds, AllocError> {
-    let other = Arc::try_clone(&stream)?;
-    Ok(SocketEnds {
-        reader: SocketReader { stream },
-        writer: SocketWriter { stream: other },
-    })
-}
+impl<S: Read> Read for ReadEnd<S> {
+    ghost remaining = { λ end. S.remaining end.stream };
 
-impl Read for SocketReader {
     fn read(&mut self, room: &mut [u8]) -> io::Result<usize> {
-        let mut stream: &UnixStream = &self.stream;
-        stream.read(room)
+        self.stream.read(room)
     }
 }
 
-impl Write for SocketWriter {
+impl<S: Write> Write for WriteEnd<S> {
+    ghost contents = { λ end. S.contents end.stream };
+
     fn write(&mut self, piece: &[u8]) -> io::Result<usize> {
-        let mut stream: &UnixStream = &self.stream;
-        stream.write(piece)
+        self.stream.write(piece)
     }
 
     fn flush(&mut self) -> io::Result<()> {
-        Ok(())
+        self.stream.flush()
     }
 }

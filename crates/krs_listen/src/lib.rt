@@ -16,7 +16,7 @@ mod timeline;
 pub use acceptor::{Accepted, Accepts, AwaitsEnd, SocketAcceptor};
 pub use choice::{Choice, choose};
 pub use clock::{DaemonClock, Latest};
-pub use ends::{SocketEnds, SocketReader, SocketWriter};
+pub use ends::{BothEnds, ReadEnd, SocketEnds, SocketReader, SocketWriter, WriteEnd};
 pub use free::FreeSeats;
 pub use options::Options;
 pub use saying::{Lines, NOT_ACCEPTED, NOT_BOUND, OUT_OF_MEMORY, USAGE, Voice, Voices};

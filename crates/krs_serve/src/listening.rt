@@ -78,7 +78,7 @@ fn accept_over<
     ensures told { TellsAccepted result.0 (heard W.contents voices.old.output) (heard W.contents voices.new.output) }
     ensures cause { TellsFailure result.0 (heard E.contents voices.old.errors) (heard E.contents voices.new.errors) }
 {
-    let mut acceptor = SocketAcceptor::new(hosting.rt, hosting.alloc, listener, hosting.free);
+    let mut acceptor = SocketAcceptor::new(hosting.rt, listener, hosting.free);
     let mut hosted = Hosted::none();
     let accepted = accept_each(
         hosting,
