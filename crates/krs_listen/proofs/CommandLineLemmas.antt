@@ -6,7 +6,7 @@ use Rattle.clap.specs.declared.error.Error.{Error}
 use Rattle.clap.specs.declared.error.kind.ErrorKind.TheVariants.{DisplayHelp, DisplayVersion, OutOfMemory}
 use Rattle.clap.specs.declared.parser.matches.Found.{Found}
 use Rattle.std.specs.Str.Parse.{ParsesUnsigned}
-use Rattle.krs_listen.specs.{Choice.{choice_by, LeadsTo, Tells}, CommandLine.{daemon, Gives, IsGiven, Spells}}
+use Rattle.krs_listen.specs.{Choice.{choice_by, IsToldAs, LeadsTo}, CommandLine.{daemon, Gives, IsGiven, Spells}}
 use Rattle.krs_listen.specs.declared.choice.Choice.{Choice, TheVariants.{Memory, Refused, Serve, Shown, Usage}}
 use Rattle.krs_listen.specs.declared.options.Options.{Options}
 
@@ -53,7 +53,7 @@ not_version e = search rules
 
 -- what is told of an error that `clap` found in the words
 leads_by_fault : (faults : Kinds) (error : Error) (text : Option (List ℕ)) (choice : Choice) → HasKind faults error
-    → Tells (kind_of error) text choice → (words : List (List ℕ)) → faults ≡ fault_of daemon words
+    → IsToldAs (kind_of error) text choice → (words : List (List ℕ)) → faults ≡ fault_of daemon words
     → LeadsTo words choice
 leads_by_fault faults error text (Serve options) has told words same = absurd told
 leads_by_fault faults error text Usage has told words same = absurd told
@@ -76,7 +76,7 @@ leads_by_fault faults error text (Refused refused) has told words same = elim ha
 -- what words lead to of which options were read
 pub leads_of_read : (read : Result (Option Options) Error) (words : List (List ℕ)) (choice : Choice)
     → IfOk read (Spells words) → FailsBy (fault_of daemon words) read → IfOk read (λ options. choice ≡ choice_by options)
-    → IfErr read (λ error. (text : Option (List ℕ)) × Tells (kind_of error) text choice) → LeadsTo words choice
+    → IfErr read (λ error. (text : Option (List ℕ)) × IsToldAs (kind_of error) text choice) → LeadsTo words choice
 leads_of_read (Ok None) words choice spelled faults is told =
     subst (λ (ch : Choice). LeadsTo words ch) (sym is) (spelled, faults)
 leads_of_read (Ok (Some options)) words choice spelled faults is told =

@@ -19,13 +19,13 @@ wanted_text kind = []
 
 -- What is told for a kind of error of the reader of options, and the error's text, where memory was there for it: help
 -- and version are shown, all others refused.
-abbrev pub Tells : ErrorKind → Option (List ℕ) → Choice → Type 0
-Tells kind text (Serve options) = ⊥
-Tells kind text Usage = ⊥
-Tells kind text Memory = (kind ≡ OutOfMemory) ⊎ (text ≡ None)
-Tells kind text (Shown shown) =
+abbrev pub IsToldAs : ErrorKind → Option (List ℕ) → Choice → Type 0
+IsToldAs kind text (Serve options) = ⊥
+IsToldAs kind text Usage = ⊥
+IsToldAs kind text Memory = (kind ≡ OutOfMemory) ⊎ (text ≡ None)
+IsToldAs kind text (Shown shown) =
     ((kind ≡ DisplayHelp) ⊎ (kind ≡ DisplayVersion)) × (text ≡ Some (string_bytes shown))
-Tells kind text (Refused refused) =
+IsToldAs kind text (Refused refused) =
     (kind ≢ DisplayHelp) × (kind ≢ DisplayVersion) × (kind ≢ OutOfMemory) × (text ≡ Some (string_bytes refused))
 
 -- words that cannot be had: there was no memory for them, or they are no text, which is usage

@@ -33,14 +33,14 @@ TellsAccepted Failed old new = Says old new (codes "error: accept\n")
 
 -- What it prints and tells at its end, and its status: its last connection was served, and nothing is told, or an accept
 -- failed, and why is told.
-abbrev pub Ends : ℕ → Heard → Heard → Heard → Heard → ℕ → Type 0
-Ends connections old new old_errors new_errors status =
+abbrev pub SaysAsItEnds : ℕ → Heard → Heard → Heard → Heard → ℕ → Type 0
+SaysAsItEnds connections old new old_errors new_errors status =
     (Says old new (served_line connections) × (new_errors ≡ old_errors) × (status ≡ 0))
     ⊎ (Says old new (codes "error: accept\n") × TellsOf (codes "accept") old_errors new_errors × (status ≡ 3))
 
 -- the same, by what its acceptor counted
-abbrev pub EndsAs : ℕ → ℕ → ℕ → Heard → Heard → Heard → Heard → ℕ → Type 0
-EndsAs connections accepted failures old new old_errors new_errors status =
+abbrev pub SaysAsItEndsBy : ℕ → ℕ → ℕ → Heard → Heard → Heard → Heard → ℕ → Type 0
+SaysAsItEndsBy connections accepted failures old new old_errors new_errors status =
     (AcceptsBy connections 0 accepted 0 failures All
     × Says old new (served_line connections) × (new_errors ≡ old_errors) × (status ≡ 0))
     ⊎ (AcceptsBy connections 0 accepted 0 failures Failed
@@ -48,18 +48,18 @@ EndsAs connections accepted failures old new old_errors new_errors status =
 
 -- What a daemon prints and tells by its options, with its status: it lacks memory, or can't bind its path and tells why,
 -- or it listens and then ends. Of a line that an output fails to take whole a beginning is written, and it goes on.
-abbrev pub Serves : Options → Heard → Heard → Heard → Heard → ℕ → Type 0
-Serves options old new old_errors new_errors status =
+abbrev pub SaysAsItServes : Options → Heard → Heard → Heard → Heard → ℕ → Type 0
+SaysAsItServes options old new old_errors new_errors status =
     (Says old new (codes "error 12 ENOMEM\n") × (new_errors ≡ old_errors) × (status ≡ 1))
     ⊎ ((Says old new (codes "error: socket\n") × TellsOf (string_bytes options.path) old_errors new_errors × (status ≡ 3))
     ⊎ ((listening : Heard) × Says old listening (listening_line (string_bytes options.path))
-    × Ends (connections_of options.accept) listening new old_errors new_errors status))
+    × SaysAsItEnds (connections_of options.accept) listening new old_errors new_errors status))
 
 -- What is printed, what is told on standard error, and the status. What is refused of the words is told, and nothing is
 -- printed.
 abbrev pub Answers : Choice → Heard → Heard → Heard → Heard → ℕ → Type 0
 Answers (Serve options) old new old_errors new_errors status =
-    Serves options old new old_errors new_errors status
+    SaysAsItServes options old new old_errors new_errors status
 Answers Usage old new old_errors new_errors status =
     Says old new (codes "usage\n") × (status ≡ 2) × Says old_errors new_errors not_text
 Answers Memory old new old_errors new_errors status =

@@ -2,7 +2,7 @@ ghost use Rattle.std.specs.Prelude.{◌≡◌, false, IfErr, IfOk, List, map, On
 ghost use Rattle.std.specs.Prelude.{ℕ};
 ghost use Rattle.clap.specs.Words.{app_of, FailsBy, fault_of, found_of, kind_of, new_rule, rule_of};
 ghost use Rattle.std.specs.{IoError.error_kind, Vec.Iter.into_iter_items};
-ghost use Rattle.krs_listen.specs.Choice.{choice_by, IsUnread, LeadsTo, Tells, wanted_text};
+ghost use Rattle.krs_listen.specs.Choice.{choice_by, IsToldAs, IsUnread, LeadsTo, wanted_text};
 ghost use Rattle.krs_listen.specs.CommandLine.{accept_rule, daemon, Gives, lanes_rule, socket_rule, Spells};
 ghost use Rattle.krs_listen.specs.declared.choice.Choice.TheVariants.{Memory};
 
@@ -85,7 +85,7 @@ fn choice_of_all(alloc: Global, words: Result<Vec<String>, AllocError>) -> Choic
 /// What was read of the words is served, or is usage; an error is told.
 fn choice_of(alloc: Global, read: Result<Option<Options>, Error>) -> Choice
     ensures read { IfOk read (λ options. result ≡ choice_by options) }
-    ensures told { IfErr read (λ error. (text : Option (List ℕ)) × Tells (kind_of error) text result) }
+    ensures told { IfErr read (λ error. (text : Option (List ℕ)) × IsToldAs (kind_of error) text result) }
 {
     match read {
         Ok(Some(options)) => Choice::Serve(options),
@@ -110,7 +110,7 @@ fn next_for(kind: ErrorKind) -> &'static str
 
 /// What is told in place of what the words ask for: the text of the reader's error, if memory was there for it.
 fn told(error: &Error, text: Option<String>) -> Choice
-    ensures { Tells (kind_of error.now) (option_map string_bytes text) result }
+    ensures { IsToldAs (kind_of error.now) (option_map string_bytes text) result }
 {
     if error.kind() == ErrorKind::OutOfMemory {
         return Choice::Memory;

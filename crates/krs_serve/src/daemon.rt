@@ -4,7 +4,7 @@ ghost use Rattle.krs_model.specs.State.{starting_at};
 ghost use Rattle.krs_links.specs.Seeded.{random_seed};
 ghost use Rattle.krs_desk.specs.Sitting.{fresh_seats, IsIdleAt};
 ghost use Rattle.krs_listen.specs.Choice.{IsUnread, LeadsTo};
-ghost use Rattle.krs_listen.specs.Daemon.{Answers, connections_of, EndsAs, served_line, Serves};
+ghost use Rattle.krs_listen.specs.Daemon.{Answers, connections_of, SaysAsItEndsBy, SaysAsItServes, served_line};
 ghost use Rattle.krs_listen.specs.{Saying.heard, declared.choice.Choice.Choice as ChoiceIs};
 ghost use Rattle.krs_serve.specs.Visits.{IsNew};
 
@@ -136,7 +136,7 @@ fn serve_all<
     voices: &mut Voices<W, E>,
 ) -> (u8, Accepts)
     requires { string_bytes lines.now.served ≡ served_line connections }
-    ensures { EndsAs connections result.1.accepted result.1.failures
+    ensures { SaysAsItEndsBy connections result.1.accepted result.1.failures
         (heard W.contents voices.old.output) (heard W.contents voices.new.output)
         (heard E.contents voices.old.errors) (heard E.contents voices.new.errors) result.0 }
 {
@@ -159,7 +159,7 @@ pub fn listen<R: Clock + Files + Net + RandomSource + Threads + Wait + Sync, W: 
     options: &Options,
     voices: &mut Voices<W, E>,
 ) -> u8
-    ensures { Serves options.now (heard W.contents voices.old.output) (heard W.contents voices.new.output)
+    ensures { SaysAsItServes options.now (heard W.contents voices.old.output) (heard W.contents voices.new.output)
         (heard E.contents voices.old.errors) (heard E.contents voices.new.errors) result }
 {
     let Ok((desk, seats)) = opened(rt, alloc, options) else {
@@ -187,7 +187,7 @@ fn listen_at<
     requires own { All (IsIdleAt desk.now) seats.items }
     requires empty { All (λ seat. seat.opening ≡ starting_at 3) seats.items }
     requires unasked { All IsNew seats.items }
-    ensures { Serves options.now (heard W.contents voices.old.output) (heard W.contents voices.new.output)
+    ensures { SaysAsItServes options.now (heard W.contents voices.old.output) (heard W.contents voices.new.output)
         (heard E.contents voices.old.errors) (heard E.contents voices.new.errors) result }
 {
     let path = options.path.as_str();
