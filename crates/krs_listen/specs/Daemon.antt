@@ -31,8 +31,8 @@ abbrev pub TellsAccepted : Accepted → Heard → Heard → Type 0
 TellsAccepted All old new = new ≡ old
 TellsAccepted Failed old new = Says old new (codes "error: accept\n")
 
--- What it prints and tells at its end, and its status: its last connection was served, and nothing is told, or an accept
--- failed, and why is told.
+-- What it prints and tells at its end, and its status: its last connection was served, and nothing is told, or an
+-- accept failed, and why is told.
 abbrev pub SaysAsItEnds : ℕ → Heard → Heard → Heard → Heard → ℕ → Type 0
 SaysAsItEnds connections old new old_errors new_errors status =
     (Says old new (served_line connections) × (new_errors ≡ old_errors) × (status ≡ 0))

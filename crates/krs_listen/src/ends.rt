@@ -1,5 +1,5 @@
-//! The two ends of a connection that was accepted. What reads and writes here is proved for every stream, so it can't know
-//! that a socket shows nothing. The connection is closed with the last of them.
+//! The two ends of a connection that was accepted. What reads and writes here is proved for every stream, so it can't
+//! know that a socket shows nothing. The connection is closed with the last of them.
 use std::io;
 use std::io::{Read, Write};
 use std::os::unix::net::UnixStream;
