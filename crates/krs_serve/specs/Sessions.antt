@@ -3,8 +3,8 @@ use Rattle.std.specs.Prelude.{◌+◌, ◌-◌, ◌≢◌, ◌≤◌, List, ℕ}
 use Rattle.krs_types.specs.declared.event.Event.{Event}
 use Rattle.krs_desk.specs.Sitting.{Sitting}
 use Rattle.krs_wire.specs.declared.fault.WireFault.TheVariants.{Memory}
-use Rattle.krs_session.specs.{Leads.Leads, Session.{Counts, counts_of, EndsBy, Session}, declared.ended.Ended.Ended}
-use Rattle.krs_session.specs.declared.ended.Ended.TheVariants.{Wire}
+use Rattle.krs_session.specs.{Calls.MakesCalls, Session.{Counts, counts_of, EndsBy, Session}}
+use Rattle.krs_session.specs.declared.ended.Ended.{Ended, TheVariants.Wire}
 use Rattle.krs_serve.specs.declared.entry.Entry.{Entry}
 use Rattle.krs_session.specs.declared.clock.Clock as clocks
 use Rattle.krs_session.specs.declared.source_and_sink.Sink as sinks
@@ -39,7 +39,7 @@ pub record ServesEntry {R C W S : Type 0} (source : sources.Ghosts R) (timer : c
 abbrev pub ServesAtDesk : {R C W : Type 0} → sources.Ghosts R → clocks.Ghosts C → sinks.Ghosts W → ℕ → Entry R W C
     → Sitting → Sitting → Ended → Type 0
 ServesAtDesk source timer sink turns connection seat last_seat ended =
-    ServesEntry source timer sink Leads (λ s. s.part.lane) turns connection seat last_seat ended
+    ServesEntry source timer sink MakesCalls (λ s. s.part.lane) turns connection seat last_seat ended
 
 -- the same, whatever it left of its seat too
 pub record EndsSession {R C W S : Type 0} (source : sources.Ghosts R) (timer : clocks.Ghosts C) (sink : sinks.Ghosts W)

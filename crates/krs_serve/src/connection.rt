@@ -5,7 +5,7 @@ ghost use Rattle.krs_types.specs.declared.event.Event.{Event};
 ghost use Rattle.krs_model.specs.State.{starting_at};
 ghost use Rattle.krs_desk.specs.{Seen.IsOneHistory, Sitting.{IsIdleAt, Meets}};
 ghost use Rattle.krs_wire.specs.declared.framed.Framed.{Framed};
-ghost use Rattle.krs_session.specs.Leads.{GainsSession};
+ghost use Rattle.krs_session.specs.Calls.{GainsSession};
 ghost use Rattle.krs_session.specs.{Over.over_end, Session.{counts_of, HaveRoom}, declared.ended.Ended.Ended};
 ghost use Rattle.krs_listen.specs.Ends.{reader_of, writer_of};
 ghost use Rattle.krs_serve.specs.{Sessions.{entry, ServesAtDesk}, Visits.{HasJustItsCalls, IsNew, IsVisited}};

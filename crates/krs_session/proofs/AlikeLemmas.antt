@@ -10,7 +10,7 @@ use Rattle.krs_desk.specs.Sitting.{Sitting}
 use Rattle.krs_wire.specs.{Reply.reply_frame, declared.framed.Framed.Framed}
 use Rattle.krs_session.specs.Alike.{AnswersByReadsAlone, AnswersDifferInReads, ReadAlike, WritesByReadsAlone}
 use Rattle.krs_session.specs.Events.{replies_of, session_text, tags_in}
-use Rattle.krs_session.specs.{Leads.GainsSession, Session.{AreAll, AreFirst, ServesBytes, TookFront}}
+use Rattle.krs_session.specs.{Calls.GainsSession, Session.{AreAll, AreFirst, ServesBytes, TookFront}}
 use Rattle.krs_session.specs.declared.ended.Ended.{Ended, TheVariants.{Closed, Memory, Read, Turns, Wire, Write}}
 
 not_none : (xs : List Event) (x : Event) → xs ++ x ∷ [] ≢ []

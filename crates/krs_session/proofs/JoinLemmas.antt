@@ -7,7 +7,8 @@ use Rattle.krs_model.specs.{History.event_of, Lists.Begins}
 use Rattle.krs_store.specs.{Told.{bytes_of, reply_of}, declared.told.Told.Told}
 use Rattle.krs_wire.specs.{Reply.reply_frame, declared.framed.Framed.Framed}
 use Rattle.krs_session.specs.Events.{AllOfLane, asks_in, asks_of, moments_of, replies_of, reply_text, session_text}
-use Rattle.krs_session.specs.{Replies.{HoldsFrame, TellsNext}, Serving.{Answers, Asked, Holds, IsAskedAnew, Pending}}
+use Rattle.krs_session.specs.Replies.{HoldsFrame, TellsNext}
+use Rattle.krs_session.specs.Serving.{AsksAndHolds, AsksAndWrites, Asked, IsAskedAnew, Pending}
 use Rattle.krs_session.specs.{Serving.{PendingNext, StopsBy, StopsNext, Wrote}, Session.TookFront}
 use Rattle.krs_session.specs.declared.ended.Ended.{Ended, TheVariants.{Closed, Memory, Read, Turns, Wire, Write}}
 use Rattle.krs_session.specs.declared.replies.Replies.{Replies}
@@ -167,11 +168,11 @@ module _ {S C W : Type 0} (leads : S → List Event → S → Type 0) (ticked : 
     (joins : Joins took) where
   holds_by : (lane : ℕ) (s0 s1 s2 : S) (c0 c1 c2 : C) (w0 w1 w2 : W) (held1 held2 : List ℕ)
       (frames : List Framed) (framed : Framed) (event : Event) (stop result : Option Ended)
-      → Holds leads ticked took lane s0 s1 c0 c1 w0 w1 held1 frames stop → event.ask ≡ framed.ask
+      → AsksAndHolds leads ticked took lane s0 s1 c0 c1 w0 w1 held1 frames stop → event.ask ≡ framed.ask
       → Asked leads ticked lane s1 s2 c1 c2 (event ∷ [])
       → ((xs : List ℕ) → Pending took w0 w1 held1 xs stop
       → Pending took w0 w2 held2 (xs ++ reply_text framed event.reply) result)
-      → Holds leads ticked took lane s0 s2 c0 c2 w0 w2 held2 (frames ++ framed ∷ []) result
+      → AsksAndHolds leads ticked took lane s0 s2 c0 c2 w0 w2 held2 (frames ++ framed ∷ []) result
   holds_by lane s0 s1 s2 c0 c1 c2 w0 w1 w2 held1 held2 frames framed event stop result a same one next =
       let before : List ℕ = session_text frames (replies_of a.events) in
       let text : session_text (frames ++ framed ∷ []) (replies_of (a.events ++ event ∷ []))
@@ -190,10 +191,10 @@ module _ {S C W : Type 0} (leads : S → List Event → S → Type 0) (ticked : 
 
   pub holds_more : (lane : ℕ) (s0 s1 s2 : S) (c0 c1 c2 : C) (w0 w1 w2 : W) (held1 held2 : List ℕ)
       (frames : List Framed) (framed : Framed) (event : Event) (stop result : Option Ended)
-      → Holds leads ticked took lane s0 s1 c0 c1 w0 w1 held1 frames stop → event.ask ≡ framed.ask
+      → AsksAndHolds leads ticked took lane s0 s1 c0 c1 w0 w1 held1 frames stop → event.ask ≡ framed.ask
       → Asked leads ticked lane s1 s2 c1 c2 (event ∷ [])
       → PendingNext took w1 w2 held1 held2 (reply_text framed event.reply) stop result
-      → Holds leads ticked took lane s0 s2 c0 c2 w0 w2 held2 (frames ++ framed ∷ []) result
+      → AsksAndHolds leads ticked took lane s0 s2 c0 c2 w0 w2 held2 (frames ++ framed ∷ []) result
   holds_more lane s0 s1 s2 c0 c1 c2 w0 w1 w2 held1 held2 frames framed event stop result a same one next =
       holds_by lane s0 s1 s2 c0 c1 c2 w0 w1 w2 held1 held2 frames framed event stop result a same one
       (λ xs pending. pending_next took joins w0 w1 w2 held1 held2 xs (reply_text framed event.reply) stop result
@@ -202,21 +203,21 @@ module _ {S C W : Type 0} (leads : S → List Event → S → Type 0) (ticked : 
   -- the reply is held at once
   pub holds_taken : (lane : ℕ) (s0 s1 s2 : S) (c0 c1 c2 : C) (w0 w1 : W) (held1 held2 : List ℕ)
       (frames : List Framed) (framed : Framed) (event : Event) (stop : Option Ended)
-      → Holds leads ticked took lane s0 s1 c0 c1 w0 w1 held1 frames stop → event.ask ≡ framed.ask
+      → AsksAndHolds leads ticked took lane s0 s1 c0 c1 w0 w1 held1 frames stop → event.ask ≡ framed.ask
       → Asked leads ticked lane s1 s2 c1 c2 (event ∷ [])
       → held2 ≡ held1 ++ reply_text framed event.reply
-      → Holds leads ticked took lane s0 s2 c0 c2 w0 w1 held2 (frames ++ framed ∷ []) stop
+      → AsksAndHolds leads ticked took lane s0 s2 c0 c2 w0 w1 held2 (frames ++ framed ∷ []) stop
   holds_taken lane s0 s1 s2 c0 c1 c2 w0 w1 held1 held2 frames framed event stop a same one is =
       holds_by lane s0 s1 s2 c0 c1 c2 w0 w1 w1 held1 held2 frames framed event stop stop a same one
       (λ xs pending. pending_taken took joins w0 w1 held1 held2 xs (reply_text framed event.reply) stop is pending)
 
   pub holds_told : (lane at moment : ℕ) (s0 s1 s2 : S) (c0 c1 c2 : C) (w0 w1 w2 : W) (out0 out1 out2 : Replies)
       (frames : List Framed) (framed : Framed) (told : Told) (stop result : Option Ended)
-      → Holds leads ticked took lane s0 s1 c0 c1 w0 w1 out0.bytes.items frames stop
+      → AsksAndHolds leads ticked took lane s0 s1 c0 c1 w0 w1 out0.bytes.items frames stop
       → Asked leads ticked lane s1 s2 c1 c2 (event_of at moment framed.ask (reply_of told) ∷ [])
       → HoldsFrame out0 (bytes_of told) out1 → out0.tag ≡ framed.tag
       → TellsNext took w1 w2 out1 out2 framed.tag told stop result
-      → Holds leads ticked took lane s0 s2 c0 c2 w0 w2 out2.bytes.items (frames ++ framed ∷ []) result
+      → AsksAndHolds leads ticked took lane s0 s2 c0 c2 w0 w2 out2.bytes.items (frames ++ framed ∷ []) result
   holds_told lane at moment s0 s1 s2 c0 c1 c2 w0 w1 w2 out0 out1 out2 frames framed (tolds.Reply reply) stop result a one held
       tag next =
       holds_more lane s0 s1 s2 c0 c1 c2 w0 w1 w2 out0.bytes.items out2.bytes.items frames framed
@@ -225,14 +226,14 @@ module _ {S C W : Type 0} (leads : S → List Event → S → Type 0) (ticked : 
       held next)
   holds_told lane at moment s0 s1 s2 c0 c1 c2 w0 w1 w2 out0 out1 out2 frames framed (tolds.Taken bytes) stop result a one held
       tag next =
-      subst (λ (z : W × Option Ended). Holds leads ticked took lane s0 s2 c0 c2 w0 z.0 out2.bytes.items
+      subst (λ (z : W × Option Ended). AsksAndHolds leads ticked took lane s0 s2 c0 c2 w0 z.0 out2.bytes.items
       (frames ++ framed ∷ []) z.1) (λ i. (sym next.0 i, sym next.2 i))
       (holds_taken lane s0 s1 s2 c0 c1 c2 w0 w1 out0.bytes.items out2.bytes.items frames framed
       (event_of at moment framed.ask (Ok (Bytes bytes.value))) stop a refl one
       (next.1 ∙ (held ∙ ap (λ (t : Option ℕ). out0.bytes.items ++ reply_frame t (Ok (Bytes bytes.value))) tag)))
 
   pub holds_none : (lane : ℕ) (s0 : S) (c0 : C) (w0 : W) (held : List ℕ) → leads s0 [] s0 → ticked c0 [] c0
-      → took w0 [] w0 → held ≡ [] → Holds leads ticked took lane s0 s0 c0 c0 w0 w0 held [] None
+      → took w0 [] w0 → held ≡ [] → AsksAndHolds leads ticked took lane s0 s0 c0 c0 w0 w0 held [] None
   holds_none lane s0 c0 w0 held a b d none =
       record {
         events = [];
@@ -243,8 +244,8 @@ module _ {S C W : Type 0} (leads : S → List Event → S → Type 0) (ticked : 
 
   -- what is held is written in the end, unless something stopped the writing
   pub holds_wrote : (lane : ℕ) (s0 s1 s2 : S) (c0 c1 : C) (w0 w1 w2 : W) (held : List ℕ) (frames : List Framed)
-      (result : Option Ended) → Holds leads ticked took lane s0 s1 c0 c1 w0 w1 held frames None → leads s1 [] s2
-      → Wrote took w1 w2 held result → Answers leads ticked took lane s0 s2 c0 c1 w0 w2 frames result
+      (result : Option Ended) → AsksAndHolds leads ticked took lane s0 s1 c0 c1 w0 w1 held frames None → leads s1 [] s2
+      → Wrote took w1 w2 held result → AsksAndWrites leads ticked took lane s0 s2 c0 c1 w0 w2 frames result
   holds_wrote lane s0 s1 s2 c0 c1 w0 w1 w2 held frames result a still wrote =
       record {
         events = a.events;

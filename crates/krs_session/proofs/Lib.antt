@@ -1,4 +1,4 @@
 pub mod JoinLemmas
 pub mod PieceLemmas
-pub mod LeadLemmas
+pub mod CallLemmas
 pub mod AlikeLemmas

@@ -5,7 +5,7 @@ use Rattle.krs_model.specs.{Hiding.{Hides, Hiding}, Lists.Begins, Secrecy.{AreAs
 use Rattle.krs_desk.specs.Sitting.{Sitting}
 use Rattle.krs_wire.specs.declared.framed.Framed.{Framed}
 use Rattle.krs_session.specs.Events.{replies_of, session_text, tags_in}
-use Rattle.krs_session.specs.{Leads.GainsSession, Session.ServesBytes, declared.ended.Ended.Ended}
+use Rattle.krs_session.specs.{Calls.GainsSession, Session.ServesBytes, declared.ended.Ended.Ended}
 
 -- Two sessions of one lane: from the seat s to t, which asked these frames by these events and then LEAVE, and from u
 -- to v. The seats had made as many calls before, and what they have then seen, with all others' calls, are histories

@@ -1,6 +1,6 @@
 pub mod Events
 pub mod Session
-pub mod Leads
+pub mod Calls
 pub mod Long
 pub mod Alike
 pub mod Serving

@@ -56,7 +56,7 @@ StopsNext old new None result = StopsBy old new result
 StopsNext old new (Some stop) result = (new ≡ old) × (result ≡ Some stop)
 
 -- the asks of these frames were made, and the replies were written
-pub record Answers {S C W : Type 0} (leads : S → List Event → S → Type 0) (ticked : C → List ℕ → C → Type 0)
+pub record AsksAndWrites {S C W : Type 0} (leads : S → List Event → S → Type 0) (ticked : C → List ℕ → C → Type 0)
     (took : W → List ℕ → W → Type 0) (lane : ℕ) (seat0 seat1 : S) (clock0 clock1 : C) (writer0 writer1 : W)
     (frames : List Framed) (stop : Option Ended) : Type 0 where
   pub events : List Event
@@ -65,7 +65,7 @@ pub record Answers {S C W : Type 0} (leads : S → List Event → S → Type 0) 
   pub wrote : Wrote took writer0 writer1 (session_text frames (replies_of events)) stop
 
 -- the asks of these frames were made, and this is held of the text of the replies
-pub record Holds {S C W : Type 0} (leads : S → List Event → S → Type 0) (ticked : C → List ℕ → C → Type 0)
+pub record AsksAndHolds {S C W : Type 0} (leads : S → List Event → S → Type 0) (ticked : C → List ℕ → C → Type 0)
     (took : W → List ℕ → W → Type 0) (lane : ℕ) (seat0 seat1 : S) (clock0 clock1 : C) (writer0 writer1 : W)
     (held : List ℕ) (frames : List Framed) (stop : Option Ended) : Type 0 where
   pub events : List Event

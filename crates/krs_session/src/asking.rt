@@ -5,7 +5,8 @@ ghost use Rattle.krs_model.specs.History.{event_of};
 ghost use Rattle.krs_store.specs.Told.{bytes_of, reply_of};
 ghost use Rattle.krs_wire.specs.Reply.{reply_frame};
 ghost use Rattle.krs_session.specs.{Long.is_long, Replies.{HoldsFrame, TellsNext}};
-ghost use Rattle.krs_session.specs.Serving.{Answers, Asked, Holds, IsAskedAnew, PendingNext, StopsBy, StopsNext};
+ghost use Rattle.krs_session.specs.Serving.{AsksAndHolds, AsksAndWrites, Asked, IsAskedAnew};
+ghost use Rattle.krs_session.specs.Serving.{PendingNext, StopsBy, StopsNext};
 
 use crate::writing::{flush, forget, send_reply};
 use crate::{Clock, Ended, Gate, Keeper, Point, Replies, Sink};
@@ -176,7 +177,7 @@ fn ask_all<H, W: Sink, S, D: Keeper<S, H>, C: Clock, G: Gate>(
     requires ready { D.ready setting.now.desk.now seat.old }
     requires failures { W.failures writer.old < u64.MAX }
     requires empty { out.old.bytes.items ≡ [] }
-    ensures holds { Holds D.leads C.ticked W.took (D.lane_of seat.old) seat.old seat.new clock.old clock.new
+    ensures holds { AsksAndHolds D.leads C.ticked W.took (D.lane_of seat.old) seat.old seat.new clock.old clock.new
         writer.old writer.new out.new.bytes.items frames.old.items result }
     ensures count { StopsBy (W.failures writer.old) (W.failures writer.new) result }
     ensures anew { frames.old.items ≢ [] → IsAskedAnew C.renewed clock.old }
@@ -209,7 +210,7 @@ pub(crate) fn answer_all<H, W: Sink, S, D: Keeper<S, H>, C: Clock, G: Gate>(
 ) -> Option<Ended>
     requires ready { D.ready setting.now.desk.now seat.old }
     requires failures { W.failures writer.old < u64.MAX }
-    ensures answers { Answers D.leads C.ticked W.took (D.lane_of seat.old)
+    ensures answers { AsksAndWrites D.leads C.ticked W.took (D.lane_of seat.old)
         seat.old seat.new clock.old clock.new writer.old writer.new frames.old.items result }
     ensures count { StopsBy (W.failures writer.old) (W.failures writer.new) result }
     ensures ready { D.ready setting.now.desk.now seat.new }

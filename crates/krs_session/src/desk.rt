@@ -9,14 +9,14 @@ use std::sync::Wait;
 
 impl<R: Wait> Keeper<Seat, R> for Desk {
     ghost use Rattle.std.specs.Prelude.{◌≡◌};
-    ghost use Rattle.krs_session.specs.Leads.{Leads, leads_both, leads_none};
+    ghost use Rattle.krs_session.specs.Calls.{MakesCalls, makes_both, makes_none};
 
     ghost ready = { IsIdleAt };
 
     ghost lane_of = { λ s. s.part.lane };
 
     // Each event is a call, at the seat that the one before it left.
-    ghost leads = { Leads };
+    ghost leads = { MakesCalls };
 
     ghost rested = { λ s. s.kept ≡ 0 };
 
@@ -52,7 +52,7 @@ impl<R: Wait> Keeper<Seat, R> for Desk {
         Desk::tell_lack(self, told, lack);
     }
 
-    ghost starts = { leads_none };
+    ghost starts = { makes_none };
 
-    ghost joins = { leads_both };
+    ghost joins = { makes_both };
 }

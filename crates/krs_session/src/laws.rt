@@ -3,7 +3,7 @@ ghost use Rattle.std.specs.Prelude.{[], ◌++◌, ◌∷◌, List, ℕ};
 ghost use Rattle.krs_types.specs.declared.event.Event.{Event};
 ghost use Rattle.krs_desk.specs.Sitting.{Sitting};
 ghost use Rattle.krs_session.specs.Alike.{AnswersByReadsAlone, AnswersDifferInReads, WritesByReadsAlone};
-ghost use Rattle.krs_session.specs.Leads.{GainsSession, GainsTheirCalls, Leads};
+ghost use Rattle.krs_session.specs.Calls.{GainsSession, GainsTheirCalls, MakesCalls};
 ghost use Rattle.krs_session.specs.{Session.Session, declared.ended.Ended.Ended};
 
 use crate::{Clock, Sink, Source};
@@ -18,7 +18,7 @@ pub fn a_seat_gains_its_calls()
 pub fn a_session_is_its_asks_and_leave<R: Source, W: Sink, C: Clock>()
     ensures { (s t : Sitting) (reader0 reader1 : R) (writer0 writer1 : W) (clock0 clock1 : C) (lane reads : ℕ)
         (ended : Ended) (session : Session (λ bytes. R.gave reader0 bytes reader1)
-        (λ events. Leads s events t)
+        (λ events. MakesCalls s events t)
         (λ moments. C.ticked clock0 moments clock1)
         (λ text. W.took writer0 text writer1) lane reads ended)
         → GainsSession s session.frames (session.events ++ session.last ∷ []) t }

@@ -1,7 +1,7 @@
 // A session: turns of one read each, and LEAVE.
 ghost use Rattle.std.specs.Prelude.{[], ◌+◌, ◌-◌, ◌<◌, ◌≡◌, ◌≢◌, ◌≤◌, All, IfErr, IfOk, IsSome, length, List, ℕ};
 ghost use Rattle.krs_wire.specs.{Feeding.{fault_of, Feeds, Refuses}, Frame.{bad, Frames, rest}};
-ghost use Rattle.krs_session.specs.Serving.{Answers, Finished, PieceEndsBy, Served, StopsBy, TurnEndsBy};
+ghost use Rattle.krs_session.specs.Serving.{AsksAndWrites, Finished, PieceEndsBy, Served, StopsBy, TurnEndsBy};
 ghost use Rattle.krs_session.specs.Session.{counts_of, EndsBy, HaveRoom, Session};
 
 use crate::asking::{Setting, answer_all, ask_one};
@@ -79,7 +79,7 @@ fn answer_fed<H, W: Sink, S, D: Keeper<S, H>, C: Clock, G: Gate>(
 ) -> Option<Ended>
     requires ready { D.ready setting.now.desk.now seat.old }
     requires failures { W.failures writer.old < u64.MAX }
-    ensures answers { Answers D.leads C.ticked W.took (D.lane_of seat.old)
+    ensures answers { AsksAndWrites D.leads C.ticked W.took (D.lane_of seat.old)
         seat.old seat.new clock.old clock.new writer.old writer.new frames.old.items result }
     ensures count { StopsBy (W.failures writer.old) (W.failures writer.new) result }
     ensures feed { held.new.feed ≡ held.old.feed }
@@ -111,7 +111,7 @@ fn answer_cut<H, W: Sink, S, D: Keeper<S, H>, C: Clock, G: Gate>(
 ) -> Option<Ended>
     requires ready { D.ready setting.now.desk.now seat.old }
     requires failures { W.failures writer.old < u64.MAX }
-    ensures answers { Answers D.leads C.ticked W.took (D.lane_of seat.old)
+    ensures answers { AsksAndWrites D.leads C.ticked W.took (D.lane_of seat.old)
         seat.old seat.new clock.old clock.new writer.old writer.new frames.items result }
     ensures count { StopsBy (W.failures writer.old) (W.failures writer.new) result }
     ensures feed { held.new.feed ≡ held.old.feed }

@@ -1,12 +1,12 @@
 use Rattle.std.proofs.Common.{◌++◌, ◌≡◌, false, length, List, true}
 use Rattle.krs_wire.specs.declared.framed.Framed.{Framed}
-use Rattle.krs_session.specs.Serving.{Holds, IsAskedAnew, StopsBy}
+use Rattle.krs_session.specs.Serving.{AsksAndHolds, IsAskedAnew, StopsBy}
 use Rattle.krs_session.proofs.asking.ask_all.Given as goal
 
 abbrev pub invariant-frames : goal.invariant-frames
 invariant-frames g l = record {
   state : (done : List Framed) × (done ++ l.frames.items ≡ l.initial.frames.items)
-      × Holds g.D.Keeper.leads g.C.Clock.ticked g.W.Sink.took (g.D.Keeper.lane_of l.initial.seat) l.initial.seat
+      × AsksAndHolds g.D.Keeper.leads g.C.Clock.ticked g.W.Sink.took (g.D.Keeper.lane_of l.initial.seat) l.initial.seat
       l.seat l.initial.clock l.clock l.initial.writer l.writer l.out.bytes.items done l.stop;
   count : StopsBy (g.W.Sink.failures l.initial.writer) (g.W.Sink.failures l.writer) l.stop;
   ready : g.D.Keeper.ready l.setting.desk.now l.seat;

@@ -1,4 +1,4 @@
-use Rattle.krs_session.proofs.LeadLemmas.{gains_session}
+use Rattle.krs_session.proofs.CallLemmas.{gains_session}
 use Rattle.krs_session.proofs.laws.a_session_is_its_asks_and_leave.Goals as goal
 
 pub returns : goal.returns

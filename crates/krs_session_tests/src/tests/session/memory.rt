@@ -3,7 +3,7 @@ ghost use Rattle.std.specs.Prelude.{[], ◌≡◌, List};
 ghost use Rattle.krs_types.specs.declared.event.Event.{Event};
 ghost use Rattle.krs_desk.specs.Sitting.{IsIdleAt};
 ghost use Rattle.krs_wire.specs.declared.framed.Framed.{Framed};
-ghost use Rattle.krs_session.specs.Leads.{GainsSession};
+ghost use Rattle.krs_session.specs.Calls.{GainsSession};
 ghost use Rattle.krs_session_tests.specs.Conversing.{Conversed};
 
 use super::fakes::{Rising, Watching, watches};

@@ -8,7 +8,7 @@ use Rattle.krs_world.proofs.Keeping.{prefix_self, prefix_trans}
 use Rattle.krs_desk.specs.Sitting.{Adds, Sitting}
 use Rattle.krs_wire.specs.declared.framed.Framed.{Framed}
 use Rattle.krs_session.specs.Events.{asks_in, asks_of}
-use Rattle.krs_session.specs.{Leads.{Gains, GainsSession, GainsTheirCalls, Leads, SeesUpTo}, Session.leave}
+use Rattle.krs_session.specs.{Calls.{Gains, GainsSession, GainsTheirCalls, MakesCalls, SeesUpTo}, Session.leave}
 
 no_call : (s t : Sitting) (before after : List Event) (call : Event) → [] ≡ before ++ call ∷ after → SeesUpTo s call t
 no_call s t [] after call is = absurd cc
@@ -25,7 +25,7 @@ gains_none s kept = record {
   own = λ made. absurd (made refl);
 }
 
-own_calls : (s t : Sitting) (call : Event) (calls : List Event) → Leads s (call ∷ calls) t
+own_calls : (s t : Sitting) (call : Event) (calls : List Event) → MakesCalls s (call ∷ calls) t
     → events_of t.part.lane t.part.seen ≡ t.part.mine
 own_calls s t call [] p = subst (λ (z : Sitting). events_of z.part.lane z.part.seen ≡ z.part.mine) p.2 p.1.own
 own_calls s t call (next ∷ calls) p = own_calls p.0 t next calls p.2
@@ -86,7 +86,7 @@ gains_by s t (call ∷ calls) p =
     }
 
 pub gains_session : (s t : Sitting) (frames : List Framed) (events : List Event) (last : Event)
-    → asks_of events ≡ asks_in frames → last.ask ≡ leave → Leads s (events ++ last ∷ []) t
+    → asks_of events ≡ asks_in frames → last.ask ≡ leave → MakesCalls s (events ++ last ∷ []) t
     → GainsSession s frames (events ++ last ∷ []) t
 gains_session s t frames events last order is_leave led =
     let gains : Gains s (events ++ last ∷ []) t = gains_by s t (events ++ last ∷ []) led in

@@ -9,12 +9,12 @@ use Rattle.krs_wire.specs.declared.framed.Framed.{Framed}
 use Rattle.krs_session.specs.{Events.{asks_in, asks_of}, Session.leave}
 
 -- each call is made at the seat that the one before it left, or that has rested since
-abbrev pub Leads : Sitting → List Event → Sitting → Type 0
-Leads s [] t = rested s ≡ rested t
-Leads s (call ∷ calls) t = (u : Sitting) × Adds s call u × Leads u calls t
+abbrev pub MakesCalls : Sitting → List Event → Sitting → Type 0
+MakesCalls s [] t = rested s ≡ rested t
+MakesCalls s (call ∷ calls) t = (u : Sitting) × Adds s call u × MakesCalls u calls t
 
-pub leads_none : (s : Sitting) → Leads s [] s
-leads_none s = refl
+pub makes_none : (s : Sitting) → MakesCalls s [] s
+makes_none s = refl
 
 -- a call adds the same, whether a turn is kept or not
 adds_as : (s t u : Sitting) (e : Event) → rested s ≡ rested t → Adds t e u → Adds s e u
@@ -33,13 +33,14 @@ adds_as s t u e same a =
       own = a.own;
     }
 
-leads_as : (s t u : Sitting) (ys : List Event) → rested s ≡ rested t → Leads t ys u → Leads s ys u
-leads_as s t u [] same q = same ∙ q
-leads_as s t u (y ∷ ys) same q = (q.0, adds_as s t q.0 y same q.1, q.2)
+makes_as : (s t u : Sitting) (ys : List Event) → rested s ≡ rested t → MakesCalls t ys u → MakesCalls s ys u
+makes_as s t u [] same q = same ∙ q
+makes_as s t u (y ∷ ys) same q = (q.0, adds_as s t q.0 y same q.1, q.2)
 
-pub leads_both : (s t u : Sitting) (xs ys : List Event) → Leads s xs t → Leads t ys u → Leads s (xs ++ ys) u
-leads_both s t u [] ys p q = leads_as s t u ys p q
-leads_both s t u (x ∷ xs) ys p q = (p.0, p.1, leads_both p.0 t u xs ys p.2 q)
+pub makes_both : (s t u : Sitting) (xs ys : List Event) → MakesCalls s xs t → MakesCalls t ys u
+    → MakesCalls s (xs ++ ys) u
+makes_both s t u [] ys p q = makes_as s t u ys p q
+makes_both s t u (x ∷ xs) ys p q = (p.0, p.1, makes_both p.0 t u xs ys p.2 q)
 
 -- Some beginning `upto` of what is now seen is legal from the opening state, begins with all that had been seen, and
 -- ends with this call.
@@ -63,7 +64,7 @@ pub record Gains (s : Sitting) (calls : List Event) (t : Sitting) : Type 0 where
   pub own : calls ≢ [] → events_of t.part.lane t.part.seen ≡ t.part.mine
 
 abbrev pub GainsTheirCalls : Type 0
-GainsTheirCalls = (s t : Sitting) (calls : List Event) → Leads s calls t → Gains s calls t
+GainsTheirCalls = (s t : Sitting) (calls : List Event) → MakesCalls s calls t → Gains s calls t
 
 -- the seat's new calls are what the frames ask, in order, and then one LEAVE
 pub record GainsSession (s : Sitting) (frames : List Framed) (calls : List Event) (t : Sitting) : Type 0 where
