@@ -40,10 +40,3 @@ abbrev pub ServesAtDesk : {R C W : Type 0} → sources.Ghosts R → clocks.Ghost
     → Sitting → Sitting → Ended → Type 0
 ServesAtDesk source timer sink turns connection seat last_seat ended =
     ServesEntry source timer sink MakesCalls (λ s. s.part.lane) turns connection seat last_seat ended
-
--- the same, whatever it left of its seat too
-pub record EndsSession {R C W S : Type 0} (source : sources.Ghosts R) (timer : clocks.Ghosts C) (sink : sinks.Ghosts W)
-    (leads : S → List Event → S → Type 0) (lane_of : S → ℕ) (turns : ℕ) (connection : Entry R W C) (seat : S)
-    (ended : Ended) : Type 0 where
-  pub last_seat : S
-  pub served : ServesEntry source timer sink leads lane_of turns connection seat last_seat ended

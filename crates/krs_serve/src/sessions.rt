@@ -1,7 +1,7 @@
 ghost use Rattle.std.specs.{Prelude.{◌<◌, ◌≡◌, All, IfErr, IfOk, map, slice_index_or, vec_len, zip, ℕ}, List.AllZip};
 ghost use Rattle.krs_types.specs.declared.errno.Errno.TheVariants.{ENOMEM};
 ghost use Rattle.krs_session.specs.Session.{counts_of, HaveRoom};
-ghost use Rattle.krs_serve.specs.Sessions.{EndsSession, ServesEntry};
+ghost use Rattle.krs_serve.specs.Sessions.{ServesEntry};
 
 use crate::{Entry, serve_entry};
 use krs_session::{Clock, Ended, Gate, Keeper, Sink, Source};
@@ -36,7 +36,8 @@ pub fn run_sessions<
         (counts_of R.reads R.empties R.failures W.failures entry.reader entry.writer)) list.items }
     ensures one_each { IfOk result (λ ends. vec_len ends ≡ vec_len list) }
     ensures in_order { IfOk result (λ ends. AllZip
-        (λ job ended. EndsSession R.Source C.Clock W.Sink D.leads D.lane_of turns job.0 job.1 ended)
+        (λ job ended. (last_seat : _)
+            × ServesEntry R.Source C.Clock W.Sink D.leads D.lane_of turns job.0 job.1 last_seat ended)
         (zip list.items seats.items) ends.items) }
     ensures memory { IfErr result (λ error. error ≡ ENOMEM) }
 {

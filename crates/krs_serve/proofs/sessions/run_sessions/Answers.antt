@@ -1,5 +1,5 @@
 use Rattle.std.proofs.{Common.{◌∙◌, ◌≡◌, ap, arith, length, map}, lemmas.List.length-map}
-use Rattle.krs_serve.specs.Sessions.{EndsSession, ServesEntry}
+use Rattle.krs_serve.specs.Sessions.{ServesEntry}
 use Rattle.krs_serve.proofs.SessionsLemmas.{each_second}
 use Rattle.krs_serve.proofs.sessions.run_sessions.Goals as goal
 
@@ -18,7 +18,7 @@ returns-in-Ok-clause-in_order g c =
     rw (c.in-Ok.ensures, c.deref.ensures.value) (each_second
     (λ job done. ServesEntry g.R.Source g.C.Clock g.W.Sink g.D.Keeper.leads g.D.Keeper.lane_of c.args.turns
     job.0 job.1 done.0 done.1)
-    (λ job ended. EndsSession g.R.Source g.C.Clock g.W.Sink g.D.Keeper.leads g.D.Keeper.lane_of c.args.turns
-    job.0 job.1 ended)
-    (λ job done one. record { last_seat = done.0; served = one }) _ c.in_ok-served.served.items
+    (λ job ended. (last_seat : _) × ServesEntry g.R.Source g.C.Clock g.W.Sink g.D.Keeper.leads g.D.Keeper.lane_of
+    c.args.turns job.0 job.1 last_seat ended)
+    (λ job done one. (done.0, one)) _ c.in_ok-served.served.items
     c.in_ok-served.ensures.in_order)
