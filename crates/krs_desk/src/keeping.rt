@@ -38,7 +38,8 @@ impl Desk {
         self.table.load::<Keeps<E>>(token, TURN);
     }
 
-    // Asks the store for the token's own lane, and keeps the turn.
+    // Asks the store for the token's own lane, and keeps the turn. Inlined, so that the ask isn't moved once more.
+    #[inline(always)]
     pub(crate) fn go_on<T: Taker>(
         &self,
         token: &mut Token,
