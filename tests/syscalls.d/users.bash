@@ -107,9 +107,25 @@ try_deputies() {
   copied=$("${in_room[@]}" timeout "$limit" "$dir/now/keyretain-session" --syscalls -- "$dir/tree" deputy \
     "$dir/tree-set-uid" copied 2>&1)
   is 'a set-uid program of a user, with the tag of a session of root' "$wanted" "$copied"
-  is 'who has a copied tag of a program that its user may not trace' 'kept out' "$("${in_room[@]}" timeout "$limit" \
-    "$dir/now/keyretain-session" --syscalls -- "$dir/tree" untraceable 2>&1)"
+  try_copies
   end_room
+}
+
+# Tags of a program that its user may not trace. Of so many files, or one more, a supervisor has one left at some time.
+try_copies() {
+  local who='who has a copied tag of a program that its user may not trace' many
+  is "$who" 'kept out' "$(untraceable 1024)"
+  for many in 100 101; do
+    is "$who, below a supervisor that may open $many files, of which few are left" 'kept out' \
+      "$(untraceable "$many" crowd)"
+  done
+  is "$who, where none were left before" 'kept out' "$(untraceable 100 later)"
+}
+
+# untraceable FILES WORD: what tree says of it, below a supervisor that may open so many files
+untraceable() {
+  ulimit -n "$1"
+  "${in_room[@]}" timeout "$limit" "$dir/now/keyretain-session" --syscalls -- "$dir/tree" untraceable "${@:2}" 2>&1
 }
 
 # Where /proc hides what a user may not trace, the supervisor of that user can't look at all above a process.
