@@ -52,12 +52,12 @@ void admission_put_first(struct kr_identity *identity) {
 
 /* ---- Sessions ---- */
 
-/* Who has begun it, as that one is now, where it still holds it. */
+/* Who has begun it, as that one is now, where it still holds it. What can't be read of it is all zero. */
 static bool read_beginner(const struct session *session, struct admission_process *beginner) {
     const struct process *process = session->beginner;
     struct proc_status status;
-    if (!process || process->first->session != session || !proc_read_status(process->id, &status)) return false;
-    admission_read(beginner, process->id, &status);
+    if (!process || process->first->session != session) return false;
+    if (proc_read_status(process->id, &status)) admission_read(beginner, process->id, &status);
     return !proc_has_ended(process->descriptor);
 }
 

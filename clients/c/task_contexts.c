@@ -168,8 +168,11 @@ bool seats_make_room(unsigned age, const struct task *asking, bool (*keeps)(pid_
     return false;
 }
 
+/* By who has begun a session it is judged whom its tag lets in. */
 static bool has_nothing(const struct task *task) {
-    return task->reqkey == 0 && task->session == task->process->first->session && task->replay.until < kr_now();
+    const struct task *first = task->process->first;
+    bool has_begun = task == first && task->session && task->session->beginner == task->process;
+    return task->reqkey == 0 && task->session == first->session && task->replay.until < kr_now() && !has_begun;
 }
 
 static unsigned give_up_tasks(struct process *process, const struct task *asking) {
