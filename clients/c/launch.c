@@ -104,6 +104,8 @@ static void supervise(int reports, const char *path, const char *name, char **co
     int listener = serve_receive_listener(LISTENERS);
     if (listener < 0) give_up(NO_CONNECTION);
     kr_own_identity(&settings.tracees.identity);
+    settings.tracees.identity.uid = getuid(); /* a session is begun as the real user */
+    settings.tracees.identity.gid = getgid();
     settings.tracees.child = child;
     enum serve_result result = serve(listener, &settings);
     if (result != SERVE_DONE) give_up(result == SERVE_NO_DAEMON ? NO_CONNECTION : REFUSED);

@@ -128,6 +128,25 @@ untraceable() {
   "${in_room[@]}" timeout "$limit" "$dir/now/keyretain-session" --syscalls -- "$dir/tree" untraceable "${@:2}" 2>&1
 }
 
+# A set-uid program of root's that a user executes, and that executes keyretain-session: set-uid it looks for the
+# system's daemon.
+try_set_uid_session() {
+  local who wanted
+  if [ "$(id -u)" != 0 ] || ! unshare -m true 2>/dev/null || ! command -v setpriv >/dev/null; then
+    skipped 'a session that a set-uid program begins: not root, no mount namespace, or no setpriv(1)'
+    return
+  fi
+  install -m 4755 "$dir/tree" "$dir/tree-set-uid"
+  for who in real effective; do
+    [ "$who" = real ] && wanted='_ses 4105' || wanted='_uid_ses.0 0'
+    is "a session that a set-uid program begins: who is its $who user is in" "$wanted" "$(timeout "$limit" \
+      unshare -m sh -c 'mount -t tmpfs run /run && mkdir /run/keyretain && ln -s "$0" /run/keyretain/keyretain.sock &&
+      exec "$@"' "$path" setpriv --reuid 4105 --regid 4105 --clear-groups "$dir/tree-set-uid" as itself \
+      "$dir/now/keyretain-session" --syscalls -- "$dir/tree" as "$who" "$dir/tree" whose 2>&1 |
+      sed 's/_ses[.][0-9a-f]\{32\}/_ses/')"
+  done
+}
+
 # Where /proc hides what a user may not trace, the supervisor of that user can't look at all above a process.
 try_hidden() {
   local hides said
@@ -219,6 +238,7 @@ try_named() {
 try_users() {
   try_logins
   try_deputies
+  try_set_uid_session
   try_hidden
   try_given_up
   try_cheap_join
