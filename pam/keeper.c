@@ -138,12 +138,14 @@ static void reset_signals(void) {
     sigprocmask(SIG_SETMASK, &none, NULL);
 }
 
+/* Before it runs as the user it has left the terminal: who takes a process over that has one types there, in the place
+ * of whoever lets the user in. */
 _Noreturn static void become_keeper(const struct launch *launch) {
     static char *environment[] = { NULL };
     const struct descriptors *all = &launch->all;
     bool is_ready = dup2(all->life[READING], STDIN_FILENO) >= 0 && dup2(all->answers[WRITING], STDOUT_FILENO) >= 0 &&
                     dup2(all->nothing, STDERR_FILENO) >= 0 && close_range(FIRST_FREE, ~0U, 0) == 0 &&
-                    chdir("/") == 0 && take_ids(launch) && keep_no_core();
+                    chdir("/") == 0 && setsid() >= 0 && take_ids(launch) && keep_no_core();
     reset_signals();
     if (is_ready) execve(KEYRETAIN_KEEPER, launch->words, environment);
     _exit(1);

@@ -1,6 +1,6 @@
 /* given WORD ..: in the keeper's place, writes down in the file GIVEN what it was given: its descriptors, its standard
- * error, its folder, how many variables, its ids, its signals, and its words. It is no shell, as some set their signals
- * anew when they begin. */
+ * error, its folder, how many variables, whose session of setsid(2), with which goes a terminal, its ids, its signals,
+ * and its words. It is no shell, as some set their signals anew when they begin. */
 #define _GNU_SOURCE
 #include <fcntl.h>
 #include <stdio.h>
@@ -38,7 +38,7 @@ int main(int count, char **words) {
     put_descriptors(to);
     put_link(to, "/proc/self/fd/2");
     put_link(to, "/proc/self/cwd");
-    fprintf(to, "%d\n", variables);
+    fprintf(to, "%d\n%s\n", variables, getsid(0) == getpid() ? "a session of its own" : "its caller's session");
     put_status(to);
     for (int i = 0; i < count; i++) fprintf(to, "%s%s", words[i], i + 1 < count ? " " : "\n");
     return fclose(to);

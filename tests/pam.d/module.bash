@@ -307,7 +307,7 @@ reports() { install -m 755 "$dir/report" "$keeper"; }
 
 # given UID GID GROUPS: the lines of it, in the order of the program
 given() {
-  printf '%s\n' 0 1 2 /dev/null / 0 "Uid: $1 $1 $1 $1" "Gid: $2 $2 $2 $2" "Groups: $3" \
+  printf '%s\n' 0 1 2 /dev/null / 0 'a session of its own' "Uid: $1 $1 $1 $1" "Gid: $2 $2 $2 $2" "Groups: $3" \
     'SigBlk: 0000000000000000' 'SigIgn: 0000000000000000' "keyretain-keeper --patience 39800 --socket $path"
 }
 
