@@ -183,6 +183,9 @@ try_keeper() {
   local life serial sockets word since
   serve --lanes 32
   is 'keeper: the words --version' "keyretain-keeper $version" "$("$dir/c/keyretain-keeper" --version)"
+  make_clients c DESTDIR="$dir/root" install >/dev/null
+  is 'keeper: its mode as it is installed, by which nobody of its uid looks into it' 711 \
+    "$(stat -c %a "$dir/root$dir/keyretain/keyretain-keeper")"
   is 'keeper: no such option' 2 "$("$dir/c/keyretain-keeper" --none 2>/dev/null; echo $?)"
   is 'keeper: a name with an end of line' 2 \
     "$("$dir/c/keyretain-keeper" --name $'a\nb' --socket "$dir/none" </dev/null >/dev/null 2>&1; echo $?)"
