@@ -186,6 +186,7 @@ static unsigned give_up_tasks(struct process *process, const struct task *asking
     return count;
 }
 
+/* What can't be given up is looked at last from now on: else so many of them would hide all others. */
 void seats_make_descriptors(const struct task *asking, bool (*may_be_forgotten)(const struct process *)) {
     struct process *process = entries_oldest(), *next;
     unsigned given_up = 0;
@@ -193,8 +194,10 @@ void seats_make_descriptors(const struct task *asking, bool (*may_be_forgotten)(
         next = entries_next(process);
         given_up += give_up_tasks(process, asking);
         if (process->tasks != process->first || process == asking->process || !has_nothing(process->first) ||
-            process_has_state(process) || !may_be_forgotten(process))
+            process_has_state(process) || !may_be_forgotten(process)) {
+            process_asks(process);
             continue;
+        }
         end_process(process);
         given_up++;
     }

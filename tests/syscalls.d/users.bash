@@ -177,6 +177,8 @@ try_given_up() {
     "$(ulimit -n 160; supervised -- "$dir/tree" processes 200 2>&1)"
   is "$built: 200 threads at one time, with few descriptors" 'served all, refused the others by EDQUOT, one for all' \
     "$(ulimit -n 160; supervised -- "$dir/tree" threads 200 2>&1)"
+  is "$built: 200 processes, with few descriptors and 80 older processes that are not given up" '200 served' \
+    "$(ulimit -n 400; supervised -- "$dir/tree" beside-crowd 200 80 2>&1)"
   rm -f "$dir/go" "$dir/put"
   "$dir/now/keyretain-session" --syscalls -- sh -c '"$0" others 40 all >/dev/null; touch "$1/put"
     until [ -e "$1/go" ]; do sleep 0.05; done' "$dir/tree" "$dir" &
