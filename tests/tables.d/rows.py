@@ -41,7 +41,7 @@ def equations(text, function):
 
 def types():
     """The names of the types of keys."""
-    return re.findall(r'^kind_name \w+ = codes "(\w+)"$', text_of("crates/krs_types/specs/Kind.antt"), re.M)
+    return re.findall(r'^row_of \w+ = row \d+ \(codes "(\w+)"\)', text_of("crates/krs_types/specs/Kind.antt"), re.M)
 
 
 # ---- Asks

@@ -1,6 +1,6 @@
 ghost use Rattle.std.specs.Prelude.{◌||◌, ◌≡◌, ◌≤◌, IfOk, length, OnErr, OnOk};
 ghost use Rattle.krs_model.specs.Asks.Adding.{add, admitted, by_match, if_room, IsKeyringAt, made, new_key, place_of};
-ghost use Rattle.krs_model.specs.{Asks.Changing.is_updatable, Outcome.{Is, Leads}, Sound.IsSound};
+ghost use Rattle.krs_model.specs.{Outcome.{Is, Leads}, Sound.IsSound};
 ghost use Rattle.krs_links.specs.Links.{serials};
 ghost use Rattle.krs_keys.specs.Keys.{seen};
 ghost use Rattle.krs_tables.specs.Making.{adding_in};
@@ -79,7 +79,7 @@ fn by_match(
     let Some(key) = tables.key(serial) else {
         return if_room(tables, ring, into, links, None);
     };
-    if !key.is_alive(tables.clock) || !is_updatable(key.name.kind()) {
+    if !key.is_alive(tables.clock) || !key.name.kind().is_updatable() {
         return if_room(tables, ring, into, links, Some(serial));
     }
     if !tables.grants(context, serial, key, Want::Granted(Rights::WRITE)) {
@@ -200,15 +200,5 @@ fn add_in(
             let serial = make(tables, ring, name, payload, uid, gid)?;
             Ok(Answer::Number(serial.number()))
         }
-    }
-}
-
-/// Whether a match of this kind is updated, and not displaced.
-fn is_updatable(kind: Kind) -> bool
-    ensures { result ≡ is_updatable kind }
-{
-    match kind {
-        Kind::User | Kind::Logon => true,
-        Kind::Keyring => false,
     }
 }

@@ -107,10 +107,10 @@ pub fn revoke(tables: &mut Tables, client: u32, context: u32, id: i32) -> Result
 fn updatable(kind: Kind) -> Result<Kind, Errno>
     ensures { result ≡ updatable kind }
 {
-    match kind {
-        Kind::User | Kind::Logon => Ok(kind),
-        Kind::Keyring => Err(Errno::EOPNOTSUPP),
+    if kind.is_updatable() {
+        return Ok(kind);
     }
+    Err(Errno::EOPNOTSUPP)
 }
 
 /// Whether the caller may set the mask: EACCES.

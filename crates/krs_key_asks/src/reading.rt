@@ -7,7 +7,7 @@ ghost use Rattle.krs_key_asks.specs.Taking.{answered, taken_of};
 use crate::{Given, Taker};
 use krs_keys::{Content, Key};
 use krs_tables::Tables;
-use krs_types::{Answer, Body, Errno, Fault, Kind, Rights, Want};
+use krs_types::{Answer, Body, Errno, Fault, Kind, Rights, Told, Want};
 use std::alloc::{AllocError, Global};
 use std::fmt::Write;
 use std::snapshot::Snapshot;
@@ -23,9 +23,9 @@ pub fn read(tables: &Tables, client: u32, context: u32, id: i32) -> Result<Answe
 {
     let context = tables.context_of(client, context)?;
     let (_, key) = tables.look_up(context, id, Want::ToRead)?;
-    match (key.name.kind(), &key.content) {
-        (Kind::User, Content::Payload(bytes)) => Ok(Answer::Bytes(bytes.copy(tables.alloc)?)),
-        (Kind::Keyring, Content::Links(links)) => {
+    match (key.name.kind().told(), &key.content) {
+        (Told::ItsPayload, Content::Payload(bytes)) => Ok(Answer::Bytes(bytes.copy(tables.alloc)?)),
+        (Told::ItsLinks, Content::Links(links)) => {
             Ok(Answer::Bytes(Body::new(links.serial_bytes(tables.alloc)?)))
         }
         _ => Err(Fault::Refused(Errno::EOPNOTSUPP)),
@@ -46,14 +46,14 @@ pub fn read_into<T: Taker>(
 {
     let context = tables.context_of(client, context)?;
     let (_, key) = tables.look_up(context, id, Want::ToRead)?;
-    match (key.name.kind(), &key.content) {
-        (Kind::User, Content::Payload(bytes)) => {
+    match (key.name.kind().told(), &key.content) {
+        (Told::ItsPayload, Content::Payload(bytes)) => {
             if taker.take(bytes.as_slice()) {
                 return Ok(Given::Taken(Snapshot::of(bytes)));
             }
             Ok(Given::Answer(Answer::Bytes(bytes.copy(tables.alloc)?)))
         }
-        (Kind::Keyring, Content::Links(links)) => {
+        (Told::ItsLinks, Content::Links(links)) => {
             let bytes = links.serial_bytes(tables.alloc)?;
             Ok(Given::Answer(Answer::Bytes(Body::new(bytes))))
         }

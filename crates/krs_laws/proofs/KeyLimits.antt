@@ -3,12 +3,14 @@ use Rattle.std.proofs.Common.{[], ⊎_elim, ◌&&◌, ◌+◌, ◌<◌, ◌==◌
 use Rattle.std.proofs.Common.{false, filter, find, length, List, nat_le, None, not, Ok, Option, refl, Result, Some}
 use Rattle.std.proofs.Common.{subst, sym, true, true≢false, ℕ, ℤ}
 use Rattle.std.proofs.lemmas.{Bool.Decides.nat_tests, Option.{none-some, same_Some}}
-use Rattle.krs_types.specs.{KeyId.key_id_of, Kind.{checked, described, described_as, kind_named, paid}}
-use Rattle.krs_types.specs.{Refusing.{◌>>=◌, or_refuse}, Rights.{has_all, WRITE}, declared.context.Context.Context}
+use Rattle.krs_types.specs.{KeyId.key_id_of, Kind.{checked, described, described_as, kind_named, paid_by, row_of}}
+use Rattle.krs_types.specs.{Kind.same_kind, Refusing.{◌>>=◌, or_refuse}, Rights.{has_all, WRITE}}
+use Rattle.krs_types.specs.declared.context.Context.{Context}
 use Rattle.krs_types.specs.declared.errno.Errno.{Errno, TheVariants.{EACCES, EINVAL, ENFILE, ENOKEY, EPERM}}
-use Rattle.krs_types.specs.declared.{key_id.KeyId.KeyId, kind.Kind.{Kind, TheVariants.{Keyring, Logon, User}}}
+use Rattle.krs_types.specs.declared.{key_id.KeyId.KeyId, kind.Kind.TheVariants.Keyring}
+use Rattle.krs_types.specs.declared.kind.PayloadRule.{PayloadRule, TheVariants.{NoBytes, SomeBytes}}
 use Rattle.krs_types.specs.declared.{name.Name.Name, rights.Want.TheVariants.Granted}
-use Rattle.krs_model.specs.{Access.{is_alive, rights_on}, Asks.Adding.{added, admitted, by_match, first_content}}
+use Rattle.krs_model.specs.{Access.{is_alive, rights_on}, Asks.Adding.{added, admitted, by_match}}
 use Rattle.krs_model.specs.Asks.Adding.{if_room, Made, new_key, over_match, Place, place_of, Updated}
 use Rattle.krs_model.specs.Asks.Changing.{changed, emptied, is_updatable, paid_with, updated}
 use Rattle.krs_model.specs.Asks.{Finding.{found_into, if_linkable}, Linked.{cleared_content, link_check, linked_into}}
@@ -94,10 +96,10 @@ nothing_paid : (payload : List ℕ) (x : Unit {0}) (b : Bool) → (length payloa
 nothing_paid payload x true is h = grind (arith, nat_tests)
 nothing_paid payload x false is h = cc
 
-pub paid_short : (kind : Kind) (payload : List ℕ) (x : Unit {0}) → paid kind payload ≡ Ok x → length payload ≤ 32767
-paid_short User payload x h = bounded payload x _ refl h
-paid_short Logon payload x h = bounded payload x _ refl h
-paid_short Keyring payload x h = nothing_paid payload x _ refl h
+pub paid_short :
+    (rule : PayloadRule) (payload : List ℕ) (x : Unit {0}) → paid_by rule payload ≡ Ok x → length payload ≤ 32767
+paid_short SomeBytes payload x h = bounded payload x _ refl h
+paid_short NoBytes payload x h = nothing_paid payload x _ refl h
 
 pub updated_short : (payload : List ℕ) (content : Content) → length payload ≤ 32767 → IsShort content
     → IsShort (paid_with payload content)
@@ -219,7 +221,7 @@ admitted_short type_name desc payload name h =
     let b = bind_ok (checked a.0 desc payload) _ name a.2 in
     let c = bind_ok (described desc) _ b.0 b.1 in
     let d = bind_ok (described_as a.0 desc) _ b.0 c.2 in
-    paid_short a.0 payload b.0 d.2
+    paid_short (row_of a.0).payload payload b.0 d.2
 
 -- a further link fits into the keyring
 abbrev Takes : State → Name → List ℕ → Type 0
@@ -284,10 +286,10 @@ by_match_takes s c name ring links None place is h =
 by_match_takes s c name ring links (Some found) place is h =
     match_takes s c name ring links found (at s.keys found) place is h
 
-first_short : (kind : Kind) (payload : List ℕ) → length payload ≤ 32767 → IsShort (first_content kind payload)
-first_short User payload fits = fits
-first_short Logon payload fits = fits
-first_short Keyring payload fits = omega arith
+first_short :
+    (ring : Bool) (payload : List ℕ) → length payload ≤ 32767 → IsShort (cond ring (Links []) (Payload payload))
+first_short true payload fits = omega arith
+first_short false payload fits = fits
 
 links_short :
     (p : ℕ → Bool) (serial : ℕ) (content : Content) (links : List ℕ) → content ≡ Links links
@@ -321,4 +323,4 @@ added_short s c name payload id (Made r) h none fits all =
     let same : a.0.1 ≡ v = same_Some a.0.1 v (sym there ∙ was) in
     links_short (λ k. is_named name (at s.keys k)) n v.content b.0
     (ap (λ (z : Key). z.content) (sym same) ∙ links_are a.0.1.content b.0 b.1) (takes n) short)
-    (short_put s.keys n key (first_short name.kind payload fits) all)
+    (short_put s.keys n key (first_short (same_kind name.kind Keyring) payload fits) all)

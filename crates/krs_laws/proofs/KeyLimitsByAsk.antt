@@ -1,24 +1,43 @@
 -- Payloads and links stay within their limits, ask by ask.
-use Rattle.std.proofs.Common.{[], ◌+◌, ◌==◌, ◌∷◌, ◌≡◌, arith, Bool, codes, cond, false, length, List, nat_lt, None, Ok}
-use Rattle.std.proofs.Common.{Option, Some, true, ℕ, ℤ}
-use Rattle.krs_types.specs.declared.ask.Op.{Op, TheVariants.{Add, Chown, Clear, CloseQueue, Describe, Exec, Exit, Fork}}
+use Rattle.std.proofs.Common.{◌+◌, ◌==◌, [], arith, Bool, codes, cond, false, length, List, nat_lt, None, Ok, Option}
+use Rattle.std.proofs.Common.{Some, true, ℕ, ℤ, ◌∷◌, ◌≡◌}
+use Rattle.krs_types.specs.Kind.{paid, row_of}
+use Rattle.krs_types.specs.Rights.{LINK, WRITE}
+use Rattle.krs_types.specs.declared.ask.Op.{Op}
+use Rattle.krs_types.specs.declared.ask.Op.TheVariants.{Add, Chown, Clear, CloseQueue, Describe, Exec, Exit, Fork}
 use Rattle.krs_types.specs.declared.ask.Op.TheVariants.{GetId, Hello, Invalidate, Join, Leave, Link, Move, OpenQueue}
 use Rattle.krs_types.specs.declared.ask.Op.TheVariants.{Read, ReadQueue, Request, RestrictKeyring, Revoke, Search}
 use Rattle.krs_types.specs.declared.ask.Op.TheVariants.{SetFilter, SetPerm, SetTimeout, Thread, Unlink, Update, Watch}
-use Rattle.krs_types.specs.declared.{caller.Caller.Caller, context.{Context.Context, UidRings.UidRings}}
-use Rattle.krs_types.specs.declared.{errno.Errno.TheVariants.EINVAL, rights.Want.{TheVariants.Granted, Want}}
-use Rattle.krs_types.specs.{Kind.paid, Rights.{LINK, WRITE}}
-use Rattle.krs_model.specs.Asks.{Adding.{add, admitted, place_of}, Changing.{chown, revoke, set_perm, set_timeout}}
-use Rattle.krs_model.specs.Asks.{Changing.{updatable, update, updated}, Entering.{exec, fork, thread}, Finding.get_id}
-use Rattle.krs_model.specs.Asks.{Finding.{made_where, request, search_from}, Hello.{hello, uid_ring, with_uid}}
-use Rattle.krs_model.specs.Asks.{Invalidating.invalidate, Joining.{join, session_joined, session_ring}, Leaving.exit}
-use Rattle.krs_model.specs.Asks.{Leaving.left, Linked.{clear, link, unless, unlink}, Moving.{move_link, moved}}
-use Rattle.krs_model.specs.Asks.{Reading.{describe, read}, Restricting.restrict_keyring, Watching.close_queue}
-use Rattle.krs_model.specs.{Asks.Watching.{open_queue, read_queue, set_filter, watch}, Lookup.{context_of, look_up}}
-use Rattle.krs_model.specs.{Making.{made_for, own_ring}, Search.found, State.{Key, State}, Step.outcome_of, Table.at}
-use Rattle.krs_model.specs.Table.{put}
-use Rattle.krs_model.proofs.Asks.{Fares.meets_by, LaterByAsk.moved_is, Outcomes.{Meets, meets_after, meets_ok}}
-use Rattle.krs_model.proofs.{Asks.Outcomes.meets_within, Lookups.Laws.look_up_usable, Sound.Changes.Stands}
+use Rattle.krs_types.specs.declared.caller.Caller.{Caller}
+use Rattle.krs_types.specs.declared.context.Context.{Context}
+use Rattle.krs_types.specs.declared.context.UidRings.{UidRings}
+use Rattle.krs_types.specs.declared.errno.Errno.TheVariants.{EINVAL}
+use Rattle.krs_types.specs.declared.rights.Want.{Want}
+use Rattle.krs_types.specs.declared.rights.Want.TheVariants.{Granted}
+use Rattle.krs_model.specs.Asks.Adding.{add, admitted, place_of}
+use Rattle.krs_model.specs.Asks.Changing.{chown, revoke, set_perm, set_timeout, updatable, update, updated}
+use Rattle.krs_model.specs.Asks.Entering.{exec, fork, thread}
+use Rattle.krs_model.specs.Asks.Finding.{get_id, made_where, request, search_from}
+use Rattle.krs_model.specs.Asks.Hello.{hello, uid_ring, with_uid}
+use Rattle.krs_model.specs.Asks.Invalidating.{invalidate}
+use Rattle.krs_model.specs.Asks.Joining.{join, session_joined, session_ring}
+use Rattle.krs_model.specs.Asks.Leaving.{exit, left}
+use Rattle.krs_model.specs.Asks.Linked.{clear, link, unless, unlink}
+use Rattle.krs_model.specs.Asks.Moving.{move_link, moved}
+use Rattle.krs_model.specs.Asks.Reading.{describe, read}
+use Rattle.krs_model.specs.Asks.Restricting.{restrict_keyring}
+use Rattle.krs_model.specs.Asks.Watching.{close_queue, open_queue, read_queue, set_filter, watch}
+use Rattle.krs_model.specs.Lookup.{context_of, look_up}
+use Rattle.krs_model.specs.Making.{made_for, own_ring}
+use Rattle.krs_model.specs.Search.{found}
+use Rattle.krs_model.specs.State.{Key, State}
+use Rattle.krs_model.specs.Step.{outcome_of}
+use Rattle.krs_model.specs.Table.{at, put}
+use Rattle.krs_model.proofs.Asks.Fares.{meets_by}
+use Rattle.krs_model.proofs.Asks.LaterByAsk.{moved_is}
+use Rattle.krs_model.proofs.Asks.Outcomes.{Meets, meets_after, meets_ok, meets_within}
+use Rattle.krs_model.proofs.Lookups.Laws.{look_up_usable}
+use Rattle.krs_model.proofs.Sound.Changes.{Stands}
 use Rattle.krs_model.proofs.Sound.NewContexts.{made_for_stands}
 use Rattle.krs_laws.specs.Limits.{IsShort}
 use Rattle.krs_laws.proofs.KeyLimits.{added_short, admitted_short, AllShort, cleared_short, emptied_short, found_short}
@@ -37,7 +56,7 @@ update_short s client context id payload all =
     meets_after (updatable there.1.kind) _ (λ kind _.
     meets_after (paid kind payload) _ (λ fit is.
     meets_ok (short_alter s.keys there.0 (updated payload)
-    (λ v _ short. updated_short payload v.content (paid_short kind payload fit is) short) all)))))
+    (λ v _ short. updated_short payload v.content (paid_short (row_of kind).payload payload fit is) short) all)))))
 
 add_short : (s : State) (client context : ℕ) (type_name desc payload : List ℕ) (ring : ℤ) → Stands s → AllShort s.keys
     → Shortly s client context (Add type_name desc payload ring)

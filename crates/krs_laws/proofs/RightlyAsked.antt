@@ -1,24 +1,46 @@
 -- What asks share, by right: keyrings that are made, links, moved links, keys that are found, keys that are added.
-use Rattle.std.proofs.Common.{[], ⊎_elim, ◌∙◌, ◌≡◌, ap, Bool, codes, false, inl, inr, List, None, Ok, refl, Result}
-use Rattle.std.proofs.Common.{Some, subst, sym, true, true≢false, ℕ, ℤ}
-use Rattle.krs_types.specs.declared.{ask.Op.Op, caller.Caller.Caller, context.Context.Context, errno.Errno.Errno}
-use Rattle.krs_types.specs.declared.{errno.Errno.TheVariants.ENOKEY, key_id.KeyId.KeyId, kind.Kind.Kind}
-use Rattle.krs_types.specs.declared.{kind.Kind.TheVariants.{Keyring, Logon, User}, name.Name.Name}
-use Rattle.krs_types.specs.{declared.rights.Want.TheVariants.Granted, KeyId.key_id_of, Perm.{group_byte, other_byte}}
-use Rattle.krs_types.specs.{Refusing.or_refuse, Rights.WRITE}
-use Rattle.krs_model.specs.Asks.Adding.{added, first_content, Made, new_key, Place, place_of, Updated}
-use Rattle.krs_model.specs.Asks.{Changing.updated, Finding.{found_into, if_linkable}, Linked.{linked_into, name_of}}
-use Rattle.krs_model.specs.{Asks.Linked.{unlinked_content, without_link}, Levels.is_in, Linking.is_named}
-use Rattle.krs_model.specs.{Linking.linked_content, Lookup.{context_of, look_up}, Making.{made_for, own_ring}}
-use Rattle.krs_model.specs.{Making.special_ring, Possession.links_of_content, State.{Key, State}, Table.{alter, at}}
-use Rattle.krs_model.specs.Table.{put, Table}
-use Rattle.krs_model.proofs.Asks.{Adding.{place_found, place_writes}, LaterByAsk.{IsMoved, linked_into_is, Moves}}
-use Rattle.krs_model.proofs.Asks.{LaterByAsk.Stays, Outcomes.{Meets, meets_after, meets_ok}}
-use Rattle.krs_model.proofs.Isolation.{Births.{first_own, made_own}, Links.linkable_grants}
-use Rattle.krs_model.proofs.{Lookups.{Laws.look_up_usable, Serials.refused_is}, MadeKeyring.State.HasMadeFor}
+use Rattle.std.proofs.Common.{[], ap, Bool, codes, false, inl, inr, List, None, Ok}
+use Rattle.std.proofs.Common.{refl, Result, Some, subst, sym, true, true≢false, ℕ, ℤ, ◌∙◌, ◌≡◌, ⊎_elim}
+use Rattle.krs_types.specs.KeyId.{key_id_of}
+use Rattle.krs_types.specs.Kind.{same_kind}
+use Rattle.krs_types.specs.Perm.{group_byte, other_byte}
+use Rattle.krs_types.specs.Refusing.{or_refuse}
+use Rattle.krs_types.specs.Rights.{WRITE}
+use Rattle.krs_types.specs.declared.ask.Op.{Op}
+use Rattle.krs_types.specs.declared.caller.Caller.{Caller}
+use Rattle.krs_types.specs.declared.context.Context.{Context}
+use Rattle.krs_types.specs.declared.errno.Errno.{Errno}
+use Rattle.krs_types.specs.declared.errno.Errno.TheVariants.{ENOKEY}
+use Rattle.krs_types.specs.declared.key_id.KeyId.{KeyId}
+use Rattle.krs_types.specs.declared.kind.Kind.TheVariants.{Keyring}
+use Rattle.krs_types.specs.declared.name.Name.{Name}
+use Rattle.krs_types.specs.declared.rights.Want.TheVariants.{Granted}
+use Rattle.krs_types.proofs.KindRows.{has_row}
+use Rattle.krs_model.specs.Asks.Adding.{added, Made, new_key, Place}
+use Rattle.krs_model.specs.Asks.Adding.{place_of, Updated}
+use Rattle.krs_model.specs.Asks.Changing.{updated}
+use Rattle.krs_model.specs.Asks.Finding.{found_into, if_linkable}
+use Rattle.krs_model.specs.Asks.Linked.{linked_into, name_of, unlinked_content, without_link}
+use Rattle.krs_model.specs.Levels.{is_in}
+use Rattle.krs_model.specs.Linking.{is_named, linked_content}
+use Rattle.krs_model.specs.Lookup.{context_of, look_up}
+use Rattle.krs_model.specs.Making.{made_for, own_ring, special_ring}
+use Rattle.krs_model.specs.Possession.{links_of_content}
+use Rattle.krs_model.specs.State.{Key, State}
+use Rattle.krs_model.specs.Table.{alter, at, put, Table}
+use Rattle.krs_model.proofs.Asks.Adding.{no_links, place_found, place_writes}
+use Rattle.krs_model.proofs.Asks.LaterByAsk.{IsMoved, linked_into_is, Moves, Stays}
+use Rattle.krs_model.proofs.Asks.Outcomes.{Meets, meets_after, meets_ok}
+use Rattle.krs_model.proofs.Isolation.Births.{made_own}
+use Rattle.krs_model.proofs.Isolation.Links.{linkable_grants}
+use Rattle.krs_model.proofs.Lookups.Laws.{look_up_usable}
+use Rattle.krs_model.proofs.Lookups.Serials.{refused_is}
+use Rattle.krs_model.proofs.MadeKeyring.State.{HasMadeFor}
 use Rattle.krs_model.proofs.MadeKeyring.Which.{IsMade, made_for_is, NoneMade, ProcessMade, ThreadMade}
-use Rattle.krs_model.proofs.Sound.{Changes.in_linked_content, KeyChanges.{unlinked_lessens, updated_lessens}}
-use Rattle.krs_model.proofs.{Sound.Links.linkable_is, Tables.Counts.part_in}
+use Rattle.krs_model.proofs.Sound.Changes.{in_linked_content}
+use Rattle.krs_model.proofs.Sound.KeyChanges.{unlinked_lessens, updated_lessens}
+use Rattle.krs_model.proofs.Sound.Links.{linkable_is}
+use Rattle.krs_model.proofs.Tables.Counts.{part_in}
 use Rattle.krs_laws.specs.Integrity.{AsksAs, HasRight, IsMadeBy, Written}
 use Rattle.krs_laws.proofs.Rightly.{linkable_made, LinkedByRight, right_made, Rightly, rightly_put, rightly_same}
 use Rattle.krs_laws.proofs.Rightly.{rightly_then, rightly_written}
@@ -126,11 +148,6 @@ updated_then s client context op keys n payload right was =
     (λ key _ _ mine. record { caller = mine.caller; asks = mine.asks; own = mine.own; gid = mine.gid })
     (λ k v i. inl (part_in _ _ k ((updated_lessens payload).links v) i)) was
 
-first_links : (kind : Kind) (payload : List ℕ) → links_of_content (first_content kind payload) ≡ []
-first_links User payload = refl
-first_links Logon payload = refl
-first_links Keyring payload = refl
-
 pub added_rightly :
     (s : State) (client context : ℕ) (op : Op) (c : Context) (ring : ℤ) (made : State × Context) (name : Name)
     (payload : List ℕ) (place : Place) → context_of s client context ≡ Ok c → AsksAs s client context op made.1.caller
@@ -146,11 +163,10 @@ added_rightly s client context op c ring made name payload (Made r) own asks non
     let found = place_found made.0 made.1 name ring r is in
     let n = made.0.next_serial in
     let key = new_key name payload made.1.caller.uid made.1.caller.gid in
-    let first = first_own name.kind in
     let mine : IsMadeBy s client context op key = record {
       caller = made.1.caller;
       asks = asks;
-      own = made_own made.1.caller.uid key refl first.0 first.1;
+      own = made_own made.1.caller.uid key refl (has_row name.kind).group (has_row name.kind).other;
       gid = refl;
     } in
     let displaced : ℕ → Bool = λ k. is_named name (at made.0.keys k) in
@@ -163,4 +179,4 @@ added_rightly s client context op c ring made name payload (Made r) own asks non
     (λ (e : k ≡ n). inr (inl (subst (λ (z : ℕ). at s.keys z ≡ None) (sym e) next)))
     (in_linked_content displaced n v.content k i))
     (rightly_put s client context op made.0.keys n key next mine
-    (λ k i. links_nothing k (links_of_content key.content) (first_links name.kind payload) i) was)
+    (λ k i. links_nothing k (links_of_content key.content) (no_links (same_kind name.kind Keyring) payload) i) was)

@@ -1,7 +1,7 @@
 -- The hasher that a seed begins with, and what bytes and names hash to from it.
 use Rattle.std.specs.{Prelude.{[], ◌∷◌, List, ℕ}, Hash.{le_bytes, DefaultHasher.{finish, initial, write}}}
 use Rattle.std.specs.{RandomState.initial_hasher, declared.hash.{DefaultHasher.DefaultHasher, RandomState.RandomState}}
-use Rattle.krs_types.specs.{Name.kind_number, declared.name.Name.Name}
+use Rattle.krs_types.specs.{Kind.kind_number, declared.name.Name.Name}
 use Rattle.krs_links.specs.declared.seed.Seed.{Seed}
 
 -- SipHash with both keys 0, after the seed's two words

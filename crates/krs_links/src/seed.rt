@@ -1,5 +1,5 @@
 ghost use Rattle.std.specs.Prelude.{◌↔◌, ◌≡◌, IsTrue};
-ghost use Rattle.krs_types.specs.Name.{kind_number};
+ghost use Rattle.krs_types.specs.Kind.{kind_number};
 ghost use Rattle.krs_links.specs.Seeded.{digest, first_hasher, name_digest, random_seed};
 
 use krs_types::Name;

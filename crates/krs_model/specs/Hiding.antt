@@ -3,9 +3,9 @@
 -- one declassifier; keyctl(2), KEYCTL_READ.
 use Rattle.std.specs.Prelude.{[], ◌&&◌, ◌∷◌, ◌≡◌, Bool, Err, if◌then◌else◌, length, List, nat_le, None, Ok, Option}
 use Rattle.std.specs.Prelude.{Result, Some, ℕ}
-use Rattle.krs_types.specs.{Kind.paid, declared.ask.Answer.{Answer, TheVariants.{Bytes, Nothing, Number}}}
+use Rattle.krs_types.specs.{Kind.{paid, row_of}, declared.ask.Answer.{Answer, TheVariants.{Bytes, Nothing, Number}}}
 use Rattle.krs_types.specs.declared.{ask.Op.{Op, TheVariants.{Add, Read, Update}}, errno.Errno.Errno, event.Event.Event}
-use Rattle.krs_types.specs.declared.kind.Kind.{Kind, TheVariants.{Keyring, Logon, User}}
+use Rattle.krs_types.specs.declared.kind.{Kind.Kind, Told.{Told, TheVariants.{ItsLinks, ItsPayload, Never}}}
 use Rattle.krs_model.specs.{Asks.Adding.add, Notes.Telling.named, Outcome.Outcome}
 use Rattle.krs_model.specs.{State.{Content, Key, Links, Payload, raised, State}, Step.Step, Table.{at, Table}}
 
@@ -64,11 +64,15 @@ blind_ask hide s client context (Update id payload) =
     Update id (hidden_at hide (named s client context id) payload)
 blind_ask hide s client context op = op
 
--- what READ tells of a key of this type: of a user key its payload, which is hidden; of a keyring links, which are not
+-- a payload that READ tells is hidden; links that it tells are not
+abbrev pub told_by : (List ℕ → List ℕ) → Told → List ℕ → List ℕ
+told_by h ItsPayload bytes = h bytes
+told_by h ItsLinks bytes = bytes
+told_by h Never bytes = bytes
+
+-- what READ tells of a key of this type
 abbrev pub told_of : (List ℕ → List ℕ) → Kind → List ℕ → List ℕ
-told_of h User bytes = h bytes
-told_of h Logon bytes = bytes
-told_of h Keyring bytes = bytes
+told_of h kind bytes = told_by h (row_of kind).told bytes
 
 -- what READ tells of the key that is there
 abbrev pub told : (List ℕ → List ℕ) → Option Key → List ℕ → List ℕ

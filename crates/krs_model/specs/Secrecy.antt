@@ -3,10 +3,10 @@
 -- KEYCTL_READ.
 use Rattle.std.specs.Prelude.{[], ◌&&◌, ◌++◌, ◌<◌, ◌==◌, ◌∷◌, ◌≡◌, ◌≢◌, ◌⊎◌, Bool, Err, false, filter, if◌then◌else◌}
 use Rattle.std.specs.Prelude.{is_ok, IsOk, length, List, map, nat_le, Ok, Result, Some, true, ℕ}
-use Rattle.krs_types.specs.Rights.{has_all, READ, SEARCH}
+use Rattle.krs_types.specs.{Kind.row_of, Rights.{has_all, READ, SEARCH}}
 use Rattle.krs_types.specs.declared.ask.{Answer.Answer, Ask.Ask, Op.{Op, TheVariants.Read}}
 use Rattle.krs_types.specs.declared.{context.Context.Context, errno.Errno.{Errno, TheVariants.ENOMEM}}
-use Rattle.krs_types.specs.declared.{event.Event.Event, kind.Kind.TheVariants.{Logon, User}, rights.Rights.Rights}
+use Rattle.krs_types.specs.declared.{event.Event.Event, kind.Told.TheVariants.{ItsPayload, Never}, rights.Rights.Rights}
 use Rattle.krs_model.specs.{Access.{is_over, rights_on}, Hiding.{blind, Hides, Hiding, IsBlinded}, History.IsLegal}
 use Rattle.krs_model.specs.{Possession.possessed, Revocation.Reads, State.{Key, raised, State}, Step.Step, Table.at}
 
@@ -54,13 +54,14 @@ DifferInReads (event ∷ events) [] = ⊥
 abbrev pub IsShown : Hiding → ℕ → Type 0
 IsShown hide serial = (bytes : List ℕ) → hide serial bytes ≡ bytes
 
--- of the events from this state, each READ by the client that is accepted is of a keyring, or of a user key whose
--- payloads are not hidden
+-- of the events from this state, each READ by the client that is accepted is of a keyring, or of a key whose payload
+-- READ tells (a user key), and whose payloads are not hidden
 abbrev pub ReadsShown : Hiding → ℕ → State → List Event → Type 0
 ReadsShown hide client start events =
     (before later : List Event) (reading : Event) (old : State) (serial : ℕ) (key : Key)
     → events ≡ before ++ reading ∷ later → IsLegal start before old → reading.lane ≡ client
-    → Reads old reading serial → at old.keys serial ≡ Some key → key.kind ≡ User → IsShown hide serial
+    → Reads old reading serial → at old.keys serial ≡ Some key → (row_of key.kind).told ≡ ItsPayload
+    → IsShown hide serial
 
 -- all that a client is told: the replies to it, in order, among them the records that it reads from its queues
 abbrev pub replies_to : ℕ → List Event → List (Result Answer Errno)
@@ -132,14 +133,14 @@ KeepsSecrets start = (events : List Event) → TellsNoUnread start events
 abbrev pub Grants : State → Context → ℕ → Key → Rights → Type 0
 Grants s c serial key wanted = has_all (rights_on key c.caller (possessed s c serial)) wanted ≡ true
 
--- the key at the serial is neither revoked nor expired, is no logon key, and grants the context READ; or it is
--- possessed, and grants SEARCH: keyrings(7), "Access rights"; profile, reading by possession
+-- the key at the serial is neither revoked nor expired, is of a type that READ tells of (no logon key), and grants the
+-- context READ; or it is possessed, and grants SEARCH: keyrings(7), "Access rights"; profile, reading by possession
 pub record MayBeRead (s : State) (c : Context) (serial : ℕ) : Type 0 where
   pub key : Key
   pub there : at s.keys serial ≡ Some key
   pub live : key.revoked ≡ false
   pub running : is_over s.clock key.expiry ≡ false
-  pub kind : key.kind ≢ Logon
+  pub told : (row_of key.kind).told ≢ Never
   pub granted : Grants s c serial key READ ⊎ ((possessed s c serial ≡ true) × Grants s c serial key SEARCH)
 
 -- each key that an accepted READ names may be read by the context that asks, at that moment

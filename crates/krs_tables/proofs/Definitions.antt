@@ -1,10 +1,10 @@
 -- What the store's own steps come to in the definitions.
-use Rattle.std.proofs.Common.{[], ⊎_elim, ◌+◌, ◌==◌, ◌∙◌, ◌∷◌, ◌≡◌, ◌≤◌, ap, arith, Bool, codes, IsSome, length, List}
-use Rattle.std.proofs.Common.{None, Ok, Option, option_map, refl, Some, subst, sym, true, ℕ, ℤ}
+use Rattle.std.proofs.Common.{[], ⊎_elim, ◌+◌, ◌==◌, ◌∙◌, ◌∷◌, ◌≡◌, ◌≤◌, ap, arith, Bool, codes, cond, false, IsSome}
+use Rattle.std.proofs.Common.{List, None, Ok, Option, option_map, refl, Some, subst, sym, true, ℕ, ℤ}
 use Rattle.std.specs.Cmp.{unsigned_tied}
 use Rattle.std.proofs.lemmas.{Bool.Decides.nat_tests, Option.{none-some, same_Some}}
-use Rattle.krs_types.specs.{Kind.kind_name, Rights.WRITE, declared.caller.Caller.Caller}
-use Rattle.krs_types.specs.declared.{context.Context.Context, kind.Kind.{Kind, TheVariants.{Keyring, Logon, User}}}
+use Rattle.krs_types.specs.{Kind.same_kind, Rights.WRITE, declared.caller.Caller.Caller}
+use Rattle.krs_types.specs.declared.{context.Context.Context, kind.Kind.{Kind, TheVariants.Keyring}}
 use Rattle.krs_types.specs.declared.{name.Name.Name, rights.Want.TheVariants.Granted}
 use Rattle.krs_model.specs.Asks.{Adding.{by_match, IsKeyringAt, made, new_key, place_of}, Hello.{uid_ring, with_uid}}
 use Rattle.krs_model.specs.{Levels.is_in, Linking.{link_named, linking}, Lookup.look_up, Possession.links_of_content}
@@ -23,7 +23,6 @@ use Rattle.krs_keys.proofs.KindsLemmas.{kinds_alter, kinds_kept, kinds_put, link
 use Rattle.krs_keys.proofs.LinkNames.{fit_alter, fit_kept, fit_put, LinksKept, named_linked}
 use Rattle.krs_tables.specs.Making.{first_content, maker_key, uid_key}
 use Rattle.krs_tables.specs.{View.{IsConsistent, state_of}, declared.tables.Tables.TheInside.Inside}
-use Rattle.krs_model.specs.Asks.Adding as adding
 use Rattle.krs_model.specs.State as model
 
 key_shown : (o : Option Key) (x : model.Key) → option_map seen o ≡ Some x
@@ -43,27 +42,29 @@ entry_named : (names : ℕ → Option Name) (name : Name) (n : ℕ) (content : C
 entry_named names name n (Payload bytes) there named = named
 entry_named names name n (Links links) there named = named_linked names name n links there named
 
-first_named : (names : ℕ → Option Name) (kind : Kind) (payload : List ℕ)
-    → AreNamed names (named_links_of_content (first_content kind payload))
-first_named names User payload = tt
-first_named names Logon payload = tt
-first_named names Keyring payload = tt
+first_named : (names : ℕ → Option Name) (ring : Bool) (payload : List ℕ)
+    → AreNamed names (named_links_of_content (cond ring (Links []) (Payload payload)))
+first_named names true payload = tt
+first_named names false payload = tt
+
+of_kind : (kind : Kind) (payload : List ℕ) (ring : Bool) → same_kind kind Keyring ≡ ring
+    → IsOfKind kind (cond ring (Links []) (Payload payload))
+of_kind kind payload true is = is
+of_kind kind payload false is = tt
 
 pub first_kind : (kind : Kind) (payload : List ℕ) → IsOfKind kind (first_content kind payload)
-first_kind User payload = tt
-first_kind Logon payload = tt
-first_kind Keyring payload = refl
+first_kind kind payload = of_kind kind payload (same_kind kind Keyring) refl
 
-first_seen : (key : Key) (kind : Kind) (payload : List ℕ) → seen (record key { content = first_content kind payload })
-    ≡ record (seen key) { content = adding.first_content kind payload }
-first_seen key User payload = refl
-first_seen key Logon payload = refl
-first_seen key Keyring payload = refl
+first_seen : (key : Key) (ring : Bool) (payload : List ℕ)
+    → seen (record key { content = cond ring (Links []) (Payload payload) })
+    ≡ record (seen key) { content = cond ring (model.Links []) (model.Payload payload) }
+first_seen key true payload = refl
+first_seen key false payload = refl
 
 -- a new key, as the definitions see it
 pub seen-maker_key : (name : Name) (payload : List ℕ) (uid gid : ℕ)
     → seen (maker_key name payload uid gid) ≡ new_key name payload uid gid
-seen-maker_key name payload uid gid = first_seen (maker_key name payload uid gid) name.kind payload
+seen-maker_key name payload uid gid = first_seen (maker_key name payload uid gid) (same_kind name.kind Keyring) payload
 
 pub made_told : (s : Inside) (new : Keys) (ring : ℕ) (name : Name) (payload : List ℕ) (uid gid : ℕ) → IsConsistent s
     → IsBelow s.keys.keys s.keys.next → IsKeyringAt (state_of s) ring
@@ -79,7 +80,8 @@ made_told s new ring name payload uid gid sound unused keyring e =
     let one = put es n key in
     let f = with_entry name n in
     let none : at es n ≡ None = unused n (omega arith) in
-    let fit_one : AreFit one = fit_put es n key none (first_named (name_at one) name.kind payload) sound.fit in
+    let fit_one : AreFit one =
+    fit_put es n key none (first_named (name_at one) (same_kind name.kind Keyring) payload) sound.fit in
     let name_there : name_at one n ≡ Some name = ap (option_map (λ (k : Key). k.name)) (at_put_same es n key) in
     let is = key_shown (at es ring) keyring.0 (sym (at_map seen es ring) ∙ keyring.1) in
     let ring_in_one : at one ring ≡ Some is.0 =
@@ -195,9 +197,3 @@ unfolding place_of
 place_told s c name id ring key links found is named =
     let by_name : link_named s.keys name (serials links) ≡ serial_named links name = rw is at (named name) in
     rw (found, is, by_name) refl
-
--- a description is short
-pub kind_short : (kind : Kind) → length (kind_name kind) ≤ 7
-kind_short User = omega arith
-kind_short Logon = omega arith
-kind_short Keyring = omega arith

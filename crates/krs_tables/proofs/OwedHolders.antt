@@ -1,9 +1,9 @@
 -- What the store's own steps owe the numbers of holders.
-use Rattle.std.proofs.Common.{[], ⊎_elim, ◌++◌, ◌+◌, ◌∙◌, ◌∷◌, ◌≡◌, ◌≤◌, ap, arith, Bool, filter, IfSome, IsSome, List}
-use Rattle.std.proofs.Common.{None, not, Option, option_map, option_to_list, refl, Some, subst, sym, true, true≢false}
-use Rattle.std.proofs.{Common.{unwrap_or, ℕ}, lemmas.Option.{none-some, same_Some}}
-use Rattle.krs_types.specs.declared.context.{Context.Context, UidRings.UidRings}
-use Rattle.krs_types.specs.declared.{kind.Kind.{Kind, TheVariants.{Keyring, Logon, User}}, name.Name.Name}
+use Rattle.std.proofs.Common.{[], ⊎_elim, ◌++◌, ◌+◌, ◌∙◌, ◌∷◌, ◌≡◌, ◌≤◌, ap, arith, Bool, cond, false, filter, IfSome}
+use Rattle.std.proofs.Common.{IsSome, List, None, not, Option, option_map, option_to_list, refl, Some, subst, sym, true}
+use Rattle.std.proofs.{Common.{true≢false, unwrap_or, ℕ}, lemmas.Option.{none-some, same_Some}}
+use Rattle.krs_types.specs.{Kind.same_kind, declared.context.{Context.Context, UidRings.UidRings}}
+use Rattle.krs_types.specs.declared.{kind.Kind.{Kind, TheVariants.Keyring}, name.Name.Name}
 use Rattle.krs_model.specs.{Asks.Adding.IsKeyringAt, Levels.is_in, Reach.links_of_key_at}
 use Rattle.krs_model.specs.Sweep.{context_roots, links_of_key, process_roots, roots, uid_roots}
 use Rattle.krs_model.specs.Table.{alter, at, put, Table}
@@ -97,10 +97,12 @@ made_tallied s attached ring name key none bare keyring h =
     tallied_link (put es n key) attached (with_number n s.holders) ring name n is.0 links.0 there links.1
     (some_with s.holders n) one
 
+no_links : (ring : Bool) (payload : List ℕ) → named_links_of_content (cond ring (Links []) (Payload payload)) ≡ []
+no_links true payload = refl
+no_links false payload = refl
+
 pub first_links : (kind : Kind) (payload : List ℕ) → named_links_of_content (first_content kind payload) ≡ []
-first_links User payload = refl
-first_links Logon payload = refl
-first_links Keyring payload = refl
+first_links kind payload = no_links (same_kind kind Keyring) payload
 
 -- what is attached has a number
 pub attached_counted : (keys : Table model.Key) (attached : List ℕ) (numbers : Table ℕ) (k : ℕ)

@@ -1,7 +1,7 @@
 -- The keys that asks make.
-use Rattle.std.specs.Prelude.{[], ◌++◌, decimal, false, List, None, ℕ, ℤ}
-use Rattle.krs_types.specs.{Perm.uid_mask, Refusing.◌>>=◌, declared.caller.Caller.Caller}
-use Rattle.krs_types.specs.declared.{kind.Kind.{Kind, TheVariants.{Keyring, Logon, User}}, name.Name.Name}
+use Rattle.std.specs.Prelude.{[], ◌++◌, decimal, false, if◌then◌else◌, List, None, ℕ, ℤ}
+use Rattle.krs_types.specs.{Kind.same_kind, Perm.uid_mask, Refusing.◌>>=◌, declared.caller.Caller.Caller}
+use Rattle.krs_types.specs.declared.{kind.Kind.{Kind, TheVariants.Keyring}, name.Name.Name}
 use Rattle.krs_model.specs.{Asks.Adding.{added_in, first_perm}, Lookup.context_of, Outcome.Outcome, State.State}
 use Rattle.krs_links.specs.Links.{LinkList}
 use Rattle.krs_keys.specs.declared.key.{Content.{Content, TheVariants.{Links, Payload}}, Key.Key}
@@ -29,9 +29,7 @@ uid_key prefix links c = named_uid_key (uid_name prefix c.uid) links c
 
 -- a keyring is made empty
 abbrev pub first_content : Kind → List ℕ → Content
-first_content User payload = Payload payload
-first_content Logon payload = Payload payload
-first_content Keyring payload = Links []
+first_content kind payload = if same_kind kind Keyring then Links [] else Payload payload
 
 -- a new key of its maker
 abbrev pub maker_key : Name → List ℕ → ℕ → ℕ → Key

@@ -1,11 +1,10 @@
 ghost use Rattle.std.specs.Prelude.{◌≡◌};
-ghost use Rattle.krs_model.specs.Asks.Adding.{first_perm};
 ghost use Rattle.krs_tables.specs.Making.{first_content, maker_key};
 
 use crate::Tables;
 use krs_keys::{Content, Key};
 use krs_links::HashedName;
-use krs_types::{Body, Kind, Perm};
+use krs_types::{Body, Kind};
 
 impl Tables {
     /// A new key of its maker: add_key(2).
@@ -17,7 +16,7 @@ impl Tables {
             name,
             uid,
             gid,
-            perm: first_perm(kind),
+            perm: kind.first_perm(),
             expiry: None,
             revoked: false,
             joined: false,
@@ -30,19 +29,9 @@ impl Tables {
     fn first_content(&self, kind: Kind, payload: Body) -> Content
         ensures { result ≡ first_content kind payload }
     {
-        match kind {
-            Kind::User | Kind::Logon => Content::Payload(payload),
-            Kind::Keyring => Content::Links(self.no_links()),
+        if kind.is(Kind::Keyring) {
+            return Content::Links(self.no_links());
         }
-    }
-}
-
-/// The mask of a new key: profile, masks of new keys.
-fn first_perm(kind: Kind) -> Perm
-    ensures { result ≡ first_perm kind }
-{
-    match kind {
-        Kind::User | Kind::Keyring => Perm::OF_KEY,
-        Kind::Logon => Perm::OF_LOGON,
+        Content::Payload(payload)
     }
 }

@@ -234,10 +234,10 @@ impl Tables {
 
     /// The same for a new key of this kind: a walk comes to keyrings alone.
     pub fn make_room_for(&self, kind: Kind) -> Result<(), AllocError> {
-        match kind {
-            Kind::Keyring => self.make_walk_room(1),
-            Kind::User | Kind::Logon => self.check_memory(),
+        if kind.is(Kind::Keyring) {
+            return self.make_walk_room(1);
         }
+        self.check_memory()
     }
 
     /// The clock is at least at this moment from now on.

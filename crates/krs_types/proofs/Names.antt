@@ -1,8 +1,8 @@
 -- Names that are the same are equal.
-use Rattle.std.proofs.Common.{◌&&◌, ◌∙◌, ◌≡◌, ap, arith, Bool, eqb-true, false, List, nat_eq, refl, rules, sym, true, ℕ}
+use Rattle.std.proofs.Common.{◌&&◌, ◌∙◌, ◌≡◌, ap, Bool, false, List, nat_eq, refl, rules, sym, true, ℕ}
 use Rattle.std.specs.Cmp.{IsEquivalence, Lexicographic.{pointwise, same_text}, Rules.comparing}
-use Rattle.krs_types.specs.Name.{kind_number, same_name}
-use Rattle.krs_types.specs.declared.{kind.Kind.{Kind, TheVariants.{Keyring, Logon, User}}, name.Name.Name}
+use Rattle.krs_types.specs.{Kind.kind_number, Name.same_name, declared.{kind.Kind.Kind, name.Name.Name}}
+use Rattle.krs_types.proofs.KindRows.{equal_kinds}
 
 pub and_left : (a b : Bool) → (a && b) ≡ true → a ≡ true
 and_left true b h = refl
@@ -12,17 +12,6 @@ pub and_right : (a b : Bool) → (a && b) ≡ true → b ≡ true
 and_right true b h = h
 and_right false b h = absurd cc
 
-kind_from_number : (a b : Kind) → kind_number a ≡ kind_number b → a ≡ b
-kind_from_number User User h = refl
-kind_from_number Logon Logon h = refl
-kind_from_number Keyring Keyring h = refl
-kind_from_number User Logon h = absurd (omega arith)
-kind_from_number User Keyring h = absurd (omega arith)
-kind_from_number Logon User h = absurd (omega arith)
-kind_from_number Logon Keyring h = absurd (omega arith)
-kind_from_number Keyring User h = absurd (omega arith)
-kind_from_number Keyring Logon h = absurd (omega arith)
-
 -- names that are the same are equal
 pub equal_names : (a b : Name) → same_name a b ≡ true → a ≡ b
 equal_names a b h =
@@ -30,7 +19,7 @@ equal_names a b h =
     and_left _ (pointwise nat_eq a.desc b.desc) h in
     let texts : pointwise nat_eq a.desc b.desc ≡ true = and_right (nat_eq (kind_number a.kind)
     (kind_number b.kind)) _ h in
-    let kind : a.kind ≡ b.kind = kind_from_number a.kind b.kind (eqb-true _ _ kinds) in
+    let kind : a.kind ≡ b.kind = equal_kinds a.kind b.kind kinds in
     let desc : a.desc ≡ b.desc = same_text a.desc b.desc (sym texts) in
     let made : Kind → List ℕ → Name = λ k t. record { kind = k; desc = t } in
     ap (λ (k : Kind). made k a.desc) kind ∙ ap (λ (t : List ℕ). made b.kind t) desc

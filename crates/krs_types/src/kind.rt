@@ -1,8 +1,8 @@
 ghost use Rattle.std.specs.{Prelude.{◌==◌, ◌≡◌, ◌≤◌, length, OnOk}, List.list_any};
 ghost use Rattle.krs_types.specs.Kind.{begins_with, checked, described, described_as, is_bad_text, kind_name};
-ghost use Rattle.krs_types.specs.Kind.{kind_named, paid, same_kind};
+ghost use Rattle.krs_types.specs.Kind.{kind_named, kind_number, paid, row_of, same_kind};
 
-use crate::Errno;
+use crate::{Errno, Perm};
 
 /// How long a type's name may be: profile, known types.
 const MAX_TYPE_NAME: usize = 31;
@@ -21,6 +21,64 @@ pub enum Kind {
     Keyring,
 }
 
+/// Which descriptions a type takes, of those that any key may have.
+#[derive(Clone, Copy)]
+pub enum DescRule {
+    AnyText,
+    /// A service stands before the first colon: profile, logon prefix.
+    WithService,
+    /// It doesn't begin with a dot: add_key(2), "EPERM".
+    WithoutDot,
+}
+
+/// Which payloads a type takes: keyrings(7), "Key types".
+#[derive(Clone, Copy)]
+pub enum PayloadRule {
+    SomeBytes,
+    NoBytes,
+}
+
+/// What READ tells of a key.
+#[derive(Clone, Copy)]
+pub enum Told {
+    ItsPayload,
+    ItsLinks,
+    Never,
+}
+
+/// The types, a row each: the variant, its number, its name, which descriptions and payloads it takes, the mask of a
+/// new key (profile, masks of new keys), what READ tells of a key, and whether UPDATE takes one.
+macro_rules! kinds {
+    ($mark:ident, $of:expr) => {
+        rows!($mark, $of;
+            User (0 "user" AnyText SomeBytes OF_KEY ItsPayload true);
+            Logon (1 "logon" WithService SomeBytes OF_LOGON Never true);
+            Keyring (2 "keyring" WithoutDot NoBytes OF_KEY ItsLinks false);
+        )
+    };
+}
+
+macro_rules! rows {
+    (kind, $of:expr; $($kind:ident ($number:literal $name:literal $($mark:tt)*);)*) => {
+        $(if $of == $name.as_bytes() { Ok(Kind::$kind) } else)* { Err(Errno::ENODEV) }
+    };
+    ($mark:ident, $of:expr; $($kind:ident $row:tt;)*) => {
+        match $of {
+            $(Kind::$kind => mark!($mark $row),)*
+        }
+    };
+}
+
+macro_rules! mark {
+    (number ($mark:literal $($later:tt)*)) => { $mark };
+    (name ($number:tt $mark:literal $($later:tt)*)) => { $mark };
+    (desc ($number:tt $name:tt $mark:ident $($later:tt)*)) => { DescRule::$mark };
+    (payload ($number:tt $name:tt $desc:tt $mark:ident $($later:tt)*)) => { PayloadRule::$mark };
+    (perm ($number:tt $name:tt $desc:tt $payload:tt $mark:ident $($later:tt)*)) => { Perm::$mark };
+    (told ($number:tt $name:tt $desc:tt $payload:tt $perm:tt $mark:ident $updatable:tt)) => { Told::$mark };
+    (updatable ($number:tt $name:tt $desc:tt $payload:tt $perm:tt $told:tt $mark:literal)) => { $mark };
+}
+
 impl Kind {
     /// The kind of a type's name: EINVAL where it is empty, longer than 31 bytes or has a byte 0, EPERM where it
     /// begins with a dot, ENODEV where there is no such type. add_key(2); profile, known types.
@@ -33,37 +91,49 @@ impl Kind {
         if begins(name, b'.') {
             return Err(Errno::EPERM);
         }
-        if name == b"user".as_slice() {
-            return Ok(Kind::User);
-        }
-        if name == b"logon".as_slice() {
-            return Ok(Kind::Logon);
-        }
-        if name == b"keyring".as_slice() {
-            return Ok(Kind::Keyring);
-        }
-        Err(Errno::ENODEV)
+        kinds!(kind, name)
     }
 
     /// The type's name.
     pub fn name(self) -> &'static str
         ensures { result.now ≡ kind_name self }
     {
-        match self {
-            Kind::User => "user",
-            Kind::Logon => "logon",
-            Kind::Keyring => "keyring",
-        }
+        kinds!(name, self)
+    }
+
+    /// A number of its own for each kind.
+    pub fn number(self) -> u8
+        ensures { result ≡ kind_number self }
+    {
+        kinds!(number, self)
+    }
+
+    /// The mask of a key that ADD makes.
+    pub fn first_perm(self) -> Perm
+        ensures { result ≡ (row_of self).perm }
+    {
+        kinds!(perm, self)
+    }
+
+    /// What READ tells of a key.
+    pub fn told(self) -> Told
+        ensures { result ≡ (row_of self).told }
+    {
+        kinds!(told, self)
+    }
+
+    /// Whether UPDATE takes a key, and ADD a match: KEYCTL_UPDATE, "EOPNOTSUPP".
+    pub fn is_updatable(self) -> bool
+        ensures { result ≡ (row_of self).updatable }
+    {
+        kinds!(updatable, self)
     }
 
     /// Whether the two are one kind.
     pub fn is(self, other: Kind) -> bool
         ensures { result ≡ same_kind self other }
     {
-        matches!(
-            (self, other),
-            (Kind::User, Kind::User) | (Kind::Logon, Kind::Logon) | (Kind::Keyring, Kind::Keyring)
-        )
+        self.number() == other.number()
     }
 
     /// Whether a key of this kind can be made with this description and payload. In this order: EINVAL of the
@@ -79,16 +149,28 @@ impl Kind {
         self.check_payload(payload)
     }
 
+    fn desc_rule(self) -> DescRule
+        ensures { result ≡ (row_of self).desc }
+    {
+        kinds!(desc, self)
+    }
+
     fn check_own_description(self, desc: &[u8]) -> Result<(), Errno>
         ensures { result ≡ described_as self desc.now }
     {
-        match self {
-            Kind::User => Ok(()),
-            Kind::Logon if !has(desc, b':') || begins(desc, b':') => Err(Errno::EINVAL),
-            Kind::Logon => Ok(()),
-            Kind::Keyring if begins(desc, b'.') => Err(Errno::EPERM),
-            Kind::Keyring => Ok(()),
+        match self.desc_rule() {
+            DescRule::AnyText => Ok(()),
+            DescRule::WithService if !has(desc, b':') || begins(desc, b':') => Err(Errno::EINVAL),
+            DescRule::WithService => Ok(()),
+            DescRule::WithoutDot if begins(desc, b'.') => Err(Errno::EPERM),
+            DescRule::WithoutDot => Ok(()),
         }
+    }
+
+    fn payload_rule(self) -> PayloadRule
+        ensures { result ≡ (row_of self).payload }
+    {
+        kinds!(payload, self)
     }
 
     /// Whether a payload may be that of a key of this kind: EINVAL.
@@ -96,9 +178,9 @@ impl Kind {
         ensures value { result ≡ paid self payload.now }
         ensures bound { OnOk result (length payload.now ≤ 32767) }
     {
-        let fits = match self {
-            Kind::User | Kind::Logon => !payload.is_empty() && payload.len() <= MAX_PAYLOAD,
-            Kind::Keyring => payload.is_empty(),
+        let fits = match self.payload_rule() {
+            PayloadRule::SomeBytes => !payload.is_empty() && payload.len() <= MAX_PAYLOAD,
+            PayloadRule::NoBytes => payload.is_empty(),
         };
         if fits { Ok(()) } else { Err(Errno::EINVAL) }
     }

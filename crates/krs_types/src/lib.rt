@@ -31,7 +31,7 @@ pub use errno::Errno;
 pub use event::Event;
 pub use fault::Fault;
 pub use key_id::{KeyId, Serial};
-pub use kind::{Kind, check_description};
+pub use kind::{Kind, Told, check_description};
 pub use name::{Desc, Name};
 pub use note::{FilterEntries, FilterEntry, KeyEvent, Record};
 pub use perm::Perm;

@@ -2,7 +2,7 @@ ghost use Rattle.std.specs.Prelude.{[], ◌++◌, ◌∷◌, ◌≡◌, ◌≤�
 ghost use Rattle.std.proofs.Common.{ap, rules, sym};
 ghost use Rattle.std.specs.Cmp.{partial_equiv_from_equiv, Lexicographic.{nat_list_eq_equiv, pointwise, same_text}};
 ghost use Rattle.std.specs.Cmp.Rules.{comparing, hashing};
-ghost use Rattle.krs_types.specs.Name.{kind_number, same_name};
+ghost use Rattle.krs_types.specs.{Kind.kind_number, Name.same_name};
 ghost use Rattle.std.specs.Hash as fed;
 
 use crate::{Blob, Kind};
@@ -91,19 +91,6 @@ impl Name {
             kind: self.kind,
             desc,
         })
-    }
-}
-
-impl Kind {
-    /// A number of its own for each kind.
-    pub fn number(self) -> u8
-        ensures { result ≡ kind_number self }
-    {
-        match self {
-            Kind::User => 0,
-            Kind::Logon => 1,
-            Kind::Keyring => 2,
-        }
     }
 }
 

@@ -1,38 +1,68 @@
 -- What is proved of ADD.
-use Rattle.std.proofs.Common.{[], ⊎_elim, ◌&&◌, ◌<◌, ◌^◌, ◌∙◌, ◌≡◌, ◌≤◌, ap, arith, Bool, cond, Err, false, inl, inr}
-use Rattle.std.proofs.Common.{is_some, IsSome, List, nat_lt, None, not, Ok, Option, refl, Result, Some, subst, sym}
-use Rattle.std.proofs.Common.{true, true≢false, ℕ, ℤ}
-use Rattle.krs_types.specs.declared.ask.{Answer.{Answer, TheVariants.{Bytes, Nothing, Number}}, Op.Op}
-use Rattle.krs_types.specs.declared.{ask.Op.TheVariants.Add, context.Context.Context, errno.Errno.Errno}
-use Rattle.krs_types.specs.declared.{errno.Errno.TheVariants.{EACCES, ENOSPC, EPERM}, kind.Kind.Kind}
-use Rattle.krs_types.specs.declared.{kind.Kind.TheVariants.{Keyring, Logon, User}, name.Name.Name}
-use Rattle.krs_types.specs.{declared.rights.Want.TheVariants.Granted, Kind.{checked, described_as, paid, same_kind}}
+use Rattle.std.proofs.Common.{◌&&◌, ◌<◌, [], ◌^◌, ap, arith, Bool, cond, Err, false, inl, inr, is_some, IsSome, List}
+use Rattle.std.proofs.Common.{nat_lt, None, not, Ok, Option, refl, Result, Some, subst, sym, true, true≢false, ℕ, ℤ}
+use Rattle.std.proofs.Common.{◌∙◌, ◌≡◌, ◌≤◌, ⊎_elim}
+use Rattle.krs_types.specs.Kind.{checked, described_by, paid, same_kind}
 use Rattle.krs_types.specs.Rights.{has_all, WRITE}
+use Rattle.krs_types.specs.declared.ask.Answer.{Answer}
+use Rattle.krs_types.specs.declared.ask.Answer.TheVariants.{Bytes, Nothing, Number}
+use Rattle.krs_types.specs.declared.ask.Op.{Op}
+use Rattle.krs_types.specs.declared.ask.Op.TheVariants.{Add}
+use Rattle.krs_types.specs.declared.context.Context.{Context}
+use Rattle.krs_types.specs.declared.errno.Errno.{Errno}
+use Rattle.krs_types.specs.declared.errno.Errno.TheVariants.{EACCES, ENOSPC, EPERM}
+use Rattle.krs_types.specs.declared.kind.DescRule.{DescRule}
+use Rattle.krs_types.specs.declared.kind.DescRule.TheVariants.{AnyText, WithoutDot, WithService}
+use Rattle.krs_types.specs.declared.kind.Kind.{Kind}
+use Rattle.krs_types.specs.declared.kind.Kind.TheVariants.{Keyring}
+use Rattle.krs_types.specs.declared.name.Name.{Name}
+use Rattle.krs_types.specs.declared.rights.Want.TheVariants.{Granted}
 use Rattle.krs_types.proofs.Names.{and_left, and_right}
-use Rattle.krs_model.specs.{Access.{is_alive, is_over, rights_on}, Asks.Adding.{add, added, added_serial, admitted}}
-use Rattle.krs_model.specs.Asks.Adding.{by_match, first_content, if_room, IsKeyringAt, Made, made, new_key, over_match}
-use Rattle.krs_model.specs.Asks.{Adding.{Place, place_of, Updated}, Changing.{is_updatable, updated}, Linked.name_of}
-use Rattle.krs_model.specs.{Asks.Linked.unless, Confidentiality.HasToItself, Hiding.{hidden_added, Hides, Hiding}}
-use Rattle.krs_model.specs.{Hiding.serial_in, Levels.is_in, Linking.{has_room, is_named, link_named, linking}}
-use Rattle.krs_model.specs.{Linking.ring_links, Lookup.{context_of, look_up}, Making.{made_for, with_new}}
-use Rattle.krs_model.specs.{Notes.Telling.{about, about_added, about_link, named}, Outcome.Outcome}
-use Rattle.krs_model.specs.{Possession.{links_of_content, possessed}, Reach.{Directly, Further, links_of_key_at}}
-use Rattle.krs_model.specs.{Reach.Reaches, Search.found, Sound.{is_links, IsFitting}, State.{Key, State}, Table.alter}
-use Rattle.krs_model.specs.{Table.{at, IsBelow, put}, Usable.IsUsable}
-use Rattle.krs_model.proofs.Asks.{Houses.{HousesIn, made_houses}, Later.{bind_ok, changed_comes, Comes, comes_trans}}
-use Rattle.krs_model.proofs.Asks.{Later.{same_ok, with_new_comes}, LaterByAsk.made_for_comes, Lawful.IsLawful}
-use Rattle.krs_model.proofs.Asks.{NewSerials.{IsWithin, place_is, same_counts, small_there}, NotedKeys.about_link_small}
-use Rattle.krs_model.proofs.Asks.{NotedKeys.{about_small, IsThere, there_ends}, Outcomes.{meets_after, meets_ok}}
-use Rattle.krs_model.proofs.{Asks.Plain.{IsPlain, plain, plain_ok, plains}, Hiding.Adding.{add_blind, IsHidden}}
-use Rattle.krs_model.proofs.Isolation.{Attachments.same_unattached, Guarded.{changed_guarded, Guarded, lessens_keeps}}
-use Rattle.krs_model.proofs.Isolation.{Guarded.next_apart, Keys.{changed_enclosed, KeepsOwn, no_rights, not_found}}
+use Rattle.krs_model.specs.Access.{is_alive, is_over, rights_on}
+use Rattle.krs_model.specs.Asks.Adding.{add, added, added_serial, admitted, by_match, if_room}
+use Rattle.krs_model.specs.Asks.Adding.{IsKeyringAt, Made, made, new_key, over_match, Place, place_of, Updated}
+use Rattle.krs_model.specs.Asks.Changing.{is_updatable, updated}
+use Rattle.krs_model.specs.Asks.Linked.{name_of, unless}
+use Rattle.krs_model.specs.Confidentiality.{HasToItself}
+use Rattle.krs_model.specs.Hiding.{hidden_added, Hides, Hiding, serial_in}
+use Rattle.krs_model.specs.Levels.{is_in}
+use Rattle.krs_model.specs.Linking.{has_room, is_named, link_named, linking, ring_links}
+use Rattle.krs_model.specs.Lookup.{context_of, look_up}
+use Rattle.krs_model.specs.Making.{made_for, with_new}
+use Rattle.krs_model.specs.Notes.Telling.{about, about_added, about_link, named}
+use Rattle.krs_model.specs.Outcome.{Outcome}
+use Rattle.krs_model.specs.Possession.{links_of_content, possessed}
+use Rattle.krs_model.specs.Reach.{Directly, Further, links_of_key_at, Reaches}
+use Rattle.krs_model.specs.Search.{found}
+use Rattle.krs_model.specs.Sound.{is_links, IsFitting}
+use Rattle.krs_model.specs.State.{Key, Links, Payload, State}
+use Rattle.krs_model.specs.Table.{alter, at, IsBelow, put}
+use Rattle.krs_model.specs.Usable.{IsUsable}
+use Rattle.krs_model.proofs.Asks.Houses.{HousesIn, made_houses}
+use Rattle.krs_model.proofs.Asks.Later.{bind_ok, changed_comes, Comes, comes_trans, same_ok, with_new_comes}
+use Rattle.krs_model.proofs.Asks.LaterByAsk.{made_for_comes}
+use Rattle.krs_model.proofs.Asks.Lawful.{IsLawful}
+use Rattle.krs_model.proofs.Asks.NewSerials.{IsWithin, place_is, same_counts, small_there}
+use Rattle.krs_model.proofs.Asks.NotedKeys.{about_link_small, about_small, IsThere, there_ends}
+use Rattle.krs_model.proofs.Asks.Outcomes.{meets_after, meets_ok}
+use Rattle.krs_model.proofs.Asks.Plain.{IsPlain, plain, plain_ok}
+use Rattle.krs_model.proofs.Asks.Plain.{plains}
+use Rattle.krs_model.proofs.Hiding.Adding.{add_blind, IsHidden}
+use Rattle.krs_model.proofs.Isolation.Attachments.{same_unattached}
+use Rattle.krs_model.proofs.Isolation.Guarded.{changed_guarded, Guarded, lessens_keeps, next_apart}
+use Rattle.krs_model.proofs.Isolation.Keys.{changed_enclosed, KeepsOwn, no_rights, not_found}
 use Rattle.krs_model.proofs.Isolation.Links.{IsOther, later_made, made_alone, new_enclosed, other_made}
 use Rattle.krs_model.proofs.Isolation.Untouched.{AreSame, made_same, other_same, put_same, same_trans}
-use Rattle.krs_model.proofs.Lookups.{Laws.{in_by_match, made_in_ring}, Serials.own_there}
-use Rattle.krs_model.proofs.MadeKeyring.{Links.place_of_new, State.{HasMadeFor, made_for_has, MadeNone, MadeOne}}
-use Rattle.krs_model.proofs.{Notes.Fitting.AllSmall, Reach.Acyclic.From, Sound.Changes.{at_further, changed_stands}}
-use Rattle.krs_model.proofs.Sound.Changes.{in_linked_content, linked_stands, LinksTo, not_there, Stands, there_alter}
-use Rattle.krs_model.proofs.Sound.{Changes.with_linked, KeyChanges.updated_lessens, Links.named_same}
+use Rattle.krs_model.proofs.Lookups.Laws.{in_by_match, made_in_ring}
+use Rattle.krs_model.proofs.Lookups.Serials.{own_there}
+use Rattle.krs_model.proofs.MadeKeyring.Links.{place_of_new}
+use Rattle.krs_model.proofs.MadeKeyring.State.{HasMadeFor, made_for_has, MadeNone, MadeOne}
+use Rattle.krs_model.proofs.Notes.Fitting.{AllSmall}
+use Rattle.krs_model.proofs.Reach.Acyclic.{From}
+use Rattle.krs_model.proofs.Sound.Changes.{at_further, changed_stands, in_linked_content, linked_stands, LinksTo}
+use Rattle.krs_model.proofs.Sound.Changes.{not_there, Stands, there_alter, with_linked}
+use Rattle.krs_model.proofs.Sound.KeyChanges.{updated_lessens}
+use Rattle.krs_model.proofs.Sound.Links.{named_same}
 use Rattle.krs_model.proofs.Sound.NewContexts.{empty_stands, made_for_stands, own_process_there, some_there}
 use Rattle.krs_model.proofs.Tables.Changes.{at_put_same}
 use Rattle.krs_types.specs.declared.note.KeyEvent.TheVariants as told_of
@@ -110,10 +140,10 @@ added_small s mid ring (Number serial) few there =
           (small_there mid.keys serial few (there serial refl)))
     ]
 
-plain_described : (kind : Kind) (desc : List ℕ) → IsPlain (described_as kind desc)
-plain_described User desc = plain_ok
-plain_described Logon desc = search plain
-plain_described Keyring desc = search plain
+plain_described : (rule : DescRule) (desc : List ℕ) → IsPlain (described_by rule desc)
+plain_described AnyText desc = plain_ok
+plain_described WithService desc = search plain
+plain_described WithoutDot desc = search plain
 
 plain_checked : (kind : Kind) (desc payload : List ℕ) → IsPlain (checked kind desc payload)
 plain_checked kind desc payload = search (plains, plain_described)
@@ -147,15 +177,13 @@ added_houses :
 added_houses s t client context op c name payload (Updated serial) h = h
 added_houses s t client context op c name payload (Made ring) h = h
 
-first_form : (kind : Kind) (payload : List ℕ) → is_links (first_content kind payload) ≡ same_kind kind Keyring
-first_form User payload = refl
-first_form Logon payload = refl
-first_form Keyring payload = refl
+first_form : (ring : Bool) (payload : List ℕ) → is_links (cond ring (Links []) (Payload payload)) ≡ ring
+first_form true payload = refl
+first_form false payload = refl
 
-no_links : (kind : Kind) (payload : List ℕ) → links_of_content (first_content kind payload) ≡ []
-no_links User payload = refl
-no_links Logon payload = refl
-no_links Keyring payload = refl
+pub no_links : (ring : Bool) (payload : List ℕ) → links_of_content (cond ring (Links []) (Payload payload)) ≡ []
+no_links true payload = refl
+no_links false payload = refl
 
 -- what is reached goes over a first link
 first_link : (links : ℕ → List ℕ) (a b : ℕ) → Reaches links a b → (c : ℕ) × (is_in c (links a) ≡ true)
@@ -196,7 +224,7 @@ added_stands s c name payload id (Updated serial) is stands =
     changed_stands s serial (updated payload) (updated_lessens payload) stands
 added_stands s c name payload id (Made ring) is stands =
     made_stands s ring name (new_key name payload c.caller.uid c.caller.gid) (made_in_ring s c name id ring is) refl
-    (no_links name.kind payload) (first_form name.kind payload) stands
+    (no_links (same_kind name.kind Keyring) payload) (first_form (same_kind name.kind Keyring) payload) stands
 
 added_fits : (hide : Hiding) (meant : Outcome) (payload : List ℕ) (kind : Kind) → Hides hide
     → paid kind (hidden_added hide meant payload) ≡ paid kind payload
@@ -224,7 +252,7 @@ added_guarded uid private P s c name payload (Made ring) alone =
     record {
       made = later_made uid private s alone;
       enclosed = λ p. changed_enclosed uid private one.keys ring (with_linked displaced n) keeps
-          (new_enclosed uid private s key (no_links name.kind payload) alone);
+          (new_enclosed uid private s key (no_links (same_kind name.kind Keyring) payload) alone);
       unattached = same_unattached uid private s (made s ring name key) refl refl refl alone.unattached;
     }
 

@@ -1,9 +1,10 @@
 -- No ask is refused with ENOMEM: how much memory there is is no matter of the definitions.
 use Rattle.std.proofs.Common.{◌∙◌, ◌≡◌, ap, Bool, cond, Err, false, List, negsuc, None, Ok, Option, pos, refl, Result}
 use Rattle.std.proofs.Common.{Some, suc, sym, true, zero, ℕ, ℤ}
-use Rattle.krs_types.specs.{KeyId.key_id_of, Kind.{kind_named, paid}, Refusing.{◌>>=◌, or_refuse}}
-use Rattle.krs_types.specs.declared.{context.Context.Context, errno.Errno.{Errno, TheVariants.ENOMEM}, kind.Kind.Kind}
-use Rattle.krs_types.specs.declared.{kind.Kind.TheVariants.{Keyring, Logon, User}, rights.Want.Want}
+use Rattle.krs_types.specs.{KeyId.key_id_of, Kind.{kind_named, paid_by}, Refusing.{◌>>=◌, or_refuse}}
+use Rattle.krs_types.specs.declared.{context.Context.Context, errno.Errno.{Errno, TheVariants.ENOMEM}}
+use Rattle.krs_types.specs.declared.kind.PayloadRule.{PayloadRule, TheVariants.{NoBytes, SomeBytes}}
+use Rattle.krs_types.specs.declared.rights.Want.{Want}
 use Rattle.krs_model.specs.Asks.Finding.{found_into, sought_name}
 use Rattle.krs_model.specs.{Asks.Linked.{linked_into, nestable}, Linking.{has_room, ring_links}}
 use Rattle.krs_model.specs.{Lookup.{context_of, look_up, serial_of}, Making.within_serials, Outcome.Outcome}
@@ -74,10 +75,9 @@ plain_within s (Ok done) h = search plain
 pub plain_kind : (name : List ℕ) → IsPlain (kind_named name)
 plain_kind name = search plain depth 12
 
-pub plain_paid : (kind : Kind) (payload : List ℕ) → IsPlain (paid kind payload)
-plain_paid User payload = search plain
-plain_paid Logon payload = search plain
-plain_paid Keyring payload = search plain
+pub plain_paid : (rule : PayloadRule) (payload : List ℕ) → IsPlain (paid_by rule payload)
+plain_paid SomeBytes payload = search plain
+plain_paid NoBytes payload = search plain
 
 pub plain_links : (content : Content) → IsPlain (ring_links content)
 plain_links (Payload bytes) = plain_err refl

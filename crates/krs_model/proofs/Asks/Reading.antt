@@ -1,36 +1,48 @@
 -- What is proved of READ and DESCRIBE.
-use Rattle.std.proofs.Common.{◌∙◌, ◌≡◌, ap, List, Ok, Option, refl, Result, sym, ℕ, ℤ}
-use Rattle.krs_types.specs.declared.ask.{Answer.{Answer, TheVariants.Bytes}, Op.TheVariants.{Describe, Read}}
-use Rattle.krs_types.specs.declared.{context.Context.Context, errno.Errno.Errno, kind.Kind.{Kind, TheVariants.Keyring}}
-use Rattle.krs_types.specs.declared.{kind.Kind.TheVariants.{Logon, User}, rights.Want.TheVariants.{Granted, ToRead}}
-use Rattle.krs_types.specs.{Refusing.◌>>=◌, Rights.VIEW}
-use Rattle.krs_model.specs.{Asks.Reading.{describe, read, readable}, Hiding.{blind, blind_answer, blind_content}}
-use Rattle.krs_model.specs.{Hiding.{Hiding, over, told, told_at, told_of}, Lookup.{context_of, look_up}}
-use Rattle.krs_model.specs.{Notes.Telling.named, Search.found, State.{Content, Key, Links, Payload, State}}
-use Rattle.krs_model.proofs.Asks.{Fares.fares, Lawful.IsLawful, Plain.{IsPlain, plain_err, plain_ok, plains}}
-use Rattle.krs_model.proofs.Hiding.{Accepted.{accepted, blind_done, found_in, named_is}, Over.bound}
+use Rattle.std.proofs.Common.{ap, List, Ok, Option, refl, Result, sym, ℕ, ℤ, ◌∙◌, ◌≡◌}
+use Rattle.krs_types.specs.Kind.{row_of}
+use Rattle.krs_types.specs.Refusing.{◌>>=◌}
+use Rattle.krs_types.specs.Rights.{VIEW}
+use Rattle.krs_types.specs.declared.ask.Answer.{Answer}
+use Rattle.krs_types.specs.declared.ask.Answer.TheVariants.{Bytes}
+use Rattle.krs_types.specs.declared.ask.Op.TheVariants.{Describe, Read}
+use Rattle.krs_types.specs.declared.context.Context.{Context}
+use Rattle.krs_types.specs.declared.errno.Errno.{Errno}
+use Rattle.krs_types.specs.declared.kind.Told.{Told}
+use Rattle.krs_types.specs.declared.kind.Told.TheVariants.{ItsLinks, ItsPayload, Never}
+use Rattle.krs_types.specs.declared.rights.Want.TheVariants.{Granted, ToRead}
+use Rattle.krs_model.specs.Asks.Reading.{describe, read, readable, told_as}
+use Rattle.krs_model.specs.Hiding.{blind, blind_answer, blind_content, Hiding, over, told, told_at, told_by, told_of}
+use Rattle.krs_model.specs.Lookup.{context_of, look_up}
+use Rattle.krs_model.specs.Notes.Telling.{named}
+use Rattle.krs_model.specs.Search.{found}
+use Rattle.krs_model.specs.State.{Content, Key, Links, Payload, State}
+use Rattle.krs_model.proofs.Asks.Fares.{fares}
+use Rattle.krs_model.proofs.Asks.Lawful.{IsLawful}
+use Rattle.krs_model.proofs.Asks.Plain.{IsPlain, plain_err, plain_ok, plains}
+use Rattle.krs_model.proofs.Hiding.Accepted.{accepted, blind_done, found_in, named_is}
+use Rattle.krs_model.proofs.Hiding.Over.{bound}
 use Rattle.krs_model.proofs.Lookups.Laws.{look_up_usable}
-use Rattle.krs_model.specs.Asks.Reading as reading
 
-plain_readable : (kind : Kind) (content : Content) → IsPlain (reading.readable kind content)
-plain_readable User (Payload bytes) = plain_ok
-plain_readable User (Links serials) = plain_err refl
-plain_readable Logon content = plain_err refl
-plain_readable Keyring (Payload bytes) = plain_err refl
-plain_readable Keyring (Links serials) = plain_ok
+plain_told : (mark : Told) (content : Content) → IsPlain (told_as mark content)
+plain_told ItsPayload (Payload bytes) = plain_ok
+plain_told ItsPayload (Links serials) = plain_err refl
+plain_told Never content = plain_err refl
+plain_told ItsLinks (Payload bytes) = plain_err refl
+plain_told ItsLinks (Links serials) = plain_ok
 
 -- what READ comes to, with the payloads of the store and the answer hidden
 abbrev pub blind_read : Hiding → State → ℕ → ℕ → ℤ → State × Answer → State × Answer
 blind_read hide s client context id done = (blind hide done.0, blind_answer hide s client context (Read id) done.1)
 
-readable_blind : (h : List ℕ → List ℕ) (kind : Kind) (content : Content)
-    → readable kind (blind_content h content) ≡ over (told_of h kind) (readable kind content)
-readable_blind h User (Payload bytes) = refl
-readable_blind h User (Links serials) = refl
-readable_blind h Logon (Payload bytes) = refl
-readable_blind h Logon (Links serials) = refl
-readable_blind h Keyring (Payload bytes) = refl
-readable_blind h Keyring (Links serials) = refl
+told_blind : (h : List ℕ → List ℕ) (mark : Told) (content : Content)
+    → told_as mark (blind_content h content) ≡ over (told_by h mark) (told_as mark content)
+told_blind h ItsPayload (Payload bytes) = refl
+told_blind h ItsPayload (Links serials) = refl
+told_blind h Never (Payload bytes) = refl
+told_blind h Never (Links serials) = refl
+told_blind h ItsLinks (Payload bytes) = refl
+told_blind h ItsLinks (Links serials) = refl
 
 told_is :
     (hide : Hiding) (s : State) (client context : ℕ) (id : ℤ) (c : Context) (found : ℕ × Key) (bytes : List ℕ)
@@ -44,13 +56,13 @@ pub read_law : (s : State) (client context : ℕ) (id : ℤ) → IsLawful s clie
 unfolding read
 read_law s client context id = record {
   small = λ mid answer few h. tt;
-  plain = search (plains, plain_readable) depth 12;
+  plain = search (plains, plain_told) depth 12;
   blind = λ hide hides.
       let view = blind_read hide s client context id in
       found_in hide s client context id ToRead view _ _ (λ c found own there.
       let h = hide found.0 in
       ap (λ (r : Result (List ℕ) Errno). r >>= (λ bytes. accepted (blind hide s) (Bytes bytes)))
-      (readable_blind h found.1.kind found.1.content)
+      (told_blind h (row_of found.1.kind).told found.1.content)
       ∙ bound (told_of h found.1.kind) view (readable found.1.kind found.1.content) _ _ (λ bytes _.
       ap (λ (told : List ℕ). accepted (blind hide s) (Bytes told))
       (sym (told_is hide s client context id c found bytes own there))));

@@ -1,20 +1,34 @@
 -- ADD with the payloads hidden.
-use Rattle.std.proofs.Common.{◌&&◌, ◌∙◌, ◌≡◌, ap, Bool, cond, Err, List, None, Ok, Option, refl, Result, Some, sym, ℕ}
-use Rattle.std.proofs.Common.{ℤ}
-use Rattle.krs_types.specs.declared.{ask.Answer.{Answer, TheVariants.Number}, context.Context.Context}
-use Rattle.krs_types.specs.declared.{errno.Errno.{Errno, TheVariants.EACCES}, kind.Kind.{Kind, TheVariants.Keyring}}
-use Rattle.krs_types.specs.declared.{kind.Kind.TheVariants.{Logon, User}, name.Name.Name}
-use Rattle.krs_types.specs.{declared.rights.Want.TheVariants.Granted, Kind.{described, described_as, kind_named, paid}}
-use Rattle.krs_types.specs.{Refusing.◌>>=◌, Rights.{has_all, WRITE}}
-use Rattle.krs_model.specs.{Access.{is_alive, rights_on}, Asks.Adding.{add, added, added_in, added_serial, admitted}}
-use Rattle.krs_model.specs.Asks.Adding.{by_match, first_content, if_room, Made, made, new_key, over_match, Place}
-use Rattle.krs_model.specs.{Asks.{Adding.{place_of, Updated}, Changing.{is_updatable, updated}}, Hiding.blind}
-use Rattle.krs_model.specs.{Hiding.{blind_content, blind_keys, Hiding, over}, Linking.{link_named, linking, ring_links}}
-use Rattle.krs_model.specs.{Lookup.{context_of, look_up}, Making.made_for, Outcome.Outcome, State.{Content, Key}}
-use Rattle.krs_model.specs.{State.{Payload, State}, Table.{alter, at, put, Table}}
-use Rattle.krs_model.proofs.Hiding.{Accepted.{accepted, blind_done, paid_blind}, Keys.{alter_blind, put_blind, seen}}
+use Rattle.std.proofs.Common.{◌&&◌, [], ap, Bool, cond, Err, false, List, None, Ok, Option, refl, Result, Some, sym}
+use Rattle.std.proofs.Common.{true, ℕ, ℤ, ◌∙◌, ◌≡◌}
+use Rattle.krs_types.specs.Kind.{described, described_as, kind_named, paid, same_kind}
+use Rattle.krs_types.specs.Refusing.{◌>>=◌}
+use Rattle.krs_types.specs.Rights.{has_all, WRITE}
+use Rattle.krs_types.specs.declared.ask.Answer.{Answer}
+use Rattle.krs_types.specs.declared.ask.Answer.TheVariants.{Number}
+use Rattle.krs_types.specs.declared.context.Context.{Context}
+use Rattle.krs_types.specs.declared.errno.Errno.{Errno}
+use Rattle.krs_types.specs.declared.errno.Errno.TheVariants.{EACCES}
+use Rattle.krs_types.specs.declared.kind.Kind.{Kind}
+use Rattle.krs_types.specs.declared.kind.Kind.TheVariants.{Keyring}
+use Rattle.krs_types.specs.declared.name.Name.{Name}
+use Rattle.krs_types.specs.declared.rights.Want.TheVariants.{Granted}
+use Rattle.krs_model.specs.Access.{is_alive, rights_on}
+use Rattle.krs_model.specs.Asks.Adding.{add, added, added_in, added_serial, admitted, by_match, if_room}
+use Rattle.krs_model.specs.Asks.Adding.{Made, made, new_key, over_match, Place, place_of, Updated}
+use Rattle.krs_model.specs.Asks.Changing.{is_updatable, updated}
+use Rattle.krs_model.specs.Hiding.{blind, blind_content, blind_keys, Hiding, over}
+use Rattle.krs_model.specs.Linking.{link_named, linking, ring_links}
+use Rattle.krs_model.specs.Lookup.{context_of, look_up}
+use Rattle.krs_model.specs.Making.{made_for}
+use Rattle.krs_model.specs.Outcome.{Outcome}
+use Rattle.krs_model.specs.State.{Content, Key, Links, Payload, State}
+use Rattle.krs_model.specs.Table.{alter, at, put, Table}
+use Rattle.krs_model.proofs.Hiding.Accepted.{accepted, blind_done, paid_blind}
+use Rattle.krs_model.proofs.Hiding.Keys.{alter_blind, put_blind, seen}
 use Rattle.krs_model.proofs.Hiding.Links.{linking_blind, made_blind, same_link_named, same_ring_links}
-use Rattle.krs_model.proofs.Hiding.{Lookups.{blind_found, look_up_blind, same_possessed}, Over.{after, bound, given}}
+use Rattle.krs_model.proofs.Hiding.Lookups.{blind_found, look_up_blind, same_possessed}
+use Rattle.krs_model.proofs.Hiding.Over.{after, bound, given}
 
 same_admitted :
     (type_name desc payload other : List ℕ) → ((kind : Kind) → paid kind other ≡ paid kind payload)
@@ -63,11 +77,10 @@ same_place hide s c name ring =
     ∙ (ap (by_match s c found links) (same_link_named hide s.keys name links)
     ∙ as_it_is (by_match s c found links (link_named s.keys name links)))))
 
-first_blind : (h : List ℕ → List ℕ) (kind : Kind) (payload other : List ℕ) → other ≡ h payload
-    → first_content kind other ≡ blind_content h (first_content kind payload)
-first_blind h User payload other is = ap Payload is
-first_blind h Logon payload other is = ap Payload is
-first_blind h Keyring payload other is = refl
+first_blind : (h : List ℕ → List ℕ) (ring : Bool) (payload other : List ℕ) → other ≡ h payload
+    → cond ring (Links []) (Payload other) ≡ blind_content h (cond ring (Links []) (Payload payload))
+first_blind h true payload other is = refl
+first_blind h false payload other is = ap Payload is
 
 added_blind :
     (hide : Hiding) (s : State) (c : Context) (name : Name) (payload other : List ℕ) (place : Place)
@@ -85,7 +98,7 @@ added_blind hide s c name payload other (Made ring) is =
     let links : Key → Key = linking (blind hide s).keys name n in
     ap (λ (content : Content). to (alter (put (blind_keys hide s.keys) n
     (record key { content = content })) ring links))
-    (first_blind (hide n) name.kind payload other is)
+    (first_blind (hide n) (same_kind name.kind Keyring) payload other is)
     ∙ (ap (λ (es : Table Key). to (alter es ring links)) (put_blind hide s.keys n key)
     ∙ ap to (alter_blind hide (put s.keys n key) ring (linking s.keys name n) links
     (λ v. linking_blind hide s.keys name n ring v)))

@@ -2,12 +2,12 @@
 use Rattle.std.proofs.Common.{[], ⊎_elim, ◌==◌, ◌∙◌, ◌∷◌, ◌≡◌, ◌≢◌, ◌⊎◌, ap, arith, Bool, cond, Err, false, filter, inl}
 use Rattle.std.proofs.Common.{inr, IsOk, List, map, None, Ok, Option, refl, Result, Some, subst, sym, true, true≢false}
 use Rattle.std.proofs.{Common.ℕ, lemmas.Bool.Decides.nat_tests}
-use Rattle.krs_types.specs.Refusing.{◌>>=◌}
+use Rattle.krs_types.specs.{Kind.row_of, Refusing.◌>>=◌}
 use Rattle.krs_types.specs.declared.ask.{Answer.{Answer, TheVariants.Bytes}, Ask.Ask, Op.{Op, TheVariants.Read}}
 use Rattle.krs_types.specs.declared.{context.Context.Context, errno.Errno.{Errno, TheVariants.ENOMEM}}
-use Rattle.krs_types.specs.declared.{event.Event.Event, kind.Kind.{Kind, TheVariants.{Keyring, Logon, User}}}
+use Rattle.krs_types.specs.declared.{event.Event.Event, kind.Told.{Told, TheVariants.{ItsLinks, ItsPayload, Never}}}
 use Rattle.krs_model.specs.Hiding.{blind, blind_answer, blind_ask, blind_event, blind_keys, FurtherEvents, Hides}
-use Rattle.krs_model.specs.Hiding.{Hiding, IsBlinded, NoEvents, over, told, told_at, told_of}
+use Rattle.krs_model.specs.Hiding.{Hiding, IsBlinded, NoEvents, over, told, told_at, told_by}
 use Rattle.krs_model.specs.{History.IsLegal, Lookup.{context_of, serial_of}, Notes.Telling.named}
 use Rattle.krs_model.specs.Secrecy.{AreAskedAlike, asked, DifferInReads, is_read, is_wanting, IsRead, KeepsSecrets}
 use Rattle.krs_model.specs.Secrecy.{ReadsShown, replies_to, TellsNoUnread}
@@ -93,13 +93,15 @@ answer_of_blind hide s client context op answer = refl
 
 shown_told :
     (hide : Hiding) (keys : Table Key) (serial : ℕ) (bytes : List ℕ) (o : Option Key)
-    → ((key : Key) → o ≡ Some key → key.kind ≡ User → hide serial bytes ≡ bytes) → told (hide serial) o bytes ≡ bytes
+    → ((key : Key) → o ≡ Some key → (row_of key.kind).told ≡ ItsPayload → hide serial bytes ≡ bytes)
+    → told (hide serial) o bytes ≡ bytes
 shown_told hide keys serial bytes None shown = refl
 shown_told hide keys serial bytes (Some key) shown =
-    elim key.kind as (λ (kind : Kind). key.kind ≡ kind → told_of (hide serial) kind bytes ≡ bytes) [
-      | User ↦ λ is. shown key refl is
-      | Logon ↦ λ is. refl
-      | Keyring ↦ λ is. refl
+    let mark = (row_of key.kind).told in
+    elim mark as (λ (told : Told). mark ≡ told → told_by (hide serial) told bytes ≡ bytes) [
+      | ItsPayload ↦ λ is. shown key refl is
+      | ItsLinks ↦ λ is. refl
+      | Never ↦ λ is. refl
     ] refl
 
 -- a READ that is accepted tells no hidden payload, where the client reads shown keys alone

@@ -1,12 +1,14 @@
 -- Each legal history has others that are asked alike.
 use Rattle.std.proofs.Common.{[], ◌&&◌, ◌∙◌, ◌∷◌, ◌≡◌, ap, Bool, cond, Err, false, length, List, nat_le, None, Ok}
 use Rattle.std.proofs.Common.{Option, option_map, refl, Result, Some, subst, sym, true, ℕ, ℤ}
-use Rattle.krs_types.specs.{Kind.paid, declared.ask.{Answer.{Answer, TheVariants.Bytes}, Op.Op}}
+use Rattle.krs_types.specs.{Kind.{paid, paid_by, row_of}, declared.ask.{Answer.{Answer, TheVariants.Bytes}, Op.Op}}
 use Rattle.krs_types.specs.declared.{ask.Op.TheVariants.{Add, Read, Update}, errno.Errno.{Errno, TheVariants.EINVAL}}
-use Rattle.krs_types.specs.declared.{event.Event.Event, kind.Kind.{Kind, TheVariants.{Keyring, Logon, User}}}
+use Rattle.krs_types.specs.declared.{event.Event.Event, kind.Kind.{Kind, TheVariants.User}}
+use Rattle.krs_types.specs.declared.kind.PayloadRule.{PayloadRule, TheVariants.{NoBytes, SomeBytes}}
+use Rattle.krs_types.specs.declared.kind.Told.{Told, TheVariants.{ItsLinks, ItsPayload, Never}}
 use Rattle.krs_model.specs.{Asks.Adding.add, Hiding.{blind, blind_answer, blind_ask, blind_content, blind_event}}
 use Rattle.krs_model.specs.Hiding.{blind_key, blind_keys, blind_outcome, blind_reply, FurtherEvents, hidden_added}
-use Rattle.krs_model.specs.Hiding.{hidden_at, Hiding, hiding, IsBlinded, NoEvents, serial_in, told, told_at, told_of}
+use Rattle.krs_model.specs.Hiding.{hidden_at, Hiding, hiding, IsBlinded, NoEvents, serial_in, told, told_at, told_by}
 use Rattle.krs_model.specs.Lookup.{context_of, serial_of}
 use Rattle.krs_model.specs.{Notes.Telling.named, Outcome.Outcome, Secrecy.{Changes, HasOthers, putting}}
 use Rattle.krs_model.specs.{State.{Content, Key, Links, Payload, raised, State}, Table.{at, Table}}
@@ -64,11 +66,11 @@ key_told_twice : (hide change : Hiding) → Changes hide change → (n : ℕ) (o
     → told (hide n) (option_map (blind_key (change n)) o) (told (change n) o bytes) ≡ told (hide n) o bytes
 key_told_twice hide change ch n None bytes = refl
 key_told_twice hide change ch n (Some key) bytes =
-    elim key.kind as (λ (kind : Kind). told_of (hide n) kind (told_of (change n) kind bytes)
-    ≡ told_of (hide n) kind bytes) [
-      | User ↦ ch.hidden n bytes
-      | Logon ↦ refl
-      | Keyring ↦ refl
+    elim (row_of key.kind).told as (λ (mark : Told). told_by (hide n) mark (told_by (change n) mark bytes)
+    ≡ told_by (hide n) mark bytes) [
+      | ItsPayload ↦ ch.hidden n bytes
+      | ItsLinks ↦ refl
+      | Never ↦ refl
     ]
 
 told_twice : (hide change : Hiding) → Changes hide change → (keys : Table Key) (serial : Result ℕ Errno)
@@ -156,16 +158,15 @@ fits_if : (b : Bool) → taken b ≡ Ok tt → b ≡ true
 fits_if true h = refl
 fits_if false h = absurd (cc)
 
-paid_alike : (kind : Kind) (bytes payload : List ℕ) → fits bytes ≡ true → fits payload ≡ true
-    → paid kind payload ≡ paid kind bytes
-paid_alike User bytes payload b p = ap taken (p ∙ sym b)
-paid_alike Logon bytes payload b p = ap taken (p ∙ sym b)
-paid_alike Keyring bytes payload b p =
+paid_alike : (rule : PayloadRule) (bytes payload : List ℕ) → fits bytes ≡ true → fits payload ≡ true
+    → paid_by rule payload ≡ paid_by rule bytes
+paid_alike SomeBytes bytes payload b p = ap taken (p ∙ sym b)
+paid_alike NoBytes bytes payload b p =
     ap taken (not_empty (length payload) p ∙ sym (not_empty (length bytes) b))
 
 put_paid : (kind : Kind) (bytes payload : List ℕ) (secret b : Bool) → fits bytes ≡ b → fits payload ≡ true
     → paid kind (cond (secret && b) payload bytes) ≡ paid kind bytes
-put_paid kind bytes payload true true is fit = paid_alike kind bytes payload is fit
+put_paid kind bytes payload true true is fit = paid_alike (row_of kind).payload bytes payload is fit
 put_paid kind bytes payload true false is fit = refl
 put_paid kind bytes payload false true is fit = refl
 put_paid kind bytes payload false false is fit = refl

@@ -1,19 +1,21 @@
 -- Who may read a key: what an accepted READ has found.
 use Rattle.std.proofs.Common.{◌&&◌, ◌||◌, ◌≡◌, ◌≢◌, ◌⊎◌, Bool, false, inl, inr, List, Ok, refl, subst, true, ℕ, ℤ}
-use Rattle.krs_types.specs.Refusing.{◌>>=◌}
-use Rattle.krs_types.specs.{Rights.{has_all, READ, SEARCH}, declared.ask.Answer.{Answer, TheVariants.Bytes}}
-use Rattle.krs_types.specs.declared.{ask.Op.TheVariants.Read, context.Context.Context, kind.Kind.Kind}
-use Rattle.krs_types.specs.declared.{kind.Kind.TheVariants.{Keyring, Logon, User}, rights.Want.TheVariants.ToRead}
-use Rattle.krs_model.specs.{Access.rights_on, Asks.Reading.{read, readable}, Lookup.{context_of, look_up, serial_of}}
+use Rattle.krs_types.specs.{Kind.row_of, Refusing.◌>>=◌, Rights.{has_all, READ, SEARCH}}
+use Rattle.krs_types.specs.declared.ask.Answer.{Answer, TheVariants.Bytes}
+use Rattle.krs_types.specs.declared.{ask.Op.TheVariants.Read, context.Context.Context}
+use Rattle.krs_types.specs.declared.kind.Told.{Told, TheVariants.{ItsLinks, ItsPayload, Never}}
+use Rattle.krs_types.specs.declared.rights.Want.TheVariants.{ToRead}
+use Rattle.krs_model.specs.{Access.rights_on, Asks.Reading.{read, readable, told_as}}
+use Rattle.krs_model.specs.Lookup.{context_of, look_up, serial_of}
 use Rattle.krs_model.specs.{Outcome.Outcome, Possession.possessed, Revocation.Names, Secrecy.{MayBeRead, ReadsByRight}}
 use Rattle.krs_model.specs.State.{Content, Key, raised, State}
 use Rattle.krs_model.proofs.Asks.Later.{bind_ok, same_ok}
 use Rattle.krs_model.proofs.{History.Revocations.accepted_came, Lookups.{Laws.look_up_usable, Serials.found_serial}}
 
-not_logon : (kind : Kind) (content : Content) (bytes : List ℕ) → readable kind content ≡ Ok bytes → kind ≢ Logon
-not_logon User content bytes h = λ is. absurd (cc)
-not_logon Logon content bytes h = λ is. absurd (cc)
-not_logon Keyring content bytes h = λ is. absurd (cc)
+tells : (told : Told) (content : Content) (bytes : List ℕ) → told_as told content ≡ Ok bytes → told ≢ Never
+tells ItsPayload content bytes h = λ is. absurd (cc)
+tells ItsLinks content bytes h = λ is. absurd (cc)
+tells Never content bytes h = λ is. absurd (cc)
 
 either_right : (a b c : Bool) → (a || (b && c)) ≡ true → (a ≡ true) ⊎ ((b ≡ true) × (c ≡ true))
 either_right true b c h = inl refl
@@ -49,7 +51,7 @@ may_be_read s new client context id answer serial names h =
       there = usable.there;
       live = usable.live;
       running = usable.running;
-      kind = not_logon key.kind key.content told.0 told.1;
+      told = tells (row_of key.kind).told key.content told.0 told.1;
       granted = either_right (has_all rights READ) mine (has_all rights SEARCH) usable.granted;
     })
 

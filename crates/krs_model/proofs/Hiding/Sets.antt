@@ -1,41 +1,35 @@
 -- To hide a set of keys is lawful.
 use Rattle.std.proofs.Common.{[], ◌&&◌, ◌==◌, ◌∙◌, ◌∷◌, ◌≡◌, ap, arith, Bool, cond, Err, false, length, List, nat_le}
 use Rattle.std.proofs.{Common.{Ok, refl, Result, sym, true, ℕ}, lemmas.Bool.Decides.nat_tests}
-use Rattle.krs_types.specs.{Kind.paid, declared.errno.Errno.{Errno, TheVariants.EINVAL}}
-use Rattle.krs_types.specs.declared.kind.Kind.{Kind, TheVariants.{Keyring, Logon, User}}
+use Rattle.krs_types.specs.{Kind.{paid, paid_by, row_of}, declared.errno.Errno.{Errno, TheVariants.EINVAL}}
+use Rattle.krs_types.specs.declared.kind.Kind.TheVariants.{User}
+use Rattle.krs_types.specs.declared.kind.PayloadRule.{PayloadRule, TheVariants.{NoBytes, SomeBytes}}
 use Rattle.krs_model.specs.Hiding.{Hides, hiding}
 
 pub not_empty : (n : ℕ) → (nat_le 1 n && nat_le n 32767) ≡ true → (n == 0) ≡ false
 not_empty n h = grind (arith, nat_tests)
 
-one_byte : (kind : Kind) (bytes : List ℕ) (secret : Bool)
-    → paid kind (cond (secret && (nat_le 1 (length bytes) && nat_le (length bytes) 32767)) (0 ∷ []) bytes)
-    ≡ paid kind bytes
-one_byte kind bytes false = refl
-one_byte User bytes true =
+one_byte : (rule : PayloadRule) (bytes : List ℕ) (secret : Bool)
+    → paid_by rule (cond (secret && (nat_le 1 (length bytes) && nat_le (length bytes) 32767)) (0 ∷ []) bytes)
+    ≡ paid_by rule bytes
+one_byte rule bytes false = refl
+one_byte SomeBytes bytes true =
     elim (nat_le 1 (length bytes) && nat_le (length bytes) 32767) as (λ (b : Bool).
     (nat_le 1 (length bytes) && nat_le (length bytes) 32767) ≡ b
-    → paid User (cond b (0 ∷ []) bytes) ≡ paid User bytes) [
+    → paid_by SomeBytes (cond b (0 ∷ []) bytes) ≡ paid_by SomeBytes bytes) [
       | true ↦ λ e. ap (λ (b : Bool). cond b (Ok tt) (Err EINVAL)) (sym e)
       | false ↦ λ e. refl
     ] refl
-one_byte Logon bytes true =
+one_byte NoBytes bytes true =
     elim (nat_le 1 (length bytes) && nat_le (length bytes) 32767) as (λ (b : Bool).
     (nat_le 1 (length bytes) && nat_le (length bytes) 32767) ≡ b
-    → paid Logon (cond b (0 ∷ []) bytes) ≡ paid Logon bytes) [
-      | true ↦ λ e. ap (λ (b : Bool). cond b (Ok tt) (Err EINVAL)) (sym e)
-      | false ↦ λ e. refl
-    ] refl
-one_byte Keyring bytes true =
-    elim (nat_le 1 (length bytes) && nat_le (length bytes) 32767) as (λ (b : Bool).
-    (nat_le 1 (length bytes) && nat_le (length bytes) 32767) ≡ b
-    → paid Keyring (cond b (0 ∷ []) bytes) ≡ paid Keyring bytes) [
+    → paid_by NoBytes (cond b (0 ∷ []) bytes) ≡ paid_by NoBytes bytes) [
       | true ↦ λ e. ap (λ (b : Bool). cond b (Ok tt) (Err EINVAL)) (sym (not_empty (length bytes) e))
       | false ↦ λ e. refl
     ] refl
 
 pub hides : (secret : ℕ → Bool) → Hides (hiding secret)
-hides secret = λ n kind bytes. one_byte kind bytes (secret n)
+hides secret = λ n kind bytes. one_byte (row_of kind).payload bytes (secret n)
 
 abbrev taken : Bool → Result (Unit {0}) Errno
 taken b = cond b (Ok tt) (Err EINVAL)

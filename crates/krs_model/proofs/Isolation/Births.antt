@@ -1,30 +1,55 @@
 -- A new key is its maker's own, and linked from nowhere but where it was put.
-use Rattle.std.proofs.Common.{[], ⊎_elim, ◌&&◌, ◌+◌, ◌==◌, ◌||◌, ◌∙◌, ◌∷◌, ◌≡◌, ◌≤◌, ap, arith, Bool, codes, cond, Err}
-use Rattle.std.proofs.Common.{false, inr, IsSome, leb-true, length, List, nat_le, nat_lt, None, Ok, Option, refl}
-use Rattle.std.proofs.{Common.{Result, Some, subst, sym, true, true≢false, ℕ, ℤ}, lemmas.Bool.Decides.nat_tests}
+use Rattle.std.proofs.Common.{◌&&◌, ◌+◌, ◌==◌, [], ap, arith, Bool, codes, cond, Err, false, inr, IsSome, leb-true}
+use Rattle.std.proofs.Common.{length, List, nat_le, nat_lt, None, Ok, Option, refl, Result, Some, subst, sym, true}
+use Rattle.std.proofs.Common.{true≢false, ◌||◌, ℕ, ℤ, ◌∙◌, ◌∷◌, ◌≡◌, ◌≤◌, ⊎_elim}
+use Rattle.std.proofs.lemmas.Bool.Decides.{nat_tests}
 use Rattle.std.proofs.lemmas.Option.{same_Some}
-use Rattle.krs_types.specs.declared.ask.{Answer.Answer, Op.{Op, TheVariants.{Add, GetId, Hello, Join}}}
-use Rattle.krs_types.specs.declared.{caller.Caller.Caller, context.{Context.Context, UidRings.UidRings}}
-use Rattle.krs_types.specs.declared.{errno.Errno.Errno, event.Event.Event, key_id.KeyId.KeyId, kind.Kind.Kind}
-use Rattle.krs_types.specs.declared.{kind.Kind.TheVariants.{Keyring, Logon, User}, name.Name.Name}
-use Rattle.krs_types.specs.{declared.rights.Want.TheVariants.Granted, KeyId.key_id_of, Perm.{group_byte, other_byte}}
+use Rattle.krs_types.specs.KeyId.{key_id_of}
+use Rattle.krs_types.specs.Perm.{group_byte, other_byte}
 use Rattle.krs_types.specs.Rights.{WRITE}
-use Rattle.krs_model.specs.Asks.Adding.{add, added, admitted, first_perm, Made, new_key, Place, place_of, Updated}
-use Rattle.krs_model.specs.Asks.{Changing.updated, Finding.{get_id, made_where}, Hello.{hello, uid_ring, with_uid}}
-use Rattle.krs_model.specs.{Asks.Joining.{join, session_joined, session_ring}, Confidentiality.{ActsAs, AreEnclosed}}
-use Rattle.krs_model.specs.Confidentiality.{HasToItself, is_own, IsFor, IsGivenAway, IsWithin, MakesForItself, may_make}
-use Rattle.krs_model.specs.{Confidentiality.with_made, Levels.is_in, Linking.{is_named, link_named, ring_links}}
-use Rattle.krs_model.specs.{Lookup.{context_of, look_up, serial_of}, Making.{made_for, own_ring, special_ring}}
-use Rattle.krs_model.specs.{Notes.Posting.{Post, posted_in}, Reach.links_of_key_at, Sound.IsSound, State.{Key, raised}}
-use Rattle.krs_model.specs.{State.State, Step.{Ends, outcome_of, posts_by, Step}, Sweep.IsSweep, Table.{at, IsBelow}}
-use Rattle.krs_model.specs.Table.{put, Table}
-use Rattle.krs_model.proofs.Asks.{Later.{bind_ok, same_ok}, Outcomes.{Meets, meets_after, meets_ok, meets_within}}
-use Rattle.krs_model.proofs.Isolation.{Growth.{IsNew, of_made, same_owner, step_grows}, Guarded.lessens_keeps}
-use Rattle.krs_model.proofs.Isolation.{Keys.{changed_enclosed, KeepsOwn, kept_enclosed}, Steps.raised_alone}
-use Rattle.krs_model.proofs.{Lookups.{Laws.in_by_match, Serials.found_serial}, MadeKeyring.Which.{IsMade, made_for_is}}
-use Rattle.krs_model.proofs.{MadeKeyring.Which.{NoneMade, ProcessMade, ThreadMade}, Reach.Levels.{or_true, true_or}}
+use Rattle.krs_types.specs.declared.ask.Answer.{Answer}
+use Rattle.krs_types.specs.declared.ask.Op.{Op}
+use Rattle.krs_types.specs.declared.ask.Op.TheVariants.{Add, GetId, Hello, Join}
+use Rattle.krs_types.specs.declared.caller.Caller.{Caller}
+use Rattle.krs_types.specs.declared.context.Context.{Context}
+use Rattle.krs_types.specs.declared.context.UidRings.{UidRings}
+use Rattle.krs_types.specs.declared.errno.Errno.{Errno}
+use Rattle.krs_types.specs.declared.event.Event.{Event}
+use Rattle.krs_types.specs.declared.key_id.KeyId.{KeyId}
+use Rattle.krs_types.specs.declared.name.Name.{Name}
+use Rattle.krs_types.specs.declared.rights.Want.TheVariants.{Granted}
+use Rattle.krs_types.proofs.KindRows.{has_row}
+use Rattle.krs_model.specs.Asks.Adding.{add, added, admitted, Made, new_key, Place, place_of, Updated}
+use Rattle.krs_model.specs.Asks.Changing.{updated}
+use Rattle.krs_model.specs.Asks.Finding.{get_id, made_where}
+use Rattle.krs_model.specs.Asks.Hello.{hello, uid_ring, with_uid}
+use Rattle.krs_model.specs.Asks.Joining.{join, session_joined, session_ring}
+use Rattle.krs_model.specs.Confidentiality.{ActsAs, AreEnclosed, HasToItself, is_own, IsFor, IsGivenAway, IsWithin}
+use Rattle.krs_model.specs.Confidentiality.{MakesForItself, may_make, with_made}
+use Rattle.krs_model.specs.Levels.{is_in}
+use Rattle.krs_model.specs.Linking.{is_named, link_named, ring_links}
+use Rattle.krs_model.specs.Lookup.{context_of, look_up, serial_of}
+use Rattle.krs_model.specs.Making.{made_for, own_ring, special_ring}
+use Rattle.krs_model.specs.Notes.Posting.{Post, posted_in}
+use Rattle.krs_model.specs.Reach.{links_of_key_at}
+use Rattle.krs_model.specs.Sound.{IsSound}
+use Rattle.krs_model.specs.State.{Key, raised, State}
+use Rattle.krs_model.specs.Step.{Ends, outcome_of, posts_by, Step}
+use Rattle.krs_model.specs.Sweep.{IsSweep}
+use Rattle.krs_model.specs.Table.{at, IsBelow, put, Table}
+use Rattle.krs_model.proofs.Asks.Later.{bind_ok, same_ok}
+use Rattle.krs_model.proofs.Asks.Outcomes.{Meets, meets_after, meets_ok, meets_within}
+use Rattle.krs_model.proofs.Isolation.Growth.{IsNew, of_made, same_owner, step_grows}
+use Rattle.krs_model.proofs.Isolation.Guarded.{lessens_keeps}
+use Rattle.krs_model.proofs.Isolation.Keys.{changed_enclosed, KeepsOwn, kept_enclosed}
+use Rattle.krs_model.proofs.Isolation.Steps.{raised_alone}
+use Rattle.krs_model.proofs.Lookups.Laws.{in_by_match}
+use Rattle.krs_model.proofs.Lookups.Serials.{found_serial}
+use Rattle.krs_model.proofs.MadeKeyring.Which.{IsMade, made_for_is, NoneMade, ProcessMade, ThreadMade}
+use Rattle.krs_model.proofs.Reach.Levels.{or_true, true_or}
 use Rattle.krs_model.proofs.Sound.Changes.{at_put, IsPut, LinksTo, not_there, Stands, with_linked}
-use Rattle.krs_model.proofs.Sound.{KeyChanges.updated_lessens, Steps.{raised_sound, sound_stands, step_sound}}
+use Rattle.krs_model.proofs.Sound.KeyChanges.{updated_lessens}
+use Rattle.krs_model.proofs.Sound.Steps.{raised_sound, sound_stands, step_sound}
 use Rattle.krs_model.proofs.Sweep.Laws.{linking_is_there}
 
 -- these keys, and all serials that are not given yet
@@ -68,11 +93,6 @@ put_own uid set es n key private own alone = record {
 pub made_own :
     (uid : ℕ) (key : Key) → key.uid ≡ uid → group_byte key.perm ≡ 0 → other_byte key.perm ≡ 0 → is_own uid key ≡ true
 made_own uid key own group other = grind (arith, nat_tests)
-
-pub first_own : (kind : Kind) → (group_byte (first_perm kind) ≡ 0) × (other_byte (first_perm kind) ≡ 0)
-first_own User = (refl, refl)
-first_own Logon = (refl, refl)
-first_own Keyring = (refl, refl)
 
 -- these keys are the uid's own, and linked among themselves
 abbrev Encloses : ℕ → (ℕ → Bool) → State → Type 0
@@ -182,7 +202,6 @@ added_keeps uid set s c name payload id (Updated serial) is within next own alon
 added_keeps uid set s c name payload id (Made ring) is within next own alone =
     let n = s.next_serial in
     let key = new_key name payload c.caller.uid c.caller.gid in
-    let rights = first_own name.kind in
     let displaced : ℕ → Bool = λ k. is_named name (at s.keys k) in
     let private : set ring ≡ true = within ring (made_named s c name id ring is) in
     let keeps : KeepsOwn uid set ring (with_linked displaced n) = record {
@@ -190,7 +209,8 @@ added_keeps uid set s c name payload id (Made ring) is within next own alone =
       links = λ v k m i. inr private;
     } in
     changed_enclosed uid set (put s.keys n key) ring (with_linked displaced n) keeps
-    (put_own uid set s.keys n key next (made_own uid key own rights.0 rights.1) alone)
+    (put_own uid set s.keys n key next (made_own uid key own (has_row name.kind).group (has_row name.kind).other)
+    alone)
 
 add_keeps :
     (uid : ℕ) (set : ℕ → Bool) (s : State) (client context : ℕ) (type_name desc payload : List ℕ) (ring : ℤ)

@@ -1,10 +1,10 @@
 -- ADD: a new key in a keyring, or a new payload for the key that stands there. add_key(2).
 use Rattle.std.specs.Prelude.{[], ◌&&◌, ◌+◌, ◌≡◌, Err, false, if◌then◌else◌, List, nat_lt, None, Ok, Option, Result}
 use Rattle.std.specs.Prelude.{Some, ℕ, ℤ}
-use Rattle.krs_types.specs.{Kind.{checked, kind_named}, Perm.{key_mask, logon_mask}, Refusing.◌>>=◌}
+use Rattle.krs_types.specs.{Kind.{checked, kind_named, row_of, same_kind}, Refusing.◌>>=◌}
 use Rattle.krs_types.specs.{Rights.{has_all, WRITE}, declared.ask.Answer.TheVariants.Number}
 use Rattle.krs_types.specs.declared.{context.Context.Context, errno.Errno.{Errno, TheVariants.{EACCES, ENOSPC, EPERM}}}
-use Rattle.krs_types.specs.declared.kind.Kind.{Kind, TheVariants.{Keyring, Logon, User}}
+use Rattle.krs_types.specs.declared.kind.Kind.{Kind, TheVariants.Keyring}
 use Rattle.krs_types.specs.declared.{name.Name.Name, rights.Want.TheVariants.Granted}
 use Rattle.krs_model.specs.{Access.{is_alive, rights_on}, Asks.Changing.{changed, is_updatable, updated}}
 use Rattle.krs_model.specs.{Asks.Linked.unless, Linking.{has_room, link_named, linking, ring_links}}
@@ -54,15 +54,11 @@ place_of s c name ring = do
 
 -- 3f010000, for a logon key 3d010000: profile, masks of new keys
 abbrev pub first_perm : Kind → ℕ
-first_perm User = key_mask
-first_perm Logon = logon_mask
-first_perm Keyring = key_mask
+first_perm kind = (row_of kind).perm
 
 -- a keyring is made empty
 abbrev pub first_content : Kind → List ℕ → Content
-first_content User payload = Payload payload
-first_content Logon payload = Payload payload
-first_content Keyring payload = Links []
+first_content kind payload = if same_kind kind Keyring then Links [] else Payload payload
 
 -- a key of its maker's uid and gid
 abbrev pub new_key : Name → List ℕ → ℕ → ℕ → Key

@@ -1,10 +1,10 @@
 -- UPDATE, SETPERM, CHOWN, SET_TIMEOUT and REVOKE: a change of one key. keyctl(2).
-use Rattle.std.specs.Prelude.{[], ◌&&◌, ◌+◌, ◌==◌, ◌||◌, Bool, Err, false, if◌then◌else◌, List, min, None, Ok, Option}
+use Rattle.std.specs.Prelude.{[], ◌&&◌, ◌+◌, ◌==◌, ◌||◌, Bool, Err, if◌then◌else◌, List, min, None, Ok, Option}
 use Rattle.std.specs.Prelude.{Result, Some, true, ℕ, ℤ}
-use Rattle.krs_types.specs.{Caller.{is_of_group, unchanged}, Kind.paid, Perm.perm_of, Refusing.◌>>=◌}
+use Rattle.krs_types.specs.{Caller.{is_of_group, unchanged}, Kind.{paid, row_of}, Perm.perm_of, Refusing.◌>>=◌}
 use Rattle.krs_types.specs.{Rights.{SETATTR, WRITE}, declared.ask.Answer.TheVariants.Nothing}
 use Rattle.krs_types.specs.declared.{caller.Caller.Caller, errno.Errno.{Errno, TheVariants.{EACCES, EOPNOTSUPP}}}
-use Rattle.krs_types.specs.declared.kind.Kind.{Kind, TheVariants.{Keyring, Logon, User}}
+use Rattle.krs_types.specs.declared.kind.Kind.{Kind}
 use Rattle.krs_types.specs.declared.rights.Want.TheVariants.{Either, Granted}
 use Rattle.krs_model.specs.Lookup.{context_of, look_up}
 use Rattle.krs_model.specs.{Outcome.Outcome, State.{Content, Key, Links, Payload, State}, Table.alter}
@@ -24,9 +24,7 @@ updated payload key = record key { content = paid_with payload key.content; expi
 
 -- a keyring is not updated: KEYCTL_UPDATE, "EOPNOTSUPP"
 abbrev pub is_updatable : Kind → Bool
-is_updatable User = true
-is_updatable Logon = true
-is_updatable Keyring = false
+is_updatable kind = (row_of kind).updatable
 
 -- the type can be updated: KEYCTL_UPDATE, "EOPNOTSUPP"
 abbrev pub updatable : Kind → Result Kind Errno

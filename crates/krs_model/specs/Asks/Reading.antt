@@ -1,9 +1,9 @@
 -- READ and DESCRIBE: keyctl(2), KEYCTL_READ and KEYCTL_DESCRIBE.
 use Rattle.std.specs.Prelude.{[], ◌%◌, ◌++◌, ◌+◌, ◌/◌, ◌∷◌, decimal, Err, flat_map, if◌then◌else◌, List, nat_lt, Ok}
 use Rattle.std.specs.{Prelude.{Result, ℕ, ℤ}, Int.{to_le_bytes, w32}}
-use Rattle.krs_types.specs.{Kind.kind_name, Refusing.◌>>=◌, Rights.VIEW, declared.ask.Answer.TheVariants.Bytes}
-use Rattle.krs_types.specs.declared.errno.Errno.{Errno, TheVariants.EOPNOTSUPP}
-use Rattle.krs_types.specs.declared.kind.Kind.{Kind, TheVariants.{Keyring, Logon, User}}
+use Rattle.krs_types.specs.{Kind.{kind_name, row_of}, Refusing.◌>>=◌, Rights.VIEW}
+use Rattle.krs_types.specs.declared.{ask.Answer.TheVariants.Bytes, errno.Errno.{Errno, TheVariants.EOPNOTSUPP}}
+use Rattle.krs_types.specs.declared.kind.{Kind.Kind, Told.{Told, TheVariants.{ItsLinks, ItsPayload, Never}}}
 use Rattle.krs_types.specs.declared.rights.Want.TheVariants.{Granted, ToRead}
 use Rattle.krs_model.specs.{Lookup.{context_of, look_up}, Outcome.Outcome, State.{Content, Key, Links, Payload, State}}
 
@@ -11,13 +11,17 @@ use Rattle.krs_model.specs.{Lookup.{context_of, look_up}, Outcome.Outcome, State
 abbrev pub serial_bytes : List ℕ → List ℕ
 serial_bytes serials = flat_map (λ k. to_le_bytes w32 k) serials
 
+-- what is told of a key: its payload, or the serials that it links
+abbrev pub told_as : Told → Content → Result (List ℕ) Errno
+told_as ItsPayload (Payload bytes) = Ok bytes
+told_as ItsPayload (Links serials) = Err EOPNOTSUPP
+told_as Never content = Err EOPNOTSUPP
+told_as ItsLinks (Payload bytes) = Err EOPNOTSUPP
+told_as ItsLinks (Links serials) = Ok (serial_bytes serials)
+
 -- what may be read of a key: of a user key its payload, of a keyring the linked serials. A logon key is never read
 abbrev pub readable : Kind → Content → Result (List ℕ) Errno
-readable User (Payload bytes) = Ok bytes
-readable User (Links serials) = Err EOPNOTSUPP
-readable Logon content = Err EOPNOTSUPP
-readable Keyring (Payload bytes) = Err EOPNOTSUPP
-readable Keyring (Links serials) = Ok (serial_bytes serials)
+readable kind content = told_as (row_of kind).told content
 
 -- what a key holds, as bytes: KEYCTL_READ; profile, whole answers
 unfoldable pub read : State → ℕ → ℕ → ℤ → Outcome
