@@ -1,12 +1,12 @@
--- What an acceptor over a socket shows: its counts; which of its failures pass; and how many seats there are.
+-- What an acceptor shows: its counts; which of its failures pass; and how many seats there are.
 use Rattle.std.specs.Prelude.{◌==◌, ◌||◌, Bool, false, negsuc, None, Option, pos, Some, ℕ, ℤ}
-use Rattle.krs_listen.specs.declared.{acceptor.SocketAcceptor.SocketAcceptor, free.FreeSeats.FreeSeats}
+use Rattle.krs_listen.specs.declared.{acceptor.StreamAcceptor.StreamAcceptor, free.FreeSeats.FreeSeats}
 
 -- how many connections it accepted, and how many accepts failed
-abbrev pub accepted_by : {R F : Type 0} → SocketAcceptor R F → ℕ
+abbrev pub accepted_by : {R F L S : Type 0} → StreamAcceptor R F L S → ℕ
 accepted_by a = a.accepted
 
-abbrev pub failed_at : {R F : Type 0} → SocketAcceptor R F → ℕ
+abbrev pub failed_at : {R F L S : Type 0} → StreamAcceptor R F L S → ℕ
 failed_at a = a.failures
 
 -- the cause of a failed accept passes by itself, or with the end of a connection: EAGAIN, ENOMEM, ENFILE, EMFILE,

@@ -4,6 +4,7 @@ pub mod CommandLine
 pub mod Choice
 pub mod Daemon
 pub mod Ends
+pub mod Place
 pub mod Saying
 pub mod Telling
 pub mod Timeline

@@ -1,10 +1,11 @@
-ghost use Rattle.std.specs.Prelude.{◌+◌, ◌<◌, ◌↔◌, ◌≡◌, IfNone, IfSome, if◌then◌else◌, IsTrue};
+ghost use Rattle.std.specs.Prelude.{◌+◌, ◌<◌, ◌↔◌, ◌≡◌, IfNone, IfOk, IfSome, if◌then◌else◌, IsTrue};
 ghost use Rattle.std.specs.{Duration.as_nanos, IoError.raw_os_error};
-ghost use Rattle.krs_listen.specs.Accepting.{accepted_by, failed_at, is_passing};
+ghost use Rattle.krs_listen.specs.{Accepting.{accepted_by, failed_at, is_passing}, Ends.AreEndsFrom};
 
-use crate::SocketEnds;
 use crate::ends::ends_of;
+use crate::{BothEnds, Listening, Listens};
 use std::io;
+use std::marker::PhantomData;
 use std::os::unix::net::{UnixListener, UnixStream};
 use std::sync::Wait;
 use std::time::{Clock, Duration};
@@ -67,37 +68,45 @@ fn pause() -> Duration
     Duration::from_millis(PAUSE)
 }
 
-/// Over a socket that listens, until it is dropped. An accept that fails for a cause that passes is tried again when a
+/// Over what listens, until it is dropped. An accept that fails for a cause that passes is tried again when a
 /// connection has ended, or after a while, as long as any connection is served and for some seconds more.
 #[derive(Drop)]
-pub struct SocketAcceptor<'a, R, F> {
+pub struct StreamAcceptor<'a, R, F, L, S> {
     rt: &'a R,
-    listener: UnixListener,
+    listener: L,
     free: &'a F,
     accepted: u64,
     failures: u64,
     cause: io::Error,
+    streams: PhantomData<S>,
 }
 
-impl<'a, R: Wait + Clock, F: AwaitsEnd<R>> SocketAcceptor<'a, R, F> {
-    pub fn new(rt: &'a R, listener: UnixListener, free: &'a F) -> SocketAcceptor<'a, R, F>
+/// Over a socket.
+pub type SocketAcceptor<'a, R, F> = StreamAcceptor<'a, R, F, UnixListener, UnixStream>;
+
+impl<'a, R: Wait + Clock, F: AwaitsEnd<R>> StreamAcceptor<'a, R, F, UnixListener, UnixStream> {
+    pub fn new(rt: &'a R, listening: Listening<'_>, free: &'a F) -> SocketAcceptor<'a, R, F>
         ensures accepted { accepted_by result ≡ 0 }
         ensures failures { failed_at result ≡ 0 }
     {
-        SocketAcceptor {
+        StreamAcceptor {
             rt,
-            listener,
+            listener: listening.listener,
             free,
             accepted: 0,
             failures: 0,
             cause: io::Error::other("no accept has failed"),
+            streams: PhantomData,
         }
     }
+}
 
+impl<'a, R: Wait + Clock, F: AwaitsEnd<R>, L: Listens<S>, S: Drop> StreamAcceptor<'a, R, F, L, S> {
     /// The ends of the next connection, or none where an accept failed for good.
-    pub fn accept(&mut self) -> Option<SocketEnds>
+    pub fn accept(&mut self) -> Option<BothEnds<S>>
         requires accepted { accepted_by self.old < u64.MAX }
         requires failures { failed_at self.old < u64.MAX }
+        ensures ends { IfSome result (AreEndsFrom L.came L.same self.new.listener) }
         ensures one { IfSome result (λ _. accepted_by self.new ≡ accepted_by self.old + 1) }
         ensures good { IfSome result (λ _. failed_at self.new ≡ failed_at self.old) }
         ensures none { IfNone result (accepted_by self.new ≡ accepted_by self.old) }
@@ -117,12 +126,16 @@ impl<'a, R: Wait + Clock, F: AwaitsEnd<R>> SocketAcceptor<'a, R, F> {
     }
 
     /// Why the last accept that failed did so.
-    pub fn cause(&self) -> io::Error {
+    pub fn cause(&self) -> io::Error
+        ensures { result ≡ self.now.cause }
+    {
         self.cause
     }
 
     /// Closes the socket, so that whoever connects is refused, and gives what was counted.
     pub fn close(self) -> Accepts
+    where
+        L: Drop,
         ensures accepted { result.accepted ≡ accepted_by self.entry }
         ensures failures { result.failures ≡ failed_at self.entry }
     {
@@ -133,11 +146,13 @@ impl<'a, R: Wait + Clock, F: AwaitsEnd<R>> SocketAcceptor<'a, R, F> {
     }
 
     /// The next connection, waited for through failures that pass.
-    fn next(&self) -> io::Result<SocketEnds> {
+    fn next(&self) -> io::Result<BothEnds<S>>
+        ensures { IfOk result (AreEndsFrom L.came L.same self.now.listener) }
+    {
         let mut idle = 0;
         for _ in self.rt.forever() {
             match self.listener.accept() {
-                Ok((stream, _)) => return self.in_two(stream),
+                Ok(stream) => return self.in_two(stream),
                 Err(error) if is_tried_again(&error, idle) => {
                     idle = idle_after(idle, self.free.await_end(self.rt, pause()));
                 }
@@ -148,10 +163,13 @@ impl<'a, R: Wait + Clock, F: AwaitsEnd<R>> SocketAcceptor<'a, R, F> {
     }
 
     /// The ends of a stream. Where no descriptor is free for the second, that is waited for as for a connection.
-    fn in_two(&self, stream: UnixStream) -> io::Result<SocketEnds> {
+    fn in_two(&self, stream: S) -> io::Result<BothEnds<S>>
+        requires { L.came self.now.listener stream }
+        ensures { IfOk result (AreEndsFrom L.came L.same self.now.listener) }
+    {
         let (mut stream, mut idle) = (stream, 0);
-        for _ in self.rt.forever() {
-            match ends_of(stream) {
+        'tries: for _ in self.rt.forever() {
+            match ends_of(&self.listener, stream) {
                 Ok(ends) => return Ok(ends),
                 Err((refused, error)) if is_tried_again(&error, idle) => {
                     stream = refused;

@@ -1,5 +1,9 @@
 //! The two ends of a connection that was accepted. What reads and writes here is proved for every stream, so it can't
 //! know that a socket shows nothing. The connection is closed with the last of them.
+ghost use Rattle.std.specs.Prelude.{◌≡◌, IfErr, IfOk};
+ghost use Rattle.krs_listen.specs.Ends.{AreEndsFrom};
+
+use crate::Listens;
 use std::io;
 use std::io::{Read, Write};
 use std::os::unix::net::UnixStream;
@@ -44,8 +48,15 @@ impl<S> BothEnds<S> {
 }
 
 /// Both ends, each over a descriptor of its own. Where none is free for the second, the stream comes back, and why.
-pub(crate) fn ends_of(stream: UnixStream) -> Result<SocketEnds, (UnixStream, io::Error)> {
-    match stream.try_clone() {
+pub(crate) fn ends_of<L: Listens<S>, S>(
+    listener: &L,
+    stream: S,
+) -> Result<BothEnds<S>, (S, io::Error)>
+    requires { L.came listener.now stream }
+    ensures ends { IfOk result (AreEndsFrom L.came L.same listener.now) }
+    ensures back { IfErr result (λ back. back.0 ≡ stream) }
+{
+    match listener.second(&stream) {
         Ok(other) => Ok(BothEnds {
             reader: ReadEnd { stream },
             writer: WriteEnd { stream: other },
