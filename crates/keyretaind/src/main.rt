@@ -1,7 +1,7 @@
 //! The daemon of a key store.
 #![tactic(auto)]
 
-use krs_serve::{Voice, Voices};
+use krs_serve::{SystemPaths, Voice, Voices};
 use std::env;
 use std::process::ExitCode;
 
@@ -11,5 +11,6 @@ fn main(rt: HostRuntime) -> ExitCode {
         output: Voice::new(rt.stdout()),
         errors: Voice::new(rt.stderr()),
     };
-    ExitCode::from(krs_serve::run_daemon(&rt, rt.alloc(), words, &mut voices))
+    let paths = SystemPaths::new(&rt);
+    ExitCode::from(krs_serve::run_daemon(&rt, &paths, rt.alloc(), words, &mut voices))
 }

@@ -3,20 +3,21 @@
 ghost use Rattle.std.specs.Prelude.{[], ◌≡◌, All, IfOk, List, vec_len};
 ghost use Rattle.krs_types.specs.declared.event.Event.{Event};
 ghost use Rattle.krs_model.specs.State.{starting_at};
-ghost use Rattle.krs_desk.specs.{Seen.IsOneHistory, Sitting.{IsIdleAt, Meets}};
+ghost use Rattle.krs_desk.specs.{Seen.IsOneHistory, Sitting.{fresh_seats, IsIdleAt, Meets}};
 ghost use Rattle.krs_wire.specs.declared.framed.Framed.{Framed};
 ghost use Rattle.krs_session.specs.Calls.{GainsSession};
 ghost use Rattle.krs_session.specs.{Over.over_end, Session.{counts_of, HaveRoom}, declared.ended.Ended.Ended};
 ghost use Rattle.krs_listen.specs.Ends.{reader_of, writer_of};
-ghost use Rattle.krs_serve.specs.{Sessions.{entry, ServesAtDesk}, Visits.{HasJustItsCalls, IsNew, IsVisited}};
+ghost use Rattle.krs_serve.specs.Sessions.{entry, KeepsAsDesk, ServesAtDesk};
+ghost use Rattle.krs_serve.specs.Visits.{HasJustItsCalls, IsNew, IsVisited};
 
 use crate::{Entry, OpenGate, serve_entry};
-use krs_desk::{Desk, Seat};
-use krs_listen::{SocketEnds, SocketReader, SocketWriter};
-use krs_session::{Clock, Over, Sink, Source, a_session_is_its_asks_and_leave};
+use krs_desk::{Desk, Refused, Seat};
+use krs_listen::{Options, SocketEnds, SocketReader, SocketWriter};
+use krs_session::{Clock, Keeper, Over, Sink, Source, a_session_is_its_asks_and_leave};
+use krs_store::{Seed, Store};
 use std::alloc::{AllocError, Global};
 use std::marker::{Brand, PhantomData};
-use std::sync::Wait;
 
 /// How many reads a connection may make.
 const TURNS: u64 = 16_777_216;
@@ -68,20 +69,49 @@ fn sitting_of<'d, N: AtDesk, R: Source, W: Sink>(desk: &'d Desk, seat: Seat) -> 
     }
 }
 
+/// The seats of a desk, before any sits beside it. `opened` alone makes them, of all that a desk has.
+#[derive(Drop)]
+pub(crate) struct Dealt {
+    seats: Vec<Seat>,
+}
+
+/// A desk of a new store, with a seat for each lane of the options.
+fn new_desk(alloc: Global, options: &Options, seed: Seed) -> Result<(Desk, Vec<Seat>), Refused>
+    ensures seats { IfOk result (λ d. d.1.items ≡ fresh_seats d.0 (starting_at 3) options.now.lanes) }
+    ensures own { IfOk result (λ d. All (IsIdleAt d.0) d.1.items) }
+    ensures empty { IfOk result (λ d. All (λ seat. seat.opening ≡ starting_at 3) d.1.items) }
+    ensures unasked { IfOk result (λ d. All IsNew d.1.items) }
+{
+    Desk::open(alloc, options.lanes, Store::seeded(alloc, seed))
+}
+
+/// The same, with the seats out of reach.
+pub(crate) fn opened(alloc: Global, options: &Options, seed: Seed) -> Result<(Desk, Dealt), Refused>
+    ensures seats { IfOk result (λ d. d.1.seats.items ≡ fresh_seats d.0 (starting_at 3) options.now.lanes) }
+    ensures own { IfOk result (λ d. All (IsIdleAt d.0) d.1.seats.items) }
+    ensures empty { IfOk result (λ d. All (λ seat. seat.opening ≡ starting_at 3) d.1.seats.items) }
+    ensures unasked { IfOk result (λ d. All IsNew d.1.seats.items) }
+{
+    match new_desk(alloc, options, seed) {
+        Ok((desk, seats)) => Ok((desk, Dealt { seats })),
+        Err(refused) => Err(refused),
+    }
+}
+
 /// Each seat beside its desk. Nothing was asked on any of them.
 pub(crate) fn seated<'d, N: AtDesk, R: Source, W: Sink>(
     alloc: Global,
     desk: &'d Desk,
-    seats: Vec<Seat>,
+    dealt: Dealt,
 ) -> Result<Vec<Sitting<'d, N, R, W>>, AllocError>
     requires here { desk.now ≡ N.desk }
-    requires own { All (IsIdleAt N.desk) seats.items }
-    requires empty { All (λ seat. seat.opening ≡ starting_at 3) seats.items }
-    requires unasked { All IsNew seats.items }
-    ensures count { IfOk result (λ sittings. vec_len sittings ≡ vec_len seats) }
+    requires own { All (IsIdleAt N.desk) dealt.seats.items }
+    requires empty { All (λ seat. seat.opening ≡ starting_at 3) dealt.seats.items }
+    requires unasked { All IsNew dealt.seats.items }
+    ensures count { IfOk result (λ sittings. vec_len sittings ≡ vec_len dealt.seats) }
     ensures unasked { IfOk result (λ sittings. All (λ s. s.seat.part.mine ≡ []) sittings.items) }
 {
-    let mut left = seats;
+    let Dealt { seats: mut left } = dealt;
     let count = left.len();
     let mut sittings = Vec::with_capacity(alloc, count)?;
     'seats: for _turn in 0..count {
@@ -147,6 +177,13 @@ impl<'d, N: AtDesk, R: Source + Drop, W: Sink + Drop> Guest<'d, N, R, W> {
             writer,
         }
     }
+
+    /// At which desk it is served.
+    pub(crate) fn desk(&self) -> &'d Desk
+        ensures { result ≡ self.now.sitting.desk }
+    {
+        self.sitting.desk
+    }
 }
 
 /// A seat of the daemon, whose connections come over a socket.
@@ -168,15 +205,18 @@ pub(crate) fn guest_of<'d, N: AtDesk>(
     Guest::new(sitting, Over::new(reader), Over::new(writer))
 }
 
-/// Serves a connection to its end, which closes it: docs/FORMAT.md, "A connection". Its asks are those of the bytes that
-/// it sent, and what was written to it is the text of their replies. The seat has gained these calls, and one LEAVE. It
-/// keeps no turn. A connection makes 16777216 reads at most.
-pub fn serve_connection<'d, N: AtDesk, H: Wait, R: Source + Drop, W: Sink + Drop, C: Clock + Drop>(
-    rt: &H,
-    alloc: Global,
-    guest: Guest<'d, N, R, W>,
-    clock: C,
-) -> Sitting<'d, N, R, W>
+/// Serves a guest to its end by a keeper that makes calls as the desk does. It knows nothing of the runtime, and so can't
+/// wait: what waits for ever meets every contract, whatever it did before.
+pub(crate) fn serve_by<
+    'd,
+    N: AtDesk,
+    H,
+    D: Keeper<Seat, H>,
+    R: Source + Drop,
+    W: Sink + Drop,
+    C: Clock + Drop,
+>(rt: &H, alloc: Global, keeper: &D, guest: Guest<'d, N, R, W>, clock: C) -> Sitting<'d, N, R, W>
+    requires { KeepsAsDesk N.desk (D.ready keeper.now) D.leads D.lane_of D.rested }
     ensures desk { result.desk ≡ guest.entry.sitting.desk }
     ensures session { (ended : Ended) × ServesAtDesk R.Source C.Clock W.Sink 16777216
         (entry guest.entry.reader guest.entry.writer clock) guest.entry.sitting.seat result.seat ended }
@@ -201,6 +241,6 @@ pub fn serve_connection<'d, N: AtDesk, H: Wait, R: Source + Drop, W: Sink + Drop
         writer,
         clock,
     };
-    let (seat, _ended) = serve_entry(rt, alloc, connection, desk, seat, &OpenGate, TURNS);
+    let (seat, _ended) = serve_entry(rt, alloc, connection, keeper, seat, &OpenGate, TURNS);
     sitting_of(desk, seat)
 }

@@ -2,43 +2,42 @@ ghost use Rattle.std.specs.Prelude.{[], ◌≡◌, All, IfErr, IfOk, IsErr, map,
 ghost use Rattle.std.specs.{IoError.error_kind, Vec.Iter.into_iter_items};
 ghost use Rattle.krs_model.specs.State.{starting_at};
 ghost use Rattle.krs_links.specs.Seeded.{random_seed};
-ghost use Rattle.krs_desk.specs.Sitting.{fresh_seats, IsIdleAt};
+ghost use Rattle.krs_desk.specs.Sitting.{IsIdleAt};
 ghost use Rattle.krs_listen.specs.Choice.{IsUnread, LeadsTo};
 ghost use Rattle.krs_listen.specs.Daemon.{Answers, connections_of, SaysAsItEndsBy, SaysAsItServes, served_line};
-ghost use Rattle.krs_listen.specs.{Saying.heard, declared.choice.Choice.Choice as ChoiceIs};
+ghost use Rattle.krs_listen.specs.{Place.place_of, Saying.heard, declared.choice.Choice.Choice as ChoiceIs};
 ghost use Rattle.krs_serve.specs.Visits.{IsNew};
 
 use crate::AtDesk;
 use crate::apart::Hosting;
-use crate::connection::seated;
+use crate::connection::{Dealt, opened, seated};
 use crate::listening::accept_all;
-use krs_desk::{Desk, Refused, Seat};
+use krs_desk::Desk;
 use krs_listen::{
-    Accepted, Accepts, Choice, FreeSeats, Latest, Lines, NOT_BOUND, NOT_TEXT, OUT_OF_MEMORY,
-    Options, SocketReader, SocketWriter, USAGE, Voices, choose, tell_cause,
+    Accepted, Accepts, Choice, FreeSeats, Latest, Lines, Listening, NOT_BOUND, NOT_TEXT,
+    OUT_OF_MEMORY, Options, Paths, SocketReader, SocketWriter, USAGE, Voices, choose, tell_cause,
 };
 use krs_session::Over;
-use krs_store::{Seed, Store};
+use krs_store::Seed;
 use std::alloc::Global;
 use std::env::Args;
-use std::fs::Files;
 use std::hash::RandomState;
+use std::io;
 use std::io::Write;
 use std::marker::Brand;
-use std::net::Net;
-use std::os::unix::net::UnixListener;
 use std::random::RandomSource;
 use std::sync::Wait;
 use std::thread::Threads;
 use std::time::Clock;
-use std::{fs, io};
 
 /// The daemon: from its words, the first of which is its name, and its two ends to its exit status.
-pub fn run_daemon<
-    R: Clock + Files + Net + RandomSource + Threads + Wait + Sync,
-    W: Write,
-    E: Write,
->(rt: &R, alloc: Global, words: io::Result<Args>, voices: &mut Voices<W, E>) -> u8
+pub fn run_daemon<R: Clock + RandomSource + Threads + Wait + Sync, P: Paths, W: Write, E: Write>(
+    rt: &R,
+    paths: &P,
+    alloc: Global,
+    words: io::Result<Args>,
+    voices: &mut Voices<W, E>,
+) -> u8
     ensures { (choice : ChoiceIs)
         × IfOk words (λ words. LeadsTo (map string_bytes (into_iter_items words)) choice)
         × IfErr words (λ error. IsUnread (error_kind error) choice)
@@ -46,12 +45,13 @@ pub fn run_daemon<
         (heard E.contents voices.old.errors) (heard E.contents voices.new.errors) result }
 {
     let choice = choose(alloc, words);
-    answer(rt, alloc, choice, voices)
+    answer(rt, paths, alloc, choice, voices)
 }
 
 /// What each choice prints, and the status.
-fn answer<R: Clock + Files + Net + RandomSource + Threads + Wait + Sync, W: Write, E: Write>(
+fn answer<R: Clock + RandomSource + Threads + Wait + Sync, P: Paths, W: Write, E: Write>(
     rt: &R,
+    paths: &P,
     alloc: Global,
     choice: Choice,
     voices: &mut Voices<W, E>,
@@ -60,7 +60,7 @@ fn answer<R: Clock + Files + Net + RandomSource + Threads + Wait + Sync, W: Writ
         (heard E.contents voices.old.errors) (heard E.contents voices.new.errors) result }
 {
     match choice {
-        Choice::Serve(options) => listen(rt, alloc, &options, voices),
+        Choice::Serve(options) => listen(rt, paths, alloc, &options, voices),
         Choice::Usage => {
             voices.output.say(USAGE);
             voices.errors.say(NOT_TEXT);
@@ -81,21 +81,6 @@ fn answer<R: Clock + Files + Net + RandomSource + Threads + Wait + Sync, W: Writ
     }
 }
 
-/// A desk of a new store, with a seat for each lane of the options.
-fn opened(
-    rt: &impl RandomSource,
-    alloc: Global,
-    options: &Options,
-) -> Result<(Desk, Vec<Seat>), Refused>
-    ensures seats { IfOk result (λ d. d.1.items ≡ fresh_seats d.0 (starting_at 3) options.now.lanes) }
-    ensures own { IfOk result (λ d. All (IsIdleAt d.0) d.1.items) }
-    ensures empty { IfOk result (λ d. All (λ seat. seat.opening ≡ starting_at 3) d.1.items) }
-    ensures unasked { IfOk result (λ d. All IsNew d.1.items) }
-{
-    let seed = seed_of(RandomState::new(rt));
-    Desk::open(alloc, options.lanes, Store::seeded(alloc, seed))
-}
-
 /// How many connections are accepted before it ends.
 fn connections_for(accept: Option<u32>) -> u64
     ensures { result ≡ connections_of accept }
@@ -110,13 +95,14 @@ fn connections_for(accept: Option<u32>) -> u64
 const LONGEST: usize = 107;
 
 /// Binds the path. An empty one the system would take for a name of its own choice, which no folder protects.
-fn bound(rt: &(impl Files + Net), path: &str) -> io::Result<UnixListener>
-    ensures { path.now ≡ [] → IsErr result }
+fn bound<'p>(paths: &impl Paths, path: &'p str) -> io::Result<Listening<'p>>
+    ensures empty { path.now ≡ [] → IsErr result }
+    ensures there { IfOk result (λ listening. place_of listening ≡ path.now) }
 {
     if path.is_empty() || path.len() > LONGEST {
         return Err(io::Error::other("a path has 1 to 107 bytes"));
     }
-    UnixListener::bind(rt, path)
+    paths.bind(path)
 }
 
 /// Accepts and serves so many connections, takes the path away, and tells how that ended. It gives their counts.
@@ -124,14 +110,15 @@ fn serve_all<
     's,
     'd,
     N: AtDesk + Send + Sync,
-    R: Clock + Files + Threads + Wait + Sync,
+    R: Clock + Threads + Wait + Sync,
+    P: Paths,
     W: Write,
     E: Write,
 >(
     hosting: &'s Hosting<'s, 'd, N, R>,
-    listener: UnixListener,
+    paths: &P,
+    listening: Listening<'_>,
     connections: u64,
-    path: &str,
     lines: &Lines,
     voices: &mut Voices<W, E>,
 ) -> (u8, Accepts)
@@ -140,8 +127,9 @@ fn serve_all<
         (heard W.contents voices.old.output) (heard W.contents voices.new.output)
         (heard E.contents voices.old.errors) (heard E.contents voices.new.errors) result.0 }
 {
-    let (accepted, counts, _seats) = accept_all(hosting, listener, connections, voices);
-    let _ = fs::remove_file(hosting.rt, path);
+    let path = listening.path();
+    let (accepted, counts, _seats) = accept_all(hosting, listening, connections, voices);
+    paths.remove(path);
     match accepted {
         Accepted::All => {
             voices.output.say(lines.served.as_str());
@@ -153,8 +141,9 @@ fn serve_all<
 
 /// Serves connections on a new store as the options say, and answers the status: keyretaind(8),
 /// "DESCRIPTION" and "EXIT STATUS". The memory for its seats and its lines is had before the path is bound.
-pub fn listen<R: Clock + Files + Net + RandomSource + Threads + Wait + Sync, W: Write, E: Write>(
+pub fn listen<R: Clock + RandomSource + Threads + Wait + Sync, P: Paths, W: Write, E: Write>(
     rt: &R,
+    paths: &P,
     alloc: Global,
     options: &Options,
     voices: &mut Voices<W, E>,
@@ -162,31 +151,34 @@ pub fn listen<R: Clock + Files + Net + RandomSource + Threads + Wait + Sync, W: 
     ensures { SaysAsItServes options.now (heard W.contents voices.old.output) (heard W.contents voices.new.output)
         (heard E.contents voices.old.errors) (heard E.contents voices.new.errors) result }
 {
-    let Ok((desk, seats)) = opened(rt, alloc, options) else {
+    let seed = seed_of(RandomState::new(rt));
+    let Ok((desk, seats)) = opened(alloc, options, seed) else {
         voices.output.say(OUT_OF_MEMORY);
         return 1;
     };
-    listen_at::<Brand, R, W, E>(rt, alloc, options, &desk, seats, voices)
+    listen_at::<Brand, R, P, W, E>(rt, paths, alloc, options, &desk, seats, voices)
 }
 
 /// The same, with all connections at this desk.
 fn listen_at<
     N: AtDesk + Send + Sync,
-    R: Clock + Files + Net + Threads + Wait + Sync,
+    R: Clock + Threads + Wait + Sync,
+    P: Paths,
     W: Write,
     E: Write,
 >(
     rt: &R,
+    paths: &P,
     alloc: Global,
     options: &Options,
     desk: &Desk,
-    seats: Vec<Seat>,
+    seats: Dealt,
     voices: &mut Voices<W, E>,
 ) -> u8
     requires here { desk.now ≡ N.desk }
-    requires own { All (IsIdleAt desk.now) seats.items }
-    requires empty { All (λ seat. seat.opening ≡ starting_at 3) seats.items }
-    requires unasked { All IsNew seats.items }
+    requires own { All (IsIdleAt desk.now) seats.seats.items }
+    requires empty { All (λ seat. seat.opening ≡ starting_at 3) seats.seats.items }
+    requires unasked { All IsNew seats.seats.items }
     ensures { SaysAsItServes options.now (heard W.contents voices.old.output) (heard W.contents voices.new.output)
         (heard E.contents voices.old.errors) (heard E.contents voices.new.errors) result }
 {
@@ -197,8 +189,8 @@ fn listen_at<
         voices.output.say(OUT_OF_MEMORY);
         return 1;
     };
-    let listener = match bound(rt, path) {
-        Ok(listener) => listener,
+    let listening = match bound(paths, path) {
+        Ok(listening) => listening,
         Err(cause) => {
             voices.output.say(NOT_BOUND);
             tell_cause(alloc, &mut voices.errors, path, &cause);
@@ -213,7 +205,7 @@ fn listen_at<
         free: &free,
         latest: &latest,
     };
-    let (status, _counts) = serve_all(&hosting, listener, connections, path, &lines, voices);
+    let (status, _counts) = serve_all(&hosting, paths, listening, connections, &lines, voices);
     status
 }
 

@@ -7,12 +7,11 @@ use crate::apart::{Hosted, Hosting, serve_apart};
 use crate::meeting::take_back;
 use crate::{Acceptor, AtDesk, SocketGuest, SocketSitting};
 use krs_listen::{
-    Accepted, Accepts, NOT_ACCEPTED, SocketAcceptor, SocketReader, SocketWriter, Voice, Voices,
-    tell_accepted,
+    Accepted, Accepts, Listening, NOT_ACCEPTED, SocketAcceptor, SocketReader, SocketWriter, Voice,
+    Voices, tell_accepted,
 };
 use krs_session::{Over, Sink, Source};
 use std::io::Write;
-use std::os::unix::net::UnixListener;
 use std::sync::Wait;
 use std::thread;
 use std::thread::{Scope, Threads};
@@ -69,7 +68,7 @@ fn accept_over<
     E: Write,
 >(
     hosting: &'s Hosting<'s, 'd, N, R>,
-    listener: UnixListener,
+    listening: Listening<'_>,
     connections: u64,
     voices: &mut Voices<W, E>,
     scope: &'s Scope<'s, B>,
@@ -78,7 +77,7 @@ fn accept_over<
     ensures told { TellsAccepted result.0 (heard W.contents voices.old.output) (heard W.contents voices.new.output) }
     ensures cause { TellsFailure result.0 (heard E.contents voices.old.errors) (heard E.contents voices.new.errors) }
 {
-    let mut acceptor = SocketAcceptor::new(hosting.rt, listener, hosting.free);
+    let mut acceptor = SocketAcceptor::new(hosting.rt, listening, hosting.free);
     let mut hosted = Hosted::none();
     let accepted = accept_each(
         hosting,
@@ -104,7 +103,7 @@ fn accept_and_serve<
     E: Write,
 >(
     hosting: &'s Hosting<'s, 'd, N, R>,
-    listener: UnixListener,
+    listening: Listening<'_>,
     connections: u64,
     voices: &mut Voices<W, E>,
 ) -> (Accepted, Accepts)
@@ -116,7 +115,7 @@ fn accept_and_serve<
         thread::scope_env(),
         hosting.rt,
         move |scope| {
-            let (accepted, counts) = accept_over(hosting, listener, connections, voices, scope);
+            let (accepted, counts) = accept_over(hosting, listening, connections, voices, scope);
             (accepted, counts, voices)
         },
     );
@@ -134,7 +133,7 @@ pub fn accept_all<
     E: Write,
 >(
     hosting: &'s Hosting<'s, 'd, N, R>,
-    listener: UnixListener,
+    listening: Listening<'_>,
     connections: u64,
     voices: &mut Voices<W, E>,
 ) -> (Accepted, Accepts, Vec<SocketSitting<'d, N>>)
@@ -145,7 +144,7 @@ pub fn accept_all<
     ensures one_history { ServeInOneHistory ⟦<Over<SocketReader> as Source>⟧ ⟦<Over<SocketWriter> as Sink>⟧ 16777216
         (map (λ s. s.seat) result.2.items) }
 {
-    let (accepted, counts) = accept_and_serve(hosting, listener, connections, voices);
+    let (accepted, counts) = accept_and_serve(hosting, listening, connections, voices);
     let seats = take_back(hosting.rt, hosting.alloc, hosting.free);
     (accepted, counts, seats)
 }
