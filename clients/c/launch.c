@@ -14,6 +14,7 @@ struct report {
 enum { REPORTS = 3, LISTENERS = 4, KEPT = 5 }; /* descriptors of the supervisor */
 
 static pid_t command_process;
+static int command_descriptor = -1; /* by its number another would be told, once it has ended */
 
 /* What the command inherits of signals. */
 static struct {
@@ -98,7 +99,9 @@ static void supervise(int reports, const char *path, const char *name, char **co
         close(reports);
         run_command(sockets[1], command);
     }
-    if (detach(reports, sockets[0]) < 0) _exit(REFUSED);
+    int descriptor = proc_open(child);
+    if (descriptor < 0 || serve_send_listener(reports, descriptor) < 0 || detach(reports, sockets[0]) < 0)
+        _exit(REFUSED);
     if (serve_protect() < 0 || sigprocmask(SIG_SETMASK, &inherited.mask, NULL) < 0) give_up(REFUSED);
     tell((struct report){ STARTED, child, 0 });
     int listener = serve_receive_listener(LISTENERS);
@@ -116,7 +119,7 @@ static void supervise(int reports, const char *path, const char *name, char **co
 
 static void forward(int number) {
     ERRNO_STAYS;
-    if (command_process > 0) kill(command_process, number);
+    syscall(SYS_pidfd_send_signal, command_descriptor, number, NULL, 0);
 }
 
 /* What a terminal sends goes to the command too. */
@@ -143,6 +146,7 @@ static void end_as(int status) {
 static void wait_for_command(pid_t supervisor, int reports, const char *path, const char *name) {
     struct report report;
     int status;
+    command_descriptor = serve_receive_listener(reports);
     while (TEMP_FAILURE_RETRY(read(reports, &report, sizeof report)) == (ssize_t)sizeof report) {
         errno = report.error;
         if (report.kind == FAILED) fail(report.value, report.value == REFUSED && name ? name : path);
@@ -214,7 +218,8 @@ void launch(const char *path, const char *name, char **command) {
     errno = error;
     if (error != 0) fail(NO_CONNECTION, "seccomp user notification");
     if (!proc_is_ours()) fail(NO_CONNECTION, "/proc");
-    if (pipe2(reports, O_CLOEXEC) < 0 || prctl(PR_SET_CHILD_SUBREAPER, 1, 0, 0, 0) < 0)
+    if (socketpair(AF_UNIX, SOCK_STREAM | SOCK_CLOEXEC, 0, reports) < 0 ||
+        prctl(PR_SET_CHILD_SUBREAPER, 1, 0, 0, 0) < 0)
         fail(REFUSED, "the supervisor");
     pid_t supervisor = fork();
     if (supervisor < 0) fail(REFUSED, "fork");
