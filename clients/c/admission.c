@@ -2,6 +2,8 @@
  * so. */
 #include "entries.h"
 
+#include <sys/auxv.h>
+
 static bool is_in_container;
 
 void admission_begin(bool is_container, pid_t first) {
@@ -28,6 +30,7 @@ void admission_set(struct admission_process *process, uint32_t uid) {
     memset(process, 0, sizeof *process);
     process->uids = (struct admission_ids){ uid, uid, uid, uid };
     process->starter = process->owner = uid;
+    process->is_secure = !is_in_container && getauxval(AT_SECURE) != 0;
     maps_put(process);
     process->has_auxv = true;
 }

@@ -189,8 +189,8 @@ void seats_leave_old_connections(void);
 /* Begins: what ids are served. In a container the one whose first process this is, or 0 where it isn't known. */
 void admission_begin(bool is_container, pid_t first);
 
-/* Who runs a process or thread; and who is all of one uid, as who begins the first session. All bytes are set, by which
- * two are compared. */
+/* Who runs a process or thread; and who is all of one uid, as who begins the first session: outside of containers this
+ * program, which may run set-uid. All bytes are set, by which two are compared. */
 void admission_read(struct admission_process *process, pid_t id, const struct proc_status *status);
 void admission_set(struct admission_process *process, uint32_t uid);
 

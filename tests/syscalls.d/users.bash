@@ -136,15 +136,23 @@ try_set_uid_session() {
     skipped 'a session that a set-uid program begins: not root, no mount namespace, or no setpriv(1)'
     return
   fi
+  begin_room || { skipped 'a session that a set-uid program begins: no CAP_SYS_RESOURCE'; return; }
   install -m 4755 "$dir/tree" "$dir/tree-set-uid"
   for who in real effective; do
     [ "$who" = real ] && wanted='_ses 4105' || wanted='_uid_ses.0 0'
-    is "a session that a set-uid program begins: who is its $who user is in" "$wanted" "$(timeout "$limit" \
-      unshare -m sh -c 'mount -t tmpfs run /run && mkdir /run/keyretain && ln -s "$0" /run/keyretain/keyretain.sock &&
-      exec "$@"' "$path" setpriv --reuid 4105 --regid 4105 --clear-groups "$dir/tree-set-uid" as itself \
-      "$dir/now/keyretain-session" --syscalls -- "$dir/tree" as "$who" "$dir/tree" whose 2>&1 |
-      sed 's/_ses[.][0-9a-f]\{32\}/_ses/')"
+    is "a session that a set-uid program begins: who is its $who user is in" "$wanted" \
+      "$(in_session_of_set_uid as "$who" "$dir/tree" whose | sed 's/_ses[.][0-9a-f]\{32\}/_ses/')"
   done
+  is 'a session that a set-uid program begins: who has a copied tag of its command' 'kept out' \
+    "$(in_session_of_set_uid first)"
+  end_room
+}
+
+# in_session_of_set_uid WORD ..: what tree says
+in_session_of_set_uid() {
+  timeout "$limit" "${in_room[@]}" unshare -m sh -c 'mount -t tmpfs run /run && mkdir /run/keyretain &&
+    ln -s "$0" /run/keyretain/keyretain.sock && exec "$@"' "$path" setpriv --reuid 4105 --regid 4105 --clear-groups \
+    "$dir/tree-set-uid" as itself "$dir/now/keyretain-session" --syscalls -- "$dir/tree" "$@" 2>&1
 }
 
 # Where /proc hides what a user may not trace, the supervisor of that user can't look at all above a process.
