@@ -37,7 +37,7 @@ pub fn run_sessions<
     ensures one_each { IfOk result (λ ends. vec_len ends ≡ vec_len list) }
     ensures in_order { IfOk result (λ ends. AllZip
         (λ job ended. (last_seat : _)
-            × ServesEntry R.Source C.Clock W.Sink D.leads D.lane_of turns job.0 job.1 last_seat ended)
+        × ServesEntry R.Source C.Clock W.Sink D.leads D.lane_of turns job.0 job.1 last_seat ended)
         (zip list.items seats.items) ends.items) }
     ensures memory { IfErr result (λ error. error ≡ ENOMEM) }
 {
