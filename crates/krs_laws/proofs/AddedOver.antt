@@ -1,21 +1,20 @@
 -- What ADD overwrote leaves no trace.
-use Rattle.std.proofs.Common.{◌+◌, ◌<◌, ◌∙◌, ◌≡◌, ◌≤◌, ap, arith, Bool, codes, cond, false, List, nat_le, None, Ok}
-use Rattle.std.proofs.{Common.{refl, Result, Some, subst, sym, true, ℕ, ℤ}, lemmas.Bool.Decides.nat_tests}
-use Rattle.std.proofs.lemmas.Option.{none-some}
+use Rattle.std.proofs.Common.{ap, arith, Bool, codes, cond, List, None, Ok, refl, Result, subst, sym, ℕ, ℤ, ◌+◌, ◌<◌}
+use Rattle.std.proofs.Common.{◌∙◌, ◌≡◌}
 use Rattle.krs_types.specs.declared.ask.{Answer.{Answer, TheVariants.Number}, Op.{Op, TheVariants.Add}}
 use Rattle.krs_types.specs.declared.{context.Context.Context, errno.Errno.Errno, key_id.KeyId.KeyId, name.Name.Name}
-use Rattle.krs_types.specs.KeyId.{key_id_of}
+use Rattle.krs_types.specs.{declared.note.KeyEvent.TheVariants.{Linked, Updated as UpdatedNote}, KeyId.key_id_of}
 use Rattle.krs_model.specs.Asks.Adding.{add, added, added_in, added_serial, admitted, Made, Place, place_of, Updated}
 use Rattle.krs_model.specs.{Hiding.{blind, Hiding, over}, Lookup.{context_of, serial_of}, Making.made_for}
 use Rattle.krs_model.specs.{Making.special_ring, Notes.Telling.{about, about_link, named}, Outcome.Outcome}
 use Rattle.krs_model.specs.{Secrecy.HidesOnly, State.{Key, raised, State}, Step.{Ends, Step}, Table.{at, IsBelow}}
 use Rattle.krs_model.specs.Table.{IsDistinct, put, Table}
 use Rattle.krs_model.proofs.{Asks.Later.{bind_ok, same_ok}, Hiding.{Adding.same_place, Links.made_blind}}
-use Rattle.krs_model.proofs.{Hiding.Sweeps.same_there, MadeKeyring.Which.{IsMade, made_for_is, NoneMade, ProcessMade}}
-use Rattle.krs_model.proofs.{MadeKeyring.Which.ThreadMade, Tables.{Distinct.put_distinct, Entries.rises_distinct}}
+use Rattle.krs_model.proofs.{Hiding.Sweeps.same_there, Isolation.Flows.given_below, MadeKeyring.Which.IsMade}
+use Rattle.krs_model.proofs.MadeKeyring.Which.{made_for_is, NoneMade, ProcessMade, ThreadMade}
+use Rattle.krs_model.proofs.Tables.{Distinct.put_distinct, Entries.rises_distinct}
 use Rattle.krs_laws.specs.Overwritten.{AddsForget}
 use Rattle.krs_laws.proofs.Overwriting.{AsksAlike, served_same, then_ok, updated_keys}
-use Rattle.krs_types.specs.declared.note.KeyEvent.TheVariants.{Linked, Updated as UpdatedNote}
 
 -- ---- the state that it meets, with a keyring made where it wants one
 
@@ -99,21 +98,11 @@ add_alike hide s client context type_name desc payload ring serial below above o
   meant = λ mid. add_same hide s client context type_name desc payload ring serial mid below above only;
 }
 
--- a serial of a key that is there was given
-there_below : (keys : Table Key) (next n : ℕ) (key : Key) → IsBelow keys next → at keys n ≡ Some key → n < next
-there_below keys next n key below there =
-    elim (nat_le next n) as (λ b. nat_le next n ≡ b → n < next) [
-      | true ↦ λ t.
-          let over : next ≤ n = grind (arith, nat_tests) in
-          absurd (none-some key (sym (below n over) ∙ there))
-      | false ↦ λ t. grind (arith, nat_tests)
-    ] refl
-
 pub adds_forget : AddsForget
 unfolding Step
 adds_forget hide old new event serial sound only adds step =
     let up = raised old event.moment in
-    let given = there_below old.keys old.next_serial serial adds.key sound.unused adds.there in
+    let given = given_below old.keys old.next_serial serial adds.key sound.unused adds.there in
     let alike = add_alike hide up event.lane event.ask.context adds.type_name adds.desc adds.payload adds.ring serial
     sound.unused (record { distinct = rises_distinct old.keys sound.rising; given = given }) only in
     subst (λ (r : Result Answer Errno). Ends (blind hide up) event.lane event.ask.context event.ask.op r new)

@@ -1,40 +1,41 @@
 -- Each accepted ask changes keys by right, and so does each step.
-use Rattle.std.proofs.Common.{[], ⊎_elim, ◌&&◌, ◌+◌, ◌==◌, ◌||◌, ◌∙◌, ◌∷◌, ◌≡◌, ◌⊎◌, ap, arith, Bool, codes, cond, Err}
-use Rattle.std.proofs.Common.{false, filter, inl, inr, IsSome, length, List, nat_lt, None, Ok, Option, option_map, refl}
-use Rattle.std.proofs.{Common.{Result, Some, subst, sym, true, true≢false, ℕ, ℤ}, lemmas.Bool.Decides.nat_tests}
+use Rattle.std.proofs.Common.{[], ⊎_elim, ◌&&◌, ◌+◌, ◌==◌, ◌||◌, ◌∙◌, ◌∷◌, ◌≡◌, ◌⊎◌, ap, arith, Bool, codes, cond}
+use Rattle.std.proofs.Common.{Err, false, filter, inl, inr, IsSome, length, List, nat_lt, None, Ok, Option}
+use Rattle.std.proofs.Common.{option_map, refl, Result, Some, subst, sym, true, true≢false, ℕ, ℤ}
 use Rattle.std.proofs.lemmas.Option.{none-some, same_Some}
-use Rattle.krs_types.specs.{Caller.is_of_group, declared.ask.{Answer.Answer, Op.{Op, TheVariants.{Add, Chown, Clear}}}}
-use Rattle.krs_types.specs.declared.ask.Op.TheVariants.{CloseQueue, Describe, Exec, Exit, Fork, GetId, Hello}
-use Rattle.krs_types.specs.declared.ask.Op.TheVariants.{Invalidate, Join, Leave, Link, Move, OpenQueue, Read, ReadQueue}
-use Rattle.krs_types.specs.declared.ask.Op.TheVariants.{Request, RestrictKeyring, Revoke, Search, SetFilter, SetPerm}
-use Rattle.krs_types.specs.declared.ask.Op.TheVariants.{SetTimeout, Thread, Unlink, Update, Watch}
+use Rattle.krs_types.specs.{Caller.is_of_group, declared.ask.{Answer.Answer, Op.{Op, TheVariants.{Add, Chown}}}}
+use Rattle.krs_types.specs.declared.ask.Op.TheVariants.{Clear, CloseQueue, Describe, Exec, Exit, Fork, GetId, Hello}
+use Rattle.krs_types.specs.declared.ask.Op.TheVariants.{Invalidate, Join, Leave, Link, Move, OpenQueue, Read}
+use Rattle.krs_types.specs.declared.ask.Op.TheVariants.{ReadQueue, Request, RestrictKeyring, Revoke, Search}
+use Rattle.krs_types.specs.declared.ask.Op.TheVariants.{SetFilter, SetPerm, SetTimeout, Thread, Unlink, Update, Watch}
 use Rattle.krs_types.specs.declared.{caller.Caller.Caller, context.{Context.Context, UidRings.UidRings}}
 use Rattle.krs_types.specs.declared.{errno.Errno.{Errno, TheVariants.{EACCES, EINVAL}}, event.Event.Event}
 use Rattle.krs_types.specs.{declared.rights.Want.TheVariants.{Either, Granted}, Growth.has_destination, Perm.perm_of}
 use Rattle.krs_types.specs.Rights.{LINK, SEARCH, SETATTR, WRITE}
 use Rattle.krs_model.specs.Asks.{Adding.{add, admitted, place_of}, Changing.{chown, emptied, if_may_own, if_owner}}
-use Rattle.krs_model.specs.Asks.Changing.{may_own, or_left, revoke, revoked, set_perm, set_timeout, update, with_expiry}
-use Rattle.krs_model.specs.Asks.{Changing.{with_owner, with_perm}, Entering.{exec, fork, thread}, Finding.get_id}
-use Rattle.krs_model.specs.Asks.{Finding.{made_where, request, search_from, sought_name}, Hello.{hello, uid_ring}}
-use Rattle.krs_model.specs.Asks.{Hello.with_uid, Invalidating.invalidate, Joining.{join, session_joined, session_ring}}
-use Rattle.krs_model.specs.Asks.{Leaving.{exit, left}, Linked.{clear, cleared_content, link, linked_into, unless}}
-use Rattle.krs_model.specs.Asks.{Linked.{unlink, without_link}, Moving.{move_link, moved}, Reading.{describe, read}}
-use Rattle.krs_model.specs.Asks.{Restricting.{restrict_keyring, restricted}, Watching.{close_queue, open_queue}}
-use Rattle.krs_model.specs.{Asks.Watching.{read_queue, set_filter, watch}, Levels.is_in, Linking.ring_links}
-use Rattle.krs_model.specs.{Lookup.{context_of, look_up}, Making.{made_for, own_ring}, Possession.links_of_content}
-use Rattle.krs_model.specs.{Search.{found, requested}, Sound.IsSound, State.{Content, Key, Links, Payload, raised}}
-use Rattle.krs_model.specs.{State.State, Step.{Ends, outcome_of, Serves, Step}, Sweep.{Attached, IsHeld, Linked}}
-use Rattle.krs_model.specs.{Sweep.{PicksHeld, roots}, Table.{at, map_values, put, Table}}
+use Rattle.krs_model.specs.Asks.Changing.{may_own, or_left, revoke, revoked, set_perm, set_timeout, update}
+use Rattle.krs_model.specs.Asks.{Changing.{with_expiry, with_owner, with_perm}, Entering.{exec, fork, thread}}
+use Rattle.krs_model.specs.Asks.{Finding.{get_id, made_where, request, search_from, sought_name}, Hello.hello}
+use Rattle.krs_model.specs.Asks.{Hello.{uid_ring, with_uid}, Invalidating.invalidate, Joining.{join, session_joined}}
+use Rattle.krs_model.specs.Asks.{Joining.session_ring, Leaving.{exit, left}, Linked.{clear, cleared_content, link}}
+use Rattle.krs_model.specs.Asks.{Linked.{linked_into, unless, unlink, without_link}, Moving.{move_link, moved}}
+use Rattle.krs_model.specs.Asks.{Reading.{describe, read}, Restricting.{restrict_keyring, restricted}}
+use Rattle.krs_model.specs.{Asks.Watching.{close_queue, open_queue, read_queue, set_filter, watch}, Levels.is_in}
+use Rattle.krs_model.specs.{Linking.ring_links, Lookup.{context_of, look_up}, Making.{made_for, own_ring}}
+use Rattle.krs_model.specs.{Possession.links_of_content, Search.{found, requested}, Sound.IsSound, State.Content}
+use Rattle.krs_model.specs.{State.{Key, Links, Payload, raised, State}, Step.{Ends, outcome_of, Serves, Step}}
+use Rattle.krs_model.specs.{Sweep.{Attached, IsHeld, Linked, PicksHeld, roots}, Table.{at, map_values, put, Table}}
 use Rattle.krs_model.proofs.Asks.{Fares.meets_by, LaterByAsk.moved_is, Laws.law_of, Outcomes.{Meets, meets_after}}
-use Rattle.krs_model.proofs.{Asks.Outcomes.{meets_ok, meets_within}, Isolation.Births.made_own}
+use Rattle.krs_model.proofs.{Asks.Outcomes.{meets_ok, meets_within}, Isolation.{Births.made_own, Keys.kept_links}}
 use Rattle.krs_model.proofs.{Lookups.{Laws.look_up_usable, Serials.own_there}, MadeKeyring.State.HasMadeFor}
-use Rattle.krs_model.proofs.{MadeKeyring.State.{made_for_has, MadeNone, MadeOne}, Reach.Levels.{only_in, true_or}}
-use Rattle.krs_model.proofs.Sound.{Changes.{LinksTo, not_there, Stands}, KeyChanges.unlinked_lessens}
-use Rattle.krs_model.proofs.Sound.{NewContexts.own_process_there, Steps.{legal_sound, raised_sound, sound_stands}}
-use Rattle.krs_model.proofs.Tables.{Changes.{at_kept, at_map}, Counts.part_in}
+use Rattle.krs_model.proofs.{MadeKeyring.State.{made_for_has, MadeNone, MadeOne}, Reach.Levels.{equal_is, only_in}}
+use Rattle.krs_model.proofs.{Reach.Levels.true_or, Sound.Changes.{LinksTo, not_there, Stands}}
+use Rattle.krs_model.proofs.Sound.{KeyChanges.unlinked_lessens, NewContexts.{own_process_there, session_ring_empty}}
+use Rattle.krs_model.proofs.{Sound.Steps.{legal_sound, raised_sound, sound_stands}, Tables.Changes.{at_kept, at_map}}
+use Rattle.krs_model.proofs.Tables.{Counts.part_in, Each.{kept_is, mapped_is}}
 use Rattle.krs_laws.specs.Integrity.{AllChangesAreByRight, AsksAs, ChangesByRight, Emptied, HasRight, IsByRight}
 use Rattle.krs_laws.specs.Integrity.{IsMadeBy, Kept, Unlinked}
-use Rattle.krs_laws.proofs.{KeyLimits.both, Rightly.{linkable_made, mapped_is, right_found, right_made, Rightly}}
+use Rattle.krs_laws.proofs.{KeyLimits.both, Rightly.{linkable_made, right_found, right_made, Rightly}}
 use Rattle.krs_laws.proofs.Rightly.{rightly_changed, rightly_put, rightly_same, rightly_written}
 use Rattle.krs_laws.proofs.RightlyAsked.{added_rightly, found_rightly, linked_rightly, links_nothing, made_rightly}
 use Rattle.krs_laws.proofs.RightlyAsked.{moved_rightly, ring_made, unlinked_rightly, updated_then}
@@ -77,14 +78,6 @@ session_made s client context op name c asks =
       | false ↦ ring_made s client context op name 1058209792 true c asks refl refl
     ]
 
-session_links : (name : List ℕ) (c : Caller) → links_of_content (session_ring name c).content ≡ []
-session_links name c =
-    elim (length name == 0) as (λ b. links_of_content (cond b (own_ring (codes "_ses") 1057161216 true c)
-    (own_ring name 1058209792 true c)).content ≡ []) [
-      | true ↦ refl
-      | false ↦ refl
-    ]
-
 joined_rightly :
     (s : State) (client context : ℕ) (op : Op) (c : Context) (name : List ℕ) (answer : Option (ℕ × Key)) → Stands s
     → AsksAs s client context op c.caller
@@ -93,7 +86,7 @@ joined_rightly s client context op c name (Some there) stands asks = meets_ok (r
 joined_rightly s client context op c name None stands asks =
     meets_ok (rightly_put s client context op s.keys s.next_serial (session_ring name c.caller) (next_none s stands)
     (session_made s client context op name c.caller asks)
-    (λ k i. links_nothing k _ (session_links name c.caller) i) (rightly_same s client context op))
+    (λ k i. links_nothing k _ (session_ring_empty name c.caller) i) (rightly_same s client context op))
 
 uid_made :
     (s : State) (client context : ℕ) (caller : Caller) (prefix links : List ℕ)
@@ -121,9 +114,6 @@ uid_rightly s client context caller None stands =
     (uid_made s client context caller (codes "_uid.") []) (λ k i. links_nothing k [] refl i)
     (rightly_same s client context op))
 
-equal : (a b : ℕ) → (a == b) ≡ true → a ≡ b
-equal a b h = grind (arith, nat_tests)
-
 emptied_links : (content : Content) (j : ℕ) → is_in j (links_of_content (emptied content)) ≡ true
     → is_in j (links_of_content content) ≡ true
 emptied_links (Payload bytes) j i = i
@@ -140,10 +130,10 @@ owner_is :
 owner_is caller key x h =
     elim (caller.uid == 0) as (λ b. (caller.uid == 0) ≡ b → cond (b || (caller.uid == key.uid)) (Ok key) (Err EACCES) ≡ Ok x
     → (caller.uid ≡ 0) ⊎ (caller.uid ≡ key.uid)) [
-      | true ↦ λ t e. inl (equal caller.uid 0 t)
+      | true ↦ λ t e. inl (equal_is caller.uid 0 t)
       | false ↦ λ t e. elim (caller.uid == key.uid) as (λ d. (caller.uid == key.uid) ≡ d
           → cond d (Ok key) (Err EACCES) ≡ Ok x → (caller.uid ≡ 0) ⊎ (caller.uid ≡ key.uid)) [
-            | true ↦ λ u f. inr (equal caller.uid key.uid u)
+            | true ↦ λ u f. inr (equal_is caller.uid key.uid u)
             | false ↦ λ u f. cc
           ] refl e
     ] refl h
@@ -158,7 +148,7 @@ left_or_own :
     (caller : Caller) (gid there : ℕ) → ((or_left gid there == there) || is_of_group caller gid) ≡ true
     → (or_left gid there ≡ there) ⊎ (is_of_group caller (or_left gid there) ≡ true)
 left_or_own caller gid there h =
-    ⊎_elim (λ (e : (or_left gid there == there) ≡ true). inl (equal (or_left gid there) there e))
+    ⊎_elim (λ (e : (or_left gid there == there) ≡ true). inl (equal_is (or_left gid there) there e))
     (λ (member : is_of_group caller gid ≡ true).
     elim (gid == 4294967295) as (λ b. (cond b there gid ≡ there) ⊎ (is_of_group caller (cond b there gid) ≡ true)) [
       | true ↦ inl refl
@@ -169,10 +159,10 @@ left_or_own caller gid there h =
 may_own_so :
     (caller : Caller) (uid gid : ℕ) (key : Key) → may_own caller uid gid key ≡ true → OwnsSo caller uid gid key
 may_own_so caller uid gid key h =
-    ⊎_elim (λ (e : (caller.uid == 0) ≡ true). inl (equal caller.uid 0 e))
+    ⊎_elim (λ (e : (caller.uid == 0) ≡ true). inl (equal_is caller.uid 0 e))
     (λ (rest : ((or_left uid key.uid == key.uid) && ((or_left gid key.gid == key.gid) || is_of_group caller gid)) ≡ true).
     let r = both (or_left uid key.uid == key.uid) ((or_left gid key.gid == key.gid) || is_of_group caller gid) rest in
-    inr (equal (or_left uid key.uid) key.uid r.0, left_or_own caller gid key.gid r.1))
+    inr (equal_is (or_left uid key.uid) key.uid r.0, left_or_own caller gid key.gid r.1))
     (true_or (caller.uid == 0) _ h)
 
 may_own_is :
@@ -448,14 +438,6 @@ all_rightly s client context Exit stands = search rights depth 12
 all_rightly s client context Leave stands = search rights depth 12
 
 -- ---- a step
-
-pub kept_is : (b : Bool) (o : Option Key) (key : Key) → cond b o None ≡ Some key → o ≡ Some key
-kept_is true o key h = h
-kept_is false o key h = absurd (none-some key h)
-
-kept_links : (b : Bool) (o : Option Key) (k : ℕ) → LinksTo k (cond b o None) → LinksTo k o
-kept_links true o k i = i
-kept_links false o k i = absurd (true≢false (sym i))
 
 none_kept : (b : Bool) (o : Option Key) (key : Key) → o ≡ Some key → cond b o None ≡ None → b ≡ false
 none_kept true o key is h = absurd (none-some key (sym h ∙ is))

@@ -1,13 +1,11 @@
 -- An expired key stays so.
-use Rattle.std.proofs.Common.{[], ⊎_elim, ◌<◌, ◌∙◌, ◌∷◌, ◌≡◌, ◌≤◌, ap, arith, List, None, Option, refl, Some, subst}
-use Rattle.std.proofs.Common.{sym, true, true≢false, ℕ}
-use Rattle.std.proofs.lemmas.{Bool.Decides.nat_tests, Option.{none-some, same_Some}}
-use Rattle.krs_types.specs.Rights.{SETATTR, WRITE}
-use Rattle.krs_types.specs.declared.{event.Event.Event, rights.Want.{Want, TheVariants.Granted}}
-use Rattle.krs_model.specs.Access.{is_over}
-use Rattle.krs_model.specs.{History.IsLegal, Sound.IsSound, State.{Key, raised, State}, Step.Step, Table.at}
+use Rattle.std.proofs.Common.{[], ap, arith, None, Option, refl, Some, subst, sym, true, true≢false, ℕ, ⊎_elim, ◌<◌}
+use Rattle.std.proofs.{Common.{◌∙◌, ◌≡◌, ◌≤◌}, lemmas.{Bool.Decides.nat_tests, Option.{none-some, same_Some}}}
+use Rattle.krs_types.specs.{declared.{event.Event.Event, rights.Want.{Want, TheVariants.Granted}}, Rights.SETATTR}
+use Rattle.krs_types.specs.Rights.{WRITE}
+use Rattle.krs_model.specs.{Access.is_over, Sound.IsSound, State.{Key, raised, State}, Step.Step, Table.at}
 use Rattle.krs_model.proofs.{Asks.LaterByStep.step_follows, Hiding.Readers.reads_by_right}
-use Rattle.krs_model.proofs.{History.Revocations.given_serial, Sound.Steps.{legal_sound, step_sound}}
+use Rattle.krs_model.proofs.{History.Revocations.given_serial, Sound.Steps.{legal_keeps, legal_sound}}
 use Rattle.krs_laws.specs.{Expired.ExpiredStaysUnread, Integrity.HasRight}
 use Rattle.krs_laws.proofs.{ByRight.step_by_right, Clock.step_clock}
 
@@ -51,18 +49,11 @@ step_done old new event serial sound done step =
           ] refl;
     }
 
-legal_done : (start end : State) (events : List Event) (serial : ℕ) → IsSound start → IsDone start serial
-    → IsLegal start events end → IsDone end serial
-unfolding IsLegal
-legal_done start end [] serial sound done legal = subst (λ (s : State). IsDone s serial) legal done
-legal_done start end (event ∷ events) serial sound done legal =
-    legal_done legal.0 end events serial (step_sound start legal.0 event sound legal.1)
-    (step_done start legal.0 event serial sound done legal.1) legal.2
-
 pub expired_unread : (start : State) → IsSound start → ExpiredStaysUnread start
 expired_unread start sound before old legal serial key there over later late between reading end step reads =
     let here = legal_sound start before old sound legal in
-    let done = legal_done old late later serial here (record {
+    let done = legal_keeps (λ s _. IsDone s serial)
+    (λ s next _ event sound done. step_done s next event serial sound done) old late [] later here (record {
       given = given_serial old serial key here.unused there;
       over = λ v is. subst (λ (z : Key). is_over old.clock z.expiry ≡ true) (same_Some key v (sym there ∙ is)) over;
     }) between in

@@ -1,76 +1,54 @@
 -- Payloads and links stay within their limits.
-use Rattle.std.proofs.Common.{[], ⊎_elim, ◌&&◌, ◌+◌, ◌<◌, ◌==◌, ◌∙◌, ◌∷◌, ◌≡◌, ◌≤◌, ap, arith, Bool, codes, cond, Err}
-use Rattle.std.proofs.Common.{false, filter, find, length, List, nat_le, None, not, Ok, Option, refl, Result, Some}
-use Rattle.std.proofs.Common.{subst, sym, true, true≢false, ℕ, ℤ}
-use Rattle.std.proofs.lemmas.{Bool.Decides.nat_tests, Option.{none-some, same_Some}}
-use Rattle.krs_types.specs.{KeyId.key_id_of, Kind.{checked, described, described_as, kind_named, paid_by, row_of}}
-use Rattle.krs_types.specs.{Kind.same_kind, Refusing.{◌>>=◌, or_refuse}, Rights.{has_all, WRITE}}
-use Rattle.krs_types.specs.declared.context.Context.{Context}
-use Rattle.krs_types.specs.declared.errno.Errno.{Errno, TheVariants.{EACCES, EINVAL, ENFILE, ENOKEY, EPERM}}
-use Rattle.krs_types.specs.declared.{key_id.KeyId.KeyId, kind.Kind.TheVariants.Keyring}
-use Rattle.krs_types.specs.declared.kind.PayloadRule.{PayloadRule, TheVariants.{NoBytes, SomeBytes}}
-use Rattle.krs_types.specs.declared.{name.Name.Name, rights.Want.TheVariants.Granted}
-use Rattle.krs_model.specs.{Access.{is_alive, rights_on}, Asks.Adding.{added, admitted, by_match}}
-use Rattle.krs_model.specs.Asks.Adding.{if_room, Made, new_key, over_match, Place, place_of, Updated}
-use Rattle.krs_model.specs.Asks.Changing.{changed, emptied, is_updatable, paid_with, updated}
-use Rattle.krs_model.specs.Asks.{Finding.{found_into, if_linkable}, Linked.{cleared_content, link_check, linked_into}}
-use Rattle.krs_model.specs.Asks.Linked.{name_of, nestable, unless, unlinked_content, without_link}
-use Rattle.krs_model.specs.Linking.{has_room, is_named, link_named, linked_content, linking, ring_links, with_link}
-use Rattle.krs_model.specs.{Lookup.look_up, Making.{made_for, special_ring}, Possession.possessed}
-use Rattle.krs_model.specs.{State.{Content, Key, Links, Payload, State}, Table.{alter, at, map_values, put, Table}}
-use Rattle.krs_model.proofs.Asks.{Later.{bind_ok, same_ok}, LaterByAsk.{IsMoved, Moves, Stays}}
-use Rattle.krs_model.proofs.{Asks.Outcomes.{Meets, meets_after, meets_ok}, Lookups.Laws.{in_by_match, look_up_usable}}
+use Rattle.std.proofs.Common.{[], ap, arith, Bool, codes, cond, Err, false, find, length, List, nat_le, None, not, Ok}
+use Rattle.std.proofs.Common.{Option, refl, Result, Some, subst, sym, true, true≢false, ℕ, ℤ, ⊎_elim, ◌&&◌, ◌+◌, ◌<◌}
+use Rattle.std.proofs.{Common.{◌==◌, ◌∙◌, ◌∷◌, ◌≡◌, ◌≤◌}, lemmas.{Bool.Decides.nat_tests, Option.none-some}}
+use Rattle.std.proofs.lemmas.Option.{same_Some}
+use Rattle.krs_types.specs.declared.{context.Context.Context, errno.Errno.{Errno, TheVariants.{EACCES, EINVAL}}}
+use Rattle.krs_types.specs.declared.{errno.Errno.TheVariants.{ENFILE, ENOKEY, EPERM}, key_id.KeyId.KeyId}
+use Rattle.krs_types.specs.declared.kind.{Kind.TheVariants.Keyring, PayloadRule.{PayloadRule, TheVariants.NoBytes}}
+use Rattle.krs_types.specs.declared.{kind.PayloadRule.TheVariants.SomeBytes, name.Name.Name}
+use Rattle.krs_types.specs.{declared.rights.Want.TheVariants.Granted, KeyId.key_id_of, Kind.{checked, described}}
+use Rattle.krs_types.specs.{Kind.{described_as, kind_named, paid_by, row_of, same_kind}, Refusing.{or_refuse, ◌>>=◌}}
+use Rattle.krs_types.specs.Rights.{has_all, WRITE}
+use Rattle.krs_model.specs.{Access.{is_alive, rights_on}, Asks.Adding.{added, admitted, by_match, if_room, Made}}
+use Rattle.krs_model.specs.Asks.{Adding.{new_key, over_match, Place, place_of, Updated}, Changing.{changed, emptied}}
+use Rattle.krs_model.specs.Asks.{Changing.{is_updatable, paid_with, updated}, Finding.{found_into, if_linkable}}
+use Rattle.krs_model.specs.Asks.Linked.{cleared_content, link_check, linked_into, name_of, nestable, unless}
+use Rattle.krs_model.specs.{Asks.Linked.{unlinked_content, without_link}, Linking.{has_room, is_named, link_named}}
+use Rattle.krs_model.specs.{Linking.{linked_content, linking, ring_links, with_link}, Lookup.look_up, Making.made_for}
+use Rattle.krs_model.specs.{Making.special_ring, Possession.possessed, State.{Content, Key, Links, Payload, State}}
+use Rattle.krs_model.specs.Table.{alter, at, map_values, put, Table}
+use Rattle.krs_model.proofs.Asks.{Later.{bind_ok, same_ok}, LaterByAsk.{IsMoved, Moves, Stays}, Outcomes.Meets}
+use Rattle.krs_model.proofs.{Asks.Outcomes.{meets_after, meets_ok}, Lookups.Laws.{in_by_match, look_up_usable}}
 use Rattle.krs_model.proofs.MadeKeyring.Which.{IsMade, made_for_is, NoneMade, ProcessMade, ThreadMade}
-use Rattle.krs_model.proofs.{Sound.Changes.{at_change, at_put, IsChanged, IsPut}, Tables.Changes.at_map}
+use Rattle.krs_model.proofs.{Sound.Changes.{at_put, IsPut}, Tables.Each.{every_alter, every_map, every_put}}
 use Rattle.krs_laws.specs.Limits.{IsShort}
-use Rattle.krs_laws.proofs.Rightly.{mapped_is}
+use Rattle.krs_laws.proofs.QueueLimits.{filter_length}
 
 pub record AllShort (keys : Table Key) : Type 0 where
   pub each : (k : ℕ) (key : Key) → at keys k ≡ Some key → IsShort key.content
 
+abbrev IsShortKey : Key → Type 0
+IsShortKey key = IsShort key.content
+
 pub short_put : (keys : Table Key) (n : ℕ) (v : Key) → IsShort v.content → AllShort keys → AllShort (put keys n v)
-short_put keys n v short all = record {
-  each = λ k key there.
-      ⊎_elim (λ (r : IsPut keys n v k).
-      subst (λ (z : Key). IsShort z.content) (same_Some v key (sym r.1 ∙ there)) short)
-      (λ e. all.each k key (sym e ∙ there)) (at_put keys n k v);
-}
+short_put keys n v short all = record { each = every_put IsShortKey keys n v short all.each }
 
 pub short_alter :
     (keys : Table Key) (n : ℕ) (f : Key → Key)
     → ((v : Key) → at keys n ≡ Some v → IsShort v.content → IsShort (f v).content) → AllShort keys
     → AllShort (alter keys n f)
-short_alter keys n f stays all = record {
-  each = λ k key there.
-      ⊎_elim (λ (r : IsChanged keys n f k).
-      let w = mapped_is f (at keys k) key (sym r.1 ∙ there) in
-      subst (λ (z : Key). IsShort z.content) w.2
-      (stays w.0 (subst (λ (z : ℕ). at keys z ≡ Some w.0) r.0 w.1) (all.each k w.0 w.1)))
-      (λ e. all.each k key (sym e ∙ there)) (at_change keys n k f);
-}
+short_alter keys n f stays all = record { each = every_alter IsShortKey keys n f stays all.each }
 
 pub short_map :
     (keys : Table Key) (f : Key → Key) → ((v : Key) → IsShort v.content → IsShort (f v).content) → AllShort keys
     → AllShort (map_values f keys)
-short_map keys f stays all = record {
-  each = λ k key there.
-      let w = mapped_is f (at keys k) key (sym (at_map f keys k) ∙ there) in
-      subst (λ (z : Key). IsShort z.content) w.2 (stays w.0 (all.each k w.0 w.1));
-}
-
-filtered_length : (p : ℕ → Bool) (xs : List ℕ) → length (filter p xs) ≤ length xs
-filtered_length p [] = omega arith
-filtered_length p (x ∷ xs) =
-    let later = filtered_length p xs in
-    elim (p x) as (λ b. length (cond b (x ∷ filter p xs) (filter p xs)) ≤ length (x ∷ xs)) [
-      | true ↦ omega arith
-      | false ↦ omega arith
-    ]
+short_map keys f stays all = record { each = every_map IsShortKey keys f stays all.each }
 
 pub unlinked_short : (serial : ℕ) (content : Content) → IsShort content → IsShort (unlinked_content serial content)
 unlinked_short serial (Payload bytes) short = short
 unlinked_short serial (Links links) short =
-    let less = filtered_length (λ k. not (k == serial)) links in omega arith
+    let less = filter_length (λ k. not (k == serial)) links in omega arith
 
 pub cleared_short : (content : Content) → IsShort content → IsShort (cleared_content content)
 cleared_short (Payload bytes) short = short

@@ -1,11 +1,10 @@
 -- Nothing is left where nothing is attached.
-use Rattle.std.proofs.Common.{[], ◌++◌, ◌∙◌, ◌∷◌, ◌≡◌, ap, Bool, cond, is_some, IsSome, List, Option, refl, Some, subst}
-use Rattle.std.proofs.Common.{sym, true≢false, ℕ}
+use Rattle.std.proofs.Common.{[], ap, Bool, cond, is_some, List, Option, refl, Some, subst, sym, true≢false, ℕ, ◌++◌}
+use Rattle.std.proofs.Common.{◌∙◌, ◌∷◌, ◌≡◌}
 use Rattle.krs_types.specs.declared.context.Context.{Context}
-use Rattle.krs_model.specs.Belonging.{HasNothing}
-use Rattle.krs_model.specs.{Orderly.{Each, IsWatch}, Queues.Watch, Sound.IsSound, State.{Key, Queue, State}}
-use Rattle.krs_model.specs.Sweep.{Attached, context_roots, IsHeld, Linked, process_roots, roots, uid_roots}
-use Rattle.krs_model.specs.Table.{at, Table}
+use Rattle.krs_model.specs.{Belonging.HasNothing, Orderly.{Each, IsWatch}, Queues.Watch, Sound.IsSound, State.Key}
+use Rattle.krs_model.specs.{State.{Queue, State}, Sweep.{Attached, context_roots, IsHeld, Linked, process_roots}}
+use Rattle.krs_model.specs.{Sweep.{roots, uid_roots}, Table.{at, Table}}
 use Rattle.krs_model.proofs.{Sound.Steps.legal_sound, Tables.Changes.is_at_same}
 use Rattle.krs_laws.specs.Emptied.{AreEmptiedInTheEnd, IsEmpty}
 
@@ -16,9 +15,6 @@ none_there {X} (e ∷ es) none =
     let here : at (e ∷ es) e.0 ≡ Some e.1 =
     ap (λ (b : Bool). cond b (Some e.1) (at es e.0)) (is_at_same e.0) in
     absurd (none e.0 e.1 here)
-
-some : {X : Type 0} (es : Table X) (k : ℕ) (v : X) → at es k ≡ Some v → IsSome (at es k)
-some es k v there = rw there refl
 
 -- nothing is held by nothing
 unheld : (keys : Table Key) (k : ℕ) → IsHeld keys [] k → ⊥
@@ -37,9 +33,9 @@ all_gone s sound nothing =
     let no_context : (k : ℕ) (c : Context) → at s.contexts k ≡ Some c → ⊥ = λ k c there.
     (nothing c.client).contexts k c there refl in
     let processes : s.processes ≡ [] = none_there s.processes (λ p ring there.
-    let used = sound.used.process p (some s.processes p ring there) in no_context used.number used.context used.there) in
+    let used = sound.used.process p (rw there refl) in no_context used.number used.context used.there) in
     let uids : s.uids ≡ [] = none_there s.uids (λ uid rings there.
-    let used = sound.used.owner uid (some s.uids uid rings there) in no_context used.number used.context used.there) in
+    let used = sound.used.owner uid (rw there refl) in no_context used.number used.context used.there) in
     let queues : s.queues ≡ [] = none_there s.queues (λ k queue there. (nothing queue.client).queues k queue there refl) in
     let none : roots s ≡ [] =
     ap (λ (es : Table Context). context_roots es ++ (process_roots s.processes ++ uid_roots s.uids)) contexts
@@ -47,7 +43,7 @@ all_gone s sound nothing =
     ∙ ap uid_roots uids) in
     record {
       keys = none_there s.keys (λ k key there. unheld s.keys k
-          (subst (λ (heads : List ℕ). IsHeld s.keys heads k) none (sound.swept.keys k (some s.keys k key there))));
+          (subst (λ (heads : List ℕ). IsHeld s.keys heads k) none (sound.swept.keys k (rw there refl))));
       contexts = contexts;
       processes = processes;
       uids = uids;

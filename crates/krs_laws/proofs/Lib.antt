@@ -16,3 +16,4 @@ pub mod Overwriting
 pub mod AddedOver
 pub mod Clock
 pub mod Expiry
+pub mod Dropping

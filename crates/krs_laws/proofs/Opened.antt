@@ -1,6 +1,6 @@
 -- Whose queues are, and that nothing is left where all clients have left.
-use Rattle.std.proofs.Common.{[], ⊎_elim, ◌++◌, ◌==◌, ◌∙◌, ◌∷◌, ◌≡◌, ◌⊎◌, ap, append-nil, append_assoc, Err, inl, inr}
-use Rattle.std.proofs.Common.{List, None, not, Ok, Option, option_map, refl, Result, Some, subst, sym, ℕ}
+use Rattle.std.proofs.Common.{[], ap, append_assoc, Err, inl, inr, List, None, not, Ok, Option, option_map, refl}
+use Rattle.std.proofs.Common.{Result, Some, subst, sym, ℕ, ⊎_elim, ◌++◌, ◌==◌, ◌∙◌, ◌∷◌, ◌≡◌, ◌⊎◌}
 use Rattle.std.proofs.lemmas.Option.{none-some, same_Some}
 use Rattle.krs_types.specs.declared.ask.{Answer.{Answer, TheVariants.Number}, Op.{Op, TheVariants.{Hello, Leave}}}
 use Rattle.krs_types.specs.declared.{ask.Op.TheVariants.OpenQueue, caller.Caller.Caller, context.Context.Context}
@@ -11,8 +11,8 @@ use Rattle.krs_model.specs.{Queues.Queues, Sound.IsSound, State.{Queue, raised, 
 use Rattle.krs_model.specs.{Step.{posts_by, Step}, Table.{alter, at, IsDistinct, Table}}
 use Rattle.krs_model.proofs.Asks.Effects.{Closes, Effect, effect_of, Filters, Leaves, OfKeys, Opens, Reads, Unwatches}
 use Rattle.krs_model.proofs.{Asks.Effects.Watches, History.Belongings.{contexts_greeted, notes_client, stayed_more}}
-use Rattle.krs_model.proofs.{History.Belongings.step_leaves, Notes.Called.served_at, Sound.Changes.{at_change, at_put}}
-use Rattle.krs_model.proofs.Sound.{Changes.{IsChanged, IsPut}, Steps.{legal_sound, start_sound, step_sound}}
+use Rattle.krs_model.proofs.{History.Belongings.step_leaves, Notes.Called.served_at, Sound.Changes.at_change}
+use Rattle.krs_model.proofs.Sound.{Changes.{at_put, IsChanged, IsPut}, Steps.{legal_keeps, legal_sound, start_sound}}
 use Rattle.krs_model.proofs.Tables.{Distinct.at_filter_some, Entries.without_was}
 use Rattle.krs_laws.specs.{Belonging.{HasOpened, QueuesAreTheirClients}, Emptied.{AreEmptiedByLeaving, HaveLeft}}
 use Rattle.krs_laws.specs.Emptied.{IsEmpty, IsLeft}
@@ -156,22 +156,11 @@ opened_on old new past event sound known step number queue there =
     (subst (λ (z : ℕ). HasOpened z number past) (sym was.2) (known number was.0 was.1)) unlike)
     (step_comes old new event sound step number queue there)
 
-legal_opened :
-    (start end : State) (past events : List Event) → IsSound start → AreOpened start past → IsLegal start events end
-    → AreOpened end (past ++ events)
-unfolding IsLegal
-legal_opened start end past [] sound known legal number queue there =
-    subst (HasOpened queue.client number) (sym (append-nil past))
-    (known number queue (ap (λ (t : State). at t.queues number) legal ∙ there))
-legal_opened start end past (event ∷ events) sound known legal number queue there =
-    subst (HasOpened queue.client number) (append_assoc past (event ∷ []) events)
-    (legal_opened legal.0 end (past ++ event ∷ []) events (step_sound start legal.0 event sound legal.1)
-    (opened_on start legal.0 past event sound known legal.1) legal.2 number queue there)
-
 from_empty :
     (n : ℕ) (events : List Event) (end : State) → IsLegal (starting_at n) events end → AreOpened end events
 from_empty n events end legal =
-    legal_opened (starting_at n) end [] events (start_sound n) (λ k queue h. absurd (none-some queue h)) legal
+    legal_keeps AreOpened opened_on (starting_at n) end [] events (start_sound n)
+    (λ k queue h. absurd (none-some queue h)) legal
 
 pub queues_are : (start : State) → QueuesAreTheirClients start
 queues_are start empty events end legal =

@@ -1,22 +1,21 @@
 -- Queues and what waits in them stay within their limits.
-use Rattle.std.proofs.Common.{[], ⊎_elim, ◌++◌, ◌+◌, ◌-◌, ◌<◌, ◌==◌, ◌∙◌, ◌∷◌, ◌≡◌, ◌≤◌, ap, arith, Bool, cond, false}
-use Rattle.std.proofs.Common.{filter, length, List, nat_cmp, nat_le, nat_lt, None, not, Ok, Option, option_map, refl}
-use Rattle.std.proofs.Common.{Some, subst, sym, true, ℕ}
-use Rattle.std.specs.{BTreeMap.is_at, Ordering.match_ordering, declared.cmp.Ordering.TheVariants.{Equal, Greater, Less}}
-use Rattle.std.proofs.lemmas.{Bool.Decides.nat_tests, Option.{none-some, same_Some}}
+use Rattle.std.proofs.Common.{[], ap, arith, Bool, cond, false, filter, length, List, nat_cmp, nat_le, nat_lt, not}
+use Rattle.std.proofs.Common.{Ok, refl, Some, subst, sym, true, ℕ, ◌++◌, ◌+◌, ◌-◌, ◌<◌, ◌==◌, ◌∙◌, ◌∷◌, ◌≡◌, ◌≤◌}
+use Rattle.std.proofs.lemmas.Bool.Decides.{nat_tests}
+use Rattle.std.specs.{BTreeMap.is_at, declared.cmp.Ordering.TheVariants.{Equal, Greater, Less}}
+use Rattle.std.specs.Ordering.{match_ordering}
 use Rattle.krs_types.specs.declared.ask.{Answer.Answer, Op.{Op, TheVariants.OpenQueue}}
-use Rattle.krs_types.specs.declared.{errno.Errno.TheVariants.{EINVAL, ENFILE}, note.Record.{Record, TheVariants.Loss}}
-use Rattle.krs_model.specs.Asks.Leaving.{left}
-use Rattle.krs_model.specs.Asks.{Linked.unless, Watching.{after_read, new_queue, open_queue, opened, with_filter}}
-use Rattle.krs_model.specs.Notes.{Bytes.{bytes_of, is_loss}, Front.behind}
+use Rattle.krs_types.specs.declared.{errno.Errno.TheVariants.{EINVAL, ENFILE}, note.Record.Record}
+use Rattle.krs_model.specs.Asks.{Leaving.left, Linked.unless, Watching.{after_read, new_queue, open_queue, opened}}
+use Rattle.krs_model.specs.{Asks.Watching.with_filter, Notes.{Bytes.{bytes_of, is_loss}, Front.behind}}
 use Rattle.krs_model.specs.Notes.{Posting.{after_note, after_notes, Post, post_all, records_for}, Stream.room_of}
-use Rattle.krs_model.specs.Notes.Waiting.{after_post, ends_with_loss, is_capacity, total_room, with_loss}
-use Rattle.krs_model.specs.{Orderly.AreOrderly, Queues.{Queues, queues_of}, State.{Queue, State}}
-use Rattle.krs_model.specs.{Step.{outcome_of, posts_by, Serves}, Table.{alter, at, put, Table, without}}
+use Rattle.krs_model.specs.{Notes.Waiting.{after_post, is_capacity, total_room, with_loss}, Orderly.AreOrderly}
+use Rattle.krs_model.specs.{Queues.{Queues, queues_of}, State.{Queue, State}, Step.{outcome_of, posts_by, Serves}}
+use Rattle.krs_model.specs.Table.{alter, at, put, Table, without}
 use Rattle.krs_model.proofs.Asks.Done.{Closes, Effect, Filters, Leaves, OfKeys, Opens, Reads, Unwatches, Watches}
-use Rattle.krs_model.proofs.Asks.Later.{bind_ok}
-use Rattle.krs_model.proofs.{Notes.Called.served_at, Sound.Changes.{at_change, at_put, IsChanged, IsPut}}
-use Rattle.krs_model.proofs.Tables.{Distinct.at_filter_some, Entries.without_was}
+use Rattle.krs_model.proofs.{Asks.Later.bind_ok, Notes.{Called.served_at, Streams.total_room-with_loss}}
+use Rattle.krs_model.proofs.Tables.{Distinct.at_filter_some, Each.{every_alter, every_put, mapped_is}}
+use Rattle.krs_model.proofs.Tables.Entries.{without_was}
 
 -- ---- what waits
 
@@ -36,13 +35,6 @@ room_appended : (waiting : List Record) (note : Record) → total_room (waiting 
 room_appended [] note = omega arith
 room_appended (w ∷ ws) note = let later = room_appended ws note in omega arith
 
-loss_room : (waiting : List Record) → total_room (with_loss waiting) ≡ total_room waiting
-loss_room waiting =
-    elim (ends_with_loss waiting) as (λ b. total_room (cond b waiting (waiting ++ Loss ∷ [])) ≡ total_room waiting) [
-      | true ↦ refl
-      | false ↦ let more = room_appended waiting Loss in omega arith
-    ]
-
 post_fits : (capacity : ℕ) (note : Record) (waiting : List Record) → total_room waiting ≤ capacity
     → total_room (after_post capacity note waiting) ≤ capacity
 post_fits capacity note waiting fits =
@@ -53,7 +45,7 @@ post_fits capacity note waiting fits =
           let more = room_appended waiting note in
           let one = room_one note in
           omega arith
-      | false ↦ λ t. let same = loss_room waiting in omega arith
+      | false ↦ λ t. let same = total_room-with_loss waiting in omega arith
     ] refl
 
 notes_fit : (notes : List Record) (queue : Queue) → Fits queue → Fits (after_notes notes queue)
@@ -70,18 +62,6 @@ behind_room room (note ∷ notes) =
       | true ↦ omega arith
       | false ↦ omega arith
     ]
-
-mapped_fits : (f : Queue → Queue) (o : Option Queue) (queue : Queue) → ((q : Queue) → Fits q → Fits (f q))
-    → ((q : Queue) → o ≡ Some q → Fits q) → option_map f o ≡ Some queue → Fits queue
-mapped_fits f None queue stays fits h = absurd (none-some queue h)
-mapped_fits f (Some q) queue stays fits h = subst Fits (same_Some (f q) queue h) (stays q (fits q refl))
-
-alter_waits : (queues : Table Queue) (n : ℕ) (f : Queue → Queue) → ((q : Queue) → Fits q → Fits (f q)) → AllWait queues
-    → AllWait (alter queues n f)
-alter_waits queues n f stays all number queue there =
-    ⊎_elim (λ (r : IsChanged queues n f number).
-    mapped_fits f (at queues number) queue stays (all number) (sym r.1 ∙ there))
-    (λ e. all number queue (sym e ∙ there)) (at_change queues n number f)
 
 -- ---- how many there are
 
@@ -114,7 +94,7 @@ without_length (e ∷ es) k =
       | false ↦ omega arith
     ]
 
-filter_length : {X : Type 0} (p : X → Bool) (es : List X) → length (filter p es) ≤ length es
+pub filter_length : {X : Type 0} (p : X → Bool) (es : List X) → length (filter p es) ≤ length es
 filter_length p [] = omega arith
 filter_length p (e ∷ es) =
     let later = filter_length p es in
@@ -161,19 +141,16 @@ effect_within s client context _ _ _ h orderly (Opens capacity held) was =
     let more = put_length s.queues s.next_queue (new_queue client capacity) in
     record {
       few = omega arith;
-      wait = λ number queue there.
-          ⊎_elim (λ (r : IsPut s.queues s.next_queue (new_queue client capacity) number).
-          subst Fits (same_Some (new_queue client capacity) queue (sym r.1 ∙ there)) (omega arith))
-          (λ e. was.wait number queue (sym e ∙ there)) (at_put s.queues s.next_queue number (new_queue client capacity));
+      wait = every_put Fits s.queues s.next_queue (new_queue client capacity) (omega arith) was.wait;
     }
 effect_within s client context _ _ _ h orderly (Filters number entries queue there) was = record {
   few = let same = alter_length s.queues number (with_filter entries) in let few = was.few in omega arith;
-  wait = alter_waits s.queues number (with_filter entries) (λ q fits. fits) was.wait;
+  wait = every_alter Fits s.queues number (with_filter entries) (λ q _ fits. fits) was.wait;
 }
 effect_within s client context _ _ _ h orderly (Reads number room queue there) was = record {
   few = let same = alter_length s.queues number (after_read room) in let few = was.few in omega arith;
-  wait = alter_waits s.queues number (after_read room)
-      (λ q fits. let less = behind_room room q.waiting in omega arith) was.wait;
+  wait = every_alter Fits s.queues number (after_read room)
+      (λ q _ fits. let less = behind_room room q.waiting in omega arith) was.wait;
 }
 effect_within s client context _ _ _ h orderly (Closes number queue there) was = record {
   few = let less = without_length s.queues number in let few = was.few in omega arith;
@@ -201,7 +178,6 @@ served_within s new client context op answer serves orderly effect was =
     record {
       few = let few = mid.few in let e = ap (λ (q : Table Queue). length q) swept in omega arith;
       wait = λ number queue there.
-          mapped_fits _ (at serves.mid.queues number) queue
-          (λ q fits. notes_fit (records_for number _) q fits) (mid.wait number)
-          (sym (served_at serves number) ∙ there);
+          let old = mapped_is _ (at serves.mid.queues number) queue (sym (served_at serves number) ∙ there) in
+          subst Fits old.2 (notes_fit (records_for number _) old.0 (mid.wait number old.0 old.1));
     }

@@ -1,15 +1,15 @@
 -- What is proved of the keys of an accepted ask before the sweep: they change by right. How it comes about: nothing is done,
 -- a key is put, what one holds is written, another part of it is changed.
-use Rattle.std.proofs.Common.{⊎_elim, ◌∙◌, ◌≡◌, ◌≢◌, ◌⊎◌, ap, Bool, false, inl, inr, List, None, Ok, Option, option_map}
-use Rattle.std.proofs.{Common.{refl, Some, subst, sym, true, ℕ, ℤ}, lemmas.Option.{none-some, same_Some}}
-use Rattle.krs_types.specs.{Rights.{allows, LINK, WRITE}, declared.{ask.Op.Op, caller.Caller.Caller}}
-use Rattle.krs_types.specs.declared.{context.Context.Context, rights.Want.{Want, TheVariants.Granted}}
+use Rattle.std.proofs.Common.{ap, Bool, false, inl, inr, List, None, Ok, Option, option_map, refl, Some, subst, sym}
+use Rattle.std.proofs.{Common.{true, ℕ, ℤ, ⊎_elim, ◌∙◌, ◌≡◌, ◌≢◌, ◌⊎◌}, lemmas.Option.{none-some, same_Some}}
+use Rattle.krs_types.specs.declared.{ask.Op.Op, caller.Caller.Caller, context.Context.Context, rights.Want.Want}
+use Rattle.krs_types.specs.{declared.rights.Want.TheVariants.Granted, Rights.{allows, LINK, WRITE}}
 use Rattle.krs_model.specs.{Access.{is_over, rights_on}, Levels.is_in, Lookup.{context_of, look_up}}
 use Rattle.krs_model.specs.{Making.special_ring, Possession.{links_of_content, possessed}, Reach.links_of_key_at}
 use Rattle.krs_model.specs.{State.{Content, Key, State}, Table.{alter, at, put, Table}, Usable.IsUsable}
-use Rattle.krs_model.proofs.{Lookups.Laws.look_up_usable, MadeKeyring.Lookups.possessed_other}
-use Rattle.krs_model.proofs.MadeKeyring.State.{at_other, HasMade, HasMadeFor, MadeNone, MadeOne}
-use Rattle.krs_model.proofs.Sound.Changes.{at_change, at_put, IsChanged, IsPut, LinksTo}
+use Rattle.krs_model.proofs.{Lookups.Laws.look_up_usable, MadeKeyring.{Lookups.possessed_other, State.at_other}}
+use Rattle.krs_model.proofs.{MadeKeyring.State.{HasMade, HasMadeFor, MadeNone, MadeOne}, Sound.Changes.at_change}
+use Rattle.krs_model.proofs.{Sound.Changes.{at_put, IsChanged, IsPut, LinksTo}, Tables.Each.mapped_is}
 use Rattle.krs_laws.specs.Integrity.{HasRight, IsByRight, IsMadeBy, Kept, MayLink, Written}
 
 -- a key that may be linked, or that the ask made
@@ -67,12 +67,6 @@ rightly_put s client context op keys n v none mine links was = record {
       ⊎_elim (λ (r : IsPut keys n v j). inr (links k (subst (LinksTo k) r.1 i)))
       (λ e. was.linked j k (subst (LinksTo k) e i)) (at_put keys n j v);
 }
-
-pub mapped_is :
-    (f : Key → Key) (o : Option Key) (after : Key) → option_map f o ≡ Some after
-    → (was : Key) × (o ≡ Some was) × (f was ≡ after)
-mapped_is f None after h = absurd (none-some after h)
-mapped_is f (Some v) after h = (v, refl, same_Some (f v) after h)
 
 links_mapped :
     (f : Key → Key) (P : ℕ → Type 0) (o : Option Key) (k : ℕ)

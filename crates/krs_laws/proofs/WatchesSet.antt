@@ -1,11 +1,11 @@
 -- Each watch was set by right in a history that began empty.
-use Rattle.std.proofs.Common.{[], ⊎_elim, ◌++◌, ◌∙◌, ◌∷◌, ◌≡◌, ◌⊎◌, ap, append-nil, append_assoc, List, refl, subst}
-use Rattle.std.proofs.Common.{sym, ℕ}
+use Rattle.std.proofs.Common.{[], ap, append_assoc, List, refl, subst, sym, ℕ, ⊎_elim, ◌++◌, ◌∙◌, ◌∷◌, ◌≡◌, ◌⊎◌}
 use Rattle.std.specs.List.{AllByRecursion}
 use Rattle.krs_types.specs.declared.{event.Event.Event, note.Record.{Record, TheVariants.{Key, Loss, Removal}}}
 use Rattle.krs_model.specs.{History.IsLegal, Orderly.Each, Queues.Watch, Receiving.called_for, Sound.IsSound}
 use Rattle.krs_model.specs.{State.{raised, State}, Step.Step}
-use Rattle.krs_model.proofs.{History.Legal.{legal_more, legal_none}, Notes.Fitting.each_on, Sound.Steps.start_sound}
+use Rattle.krs_model.proofs.{History.Legal.{legal_more, legal_none}, Notes.Fitting.each_on, Sound.Steps.legal_keeps}
+use Rattle.krs_model.proofs.Sound.Steps.{start_sound}
 use Rattle.krs_laws.specs.Noting.{AllNotesAreByRight, IsCalledFor, IsSetBy, IsToldByRight, IsWatched, WasSet}
 use Rattle.krs_laws.proofs.{Callers.all_called, Watchers.step_set}
 
@@ -40,18 +40,6 @@ set_on start old new past event legal known step =
     (λ (set : IsSetBy up event.lane event.ask.context event.ask.op w). (past, event, [], refl, old, legal, set)) h)
     (step_set old new event step)
 
-legal_set :
-    (start s end : State) (past events : List Event) → IsLegal start past s → Each (WasSet start past) s.watches
-    → IsLegal s events end → Each (WasSet start (past ++ events)) end.watches
-unfolding IsLegal
-legal_set start s end past [] before known legal =
-    subst (λ (l : List Event). Each (WasSet start l) end.watches) (sym (append-nil past))
-    (subst (λ (t : State). Each (WasSet start past) t.watches) legal known)
-legal_set start s end past (event ∷ events) before known legal =
-    subst (λ (l : List Event). Each (WasSet start l) end.watches) (append_assoc past (event ∷ []) events)
-    (legal_set start legal.0 end (past ++ event ∷ []) events (legal_more start s legal.0 past event before legal.1)
-    (set_on start s legal.0 past event before known legal.1) legal.2)
-
 -- ---- records
 
 told_by_set :
@@ -77,5 +65,9 @@ all_by_right start empty before old legal event new step number =
     let none : Each (WasSet start []) start.watches =
     subst (λ (t : State). Each (WasSet start []) t.watches) (sym empty.1) tt in
     all_told start old before number (called_for number old event new)
-    (legal_set start start old [] before (legal_none start) none legal)
+    (legal_keeps (λ s past. IsLegal start past s × Each (WasSet start past) s.watches)
+    (λ s next past step_event _ known step. (
+      legal_more start s next past step_event known.0 step,
+      set_on start s next past step_event known.0 known.1 step,
+    )) start old [] before sound (legal_none start, none) legal).1
     (all_called start sound before old legal event new step number)

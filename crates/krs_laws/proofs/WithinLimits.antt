@@ -1,15 +1,15 @@
 -- Each step leaves a store within its limits.
-use Rattle.std.proofs.Common.{[], ◌∙◌, ◌∷◌, ◌≡◌, ◌≤◌, ap, arith, Err, filter, List, nat_le, Ok, Result, subst, sym}
-use Rattle.std.proofs.{Common.{true, ℕ}, lemmas.{Bool.Decides.nat_tests, Option.none-some}}
+use Rattle.std.proofs.Common.{[], ap, arith, Err, filter, nat_le, Ok, Result, subst, sym, true, ℕ, ◌∙◌, ◌≡◌, ◌≤◌}
+use Rattle.std.proofs.lemmas.{Bool.Decides.nat_tests, Option.none-some}
 use Rattle.krs_types.specs.declared.{ask.{Answer.Answer, Op.Op}, context.Context.Context, errno.Errno.Errno}
 use Rattle.krs_types.specs.declared.event.Event.{Event}
-use Rattle.krs_model.specs.{Asks.Hello.context_count, History.IsLegal, Notes.Waiting.is_capacity, Sound.IsSound}
-use Rattle.krs_model.specs.{State.{Key, raised, starting_at, State}, Step.{Ends, Step}, Table.{at, Table}}
-use Rattle.krs_model.proofs.{Asks.{Effects.effect_of, Laws.law_of}, Sound.Steps.{raised_sound, sound_stands}}
-use Rattle.krs_model.proofs.{Sound.Steps.step_sound, Tables.Changes.at_kept}
+use Rattle.krs_model.specs.{Asks.Hello.context_count, Notes.Waiting.is_capacity, Sound.IsSound, State.{Key, raised}}
+use Rattle.krs_model.specs.{State.{starting_at, State}, Step.{Ends, Step}, Table.{at, Table}}
+use Rattle.krs_model.proofs.{Asks.{Effects.effect_of, Laws.law_of}, Sound.Steps.{legal_keeps, legal_sound}}
+use Rattle.krs_model.proofs.{Sound.Steps.{raised_sound, sound_stands}, Tables.{Changes.at_kept, Each.kept_is}}
 use Rattle.krs_laws.specs.Limits.{IsWithinLimits, StaysWithinLimits}
-use Rattle.krs_laws.proofs.{ByRight.kept_is, ContextLimits.houses_few, KeyLimits.{AllShort, both}}
-use Rattle.krs_laws.proofs.{KeyLimitsByAsk.all_short, QueueLimits.{QueuesWithin, served_within}}
+use Rattle.krs_laws.proofs.{ContextLimits.houses_few, KeyLimits.{AllShort, both}, KeyLimitsByAsk.all_short}
+use Rattle.krs_laws.proofs.QueueLimits.{QueuesWithin, served_within}
 
 -- but for capacities, which IsSound has
 record Within (s : State) : Type 0 where
@@ -60,21 +60,14 @@ within_limits s sound within = record {
       (within.queues.wait number queue there, capacity_most queue.capacity (sound.orderly.queues number queue there).capacity);
 }
 
-legal_within : (start end : State) (events : List Event) → IsSound start → Within start → IsLegal start events end
-    → IsWithinLimits end
-unfolding IsLegal
-legal_within start end [] sound within legal = subst IsWithinLimits legal (within_limits start sound within)
-legal_within start end (event ∷ events) sound within legal =
-    legal_within legal.0 end events (step_sound start legal.0 event sound legal.1)
-    (step_within start legal.0 event sound within legal.1) legal.2
-
 pub stays_within : (start : State) → IsSound start → IsWithinLimits start → StaysWithinLimits start
 stays_within start sound limits events end legal =
-    legal_within start end events sound (record {
+    within_limits end (legal_sound start events end sound legal)
+    (legal_keeps (λ s _. Within s) (λ old new _ event. step_within old new event) start end [] events sound (record {
       keys = record { each = limits.keys };
       contexts = limits.contexts;
       queues = record { few = limits.queues; wait = λ number queue there. (limits.waiting number queue there).0 };
-    }) legal
+    }) legal)
 
 pub empty_within : (n : ℕ) → IsWithinLimits (starting_at n)
 empty_within n = record {

@@ -1,5 +1,5 @@
 -- What laws say of histories of a store, in the words of krs_model: who may change what, who is told, what is left in
--- the end, and what a store never holds more of.
+-- the end, what a store never holds more of, and what the marks of asks promise.
 pub mod Belonging
 pub mod Integrity
 pub mod Noting
@@ -7,3 +7,4 @@ pub mod Emptied
 pub mod Limits
 pub mod Overwritten
 pub mod Expired
+pub mod Marks

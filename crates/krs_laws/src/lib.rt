@@ -6,6 +6,7 @@ mod emptied;
 mod expired;
 mod integrity;
 mod limits;
+mod marks;
 mod noting;
 mod overwritten;
 
@@ -13,6 +14,7 @@ pub use emptied::nothing_is_left_when_all_have_left;
 pub use expired::expired_keys_stay_unread;
 pub use integrity::each_change_is_by_right;
 pub use limits::limits_hold_in_every_history;
+pub use marks::{quiet_asks_have_no_note, short_asks_drop_one_key_at_most};
 pub use noting::{
     notes_are_by_right, queues_are_their_clients, queues_are_their_owners,
     records_are_called_for_by_watches, watches_are_set_by_right,

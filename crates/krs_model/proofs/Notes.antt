@@ -5,6 +5,7 @@ pub mod Fronts
 pub mod QueueNumbers
 pub mod Order
 pub mod Posts
+pub mod Quiet
 pub mod Reads
 pub mod Taken
 pub mod Bytes

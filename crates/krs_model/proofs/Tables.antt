@@ -5,3 +5,4 @@ pub mod Rising
 pub mod Counts
 pub mod Tests
 pub mod Entries
+pub mod Each

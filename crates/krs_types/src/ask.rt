@@ -214,46 +214,48 @@ impl Ask {
 }
 
 /// The asks, a row each, for a macro that is named first: the variant, its number on the wire, the kind of its answer,
-/// when it takes memory, and its fields, each with its form, in the order of the wire.
+/// its marks, and its fields, each with its form, in the order of the wire. A mark is there, isn't (`-`), or hangs on a
+/// field; `Op::grows`, `Op::is_long` and `Op::tells` say what each means.
 #[macro_export]
 macro_rules! asks {
     ($rows:ident, $($argument:expr),*) => {
         $rows!($($argument),*;
-            GetId 0 Number (create) { id: id, create: flag };
-            Join 1 Number always { name: text };
-            Update 2 Nothing always { id: id, payload: blob };
-            Revoke 3 Nothing never { id: id };
-            Chown 4 Nothing never { id: id, uid: number, gid: number };
-            SetPerm 5 Nothing never { id: id, mask: number };
-            Describe 6 Bytes always { id: id };
-            Clear 7 Nothing never { id: id };
-            Link 8 Nothing always { key: id, ring: id };
-            Unlink 9 Nothing never { key: id, ring: id };
-            Search 10 Number (dest != 0) { head: id, type_name: type_name, desc: text, dest: id };
-            Read 11 Bytes always { id: id };
-            SetTimeout 15 Nothing never { id: id, seconds: number };
-            Invalidate 21 Nothing never { id: id };
-            RestrictKeyring 29 Nothing never { ring: id, type_name: type_name };
-            Move 30 Nothing always { key: id, from: id, to: id, flags: number };
-            Watch 32 Nothing (watch != -1) { id: id, queue: number, watch: id };
-            Hello 256 Number always (caller: caller);
-            Thread 257 Number always {};
-            Fork 258 Number always {};
-            Exec 259 Nothing never {};
-            Exit 260 Nothing never {};
-            Leave 261 Nothing never {};
-            Add 262 Number always { type_name: type_name, desc: text, payload: blob, ring: id };
-            Request 263 Number (dest != 0) { type_name: type_name, desc: text, dest: id };
-            OpenQueue 264 Number always { capacity: number };
-            SetFilter 265 Nothing always { queue: number, entries: entries };
-            ReadQueue 266 Bytes always { queue: number, room: number };
-            CloseQueue 267 Nothing never { queue: number };
+            GetId 0 Number [(create) - -] { id: id, create: flag };
+            Join 1 Number [grows long -] { name: text };
+            Update 2 Nothing [grows - tells] { id: id, payload: blob };
+            Revoke 3 Nothing [- long tells] { id: id };
+            Chown 4 Nothing [- - tells] { id: id, uid: number, gid: number };
+            SetPerm 5 Nothing [- - tells] { id: id, mask: number };
+            Describe 6 Bytes [grows - -] { id: id };
+            Clear 7 Nothing [- long tells] { id: id };
+            Link 8 Nothing [grows long tells] { key: id, ring: id };
+            Unlink 9 Nothing [- long tells] { key: id, ring: id };
+            Search 10 Number [(dest != 0) long (dest != 0)] { head: id, type_name: type_name, desc: text, dest: id };
+            Read 11 Bytes [grows - -] { id: id };
+            SetTimeout 15 Nothing [- - tells] { id: id, seconds: number };
+            Invalidate 21 Nothing [- long tells] { id: id };
+            RestrictKeyring 29 Nothing [- - -] { ring: id, type_name: type_name };
+            Move 30 Nothing [grows long tells] { key: id, from: id, to: id, flags: number };
+            Watch 32 Nothing [(watch != -1) - -] { id: id, queue: number, watch: id };
+            Hello 256 Number [grows - -] (caller: caller);
+            Thread 257 Number [grows - -] {};
+            Fork 258 Number [grows - -] {};
+            Exec 259 Nothing [- long -] {};
+            Exit 260 Nothing [- long -] {};
+            Leave 261 Nothing [- long -] {};
+            Add 262 Number [grows (type_name.names_keyrings()) tells]
+                { type_name: type_name, desc: text, payload: blob, ring: id };
+            Request 263 Number [(dest != 0) long (dest != 0)] { type_name: type_name, desc: text, dest: id };
+            OpenQueue 264 Number [grows - -] { capacity: number };
+            SetFilter 265 Nothing [grows - -] { queue: number, entries: entries };
+            ReadQueue 266 Bytes [grows - -] { queue: number, room: number };
+            CloseQueue 267 Nothing [- long -] { queue: number };
         )
     };
 }
 
 macro_rules! numbers {
-    ($op:expr; $($ask:ident $number:literal $shape:ident $grows:tt $fields:tt;)*) => {
+    ($op:expr; $($ask:ident $number:literal $shape:ident $marks:tt $fields:tt;)*) => {
         match $op {
             $(Op::$ask { .. } => $number,)*
         }
@@ -261,20 +263,40 @@ macro_rules! numbers {
 }
 
 macro_rules! growths {
-    ($op:expr; $($ask:ident $number:literal $shape:ident $grows:tt $fields:tt;)*) => {
+    ($op:expr; $($ask:ident $number:literal $shape:ident [$grows:tt $long:tt $tells:tt] $fields:tt;)*) => {
+        marked!($op; $($ask $grows;)*)
+    };
+}
+
+macro_rules! long_asks {
+    ($op:expr; $($ask:ident $number:literal $shape:ident [$grows:tt $long:tt $tells:tt] $fields:tt;)*) => {
+        marked!($op; $($ask $long;)*)
+    };
+}
+
+macro_rules! tellings {
+    ($op:expr; $($ask:ident $number:literal $shape:ident [$grows:tt $long:tt $tells:tt] $fields:tt;)*) => {
+        marked!($op; $($ask $tells;)*)
+    };
+}
+
+/// Whether an ask has the mark that each row gives.
+macro_rules! marked {
+    ($op:expr; $($ask:ident $mark:tt;)*) => {
         match $op {
-            $(growths!(@ask $ask $grows) => growths!(@takes $grows),)*
+            $(marked!(@ask $ask $mark) => marked!(@holds $mark),)*
         }
     };
     (@ask $ask:ident ($field:ident $($test:tt)*)) => { Op::$ask { $field, .. } };
-    (@ask $ask:ident $word:ident) => { Op::$ask { .. } };
-    (@takes always) => { true };
-    (@takes never) => { false };
-    (@takes ($field:ident $($test:tt)*)) => { *$field $($test)* };
+    (@ask $ask:ident $mark:tt) => { Op::$ask { .. } };
+    (@holds -) => { false };
+    (@holds ($field:ident.$test:ident())) => { $field.$test() };
+    (@holds ($field:ident $($test:tt)*)) => { *$field $($test)* };
+    (@holds $mark:ident) => { true };
 }
 
 macro_rules! copies {
-    ($op:expr, $alloc:expr; $($ask:ident $number:literal $shape:ident $grows:tt $fields:tt;)*) => {
+    ($op:expr, $alloc:expr; $($ask:ident $number:literal $shape:ident $marks:tt $fields:tt;)*) => {
         match $op {
             $(copies!(@ask $ask $fields) => copies!(@copy $alloc, $ask $fields),)*
         }
@@ -306,6 +328,21 @@ impl Op {
         ensures { result ≡ grows self.now }
     {
         asks!(growths, self)
+    }
+
+    /// Whether it may walk far along links, or drop more than one key or record: behind such a one its client doesn't
+    /// keep others waiting.
+    pub fn is_long(&self) -> bool
+        ensures { result ≡ (row_of self.now).long }
+    {
+        asks!(long_asks, self)
+    }
+
+    /// Whether it tells of something, if it is accepted: the others post no note.
+    pub fn tells(&self) -> bool
+        ensures { result ≡ (row_of self.now).tells }
+    {
+        asks!(tellings, self)
     }
 
     /// An equal value.

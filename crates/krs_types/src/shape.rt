@@ -12,7 +12,7 @@ pub enum Shape {
 }
 
 macro_rules! shapes {
-    ($op:expr; $($ask:ident $number:literal $shape:ident $grows:tt $fields:tt;)*) => {
+    ($op:expr; $($ask:ident $number:literal $shape:ident $marks:tt $fields:tt;)*) => {
         match $op {
             $(Op::$ask { .. } => Shape::$shape,)*
         }

@@ -1,5 +1,5 @@
 ghost use Rattle.std.specs.Prelude.{[], ◌≡◌, IfOk, IsOk};
-ghost use Rattle.krs_types.specs.Kind.{kind_named};
+ghost use Rattle.krs_types.specs.{Kind.kind_named, Rows.names_keyrings};
 
 use crate::{Blob, Errno, Kind};
 use std::alloc::{AllocError, Global};
@@ -66,6 +66,13 @@ impl TypeName {
             Given::Known(kind) => Ok(*kind),
             Given::Other(name) => Kind::named(name.as_slice()),
         }
+    }
+
+    /// Whether it is the name of keyrings' type.
+    pub fn names_keyrings(&self) -> bool
+        ensures { result ≡ names_keyrings self.now }
+    {
+        self.as_slice() == Kind::Keyring.name().as_bytes()
     }
 
     /// An equal value.

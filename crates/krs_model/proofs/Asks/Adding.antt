@@ -1,69 +1,40 @@
 -- What is proved of ADD.
-use Rattle.std.proofs.Common.{◌&&◌, ◌<◌, [], ◌^◌, ap, arith, Bool, cond, Err, false, inl, inr, is_some, IsSome, List}
-use Rattle.std.proofs.Common.{nat_lt, None, not, Ok, Option, refl, Result, Some, subst, sym, true, true≢false, ℕ, ℤ}
-use Rattle.std.proofs.Common.{◌∙◌, ◌≡◌, ◌≤◌, ⊎_elim}
-use Rattle.krs_types.specs.Kind.{checked, described_by, paid, same_kind}
-use Rattle.krs_types.specs.Rights.{has_all, WRITE}
-use Rattle.krs_types.specs.declared.ask.Answer.{Answer}
-use Rattle.krs_types.specs.declared.ask.Answer.TheVariants.{Bytes, Nothing, Number}
-use Rattle.krs_types.specs.declared.ask.Op.{Op}
-use Rattle.krs_types.specs.declared.ask.Op.TheVariants.{Add}
-use Rattle.krs_types.specs.declared.context.Context.{Context}
-use Rattle.krs_types.specs.declared.errno.Errno.{Errno}
-use Rattle.krs_types.specs.declared.errno.Errno.TheVariants.{EACCES, ENOSPC, EPERM}
-use Rattle.krs_types.specs.declared.kind.DescRule.{DescRule}
-use Rattle.krs_types.specs.declared.kind.DescRule.TheVariants.{AnyText, WithoutDot, WithService}
-use Rattle.krs_types.specs.declared.kind.Kind.{Kind}
-use Rattle.krs_types.specs.declared.kind.Kind.TheVariants.{Keyring}
-use Rattle.krs_types.specs.declared.name.Name.{Name}
-use Rattle.krs_types.specs.declared.rights.Want.TheVariants.{Granted}
+use Rattle.std.proofs.Common.{[], ◌&&◌, ◌<◌, ◌^◌, ◌∙◌, ◌≡◌, ◌≤◌, ap, arith, Bool, cond, Err, false, inl, inr, is_some}
+use Rattle.std.proofs.Common.{IsSome, List, nat_lt, None, not, Ok, Option, refl, Result, Some, subst, sym, true}
+use Rattle.std.proofs.{Common.{true≢false, ℕ, ℤ}, lemmas.Bool.Decides.nat_tests}
+use Rattle.krs_types.specs.declared.ask.{Answer.{Answer, TheVariants.{Bytes, Nothing, Number}}, Op.Op}
+use Rattle.krs_types.specs.declared.{ask.Op.TheVariants.Add, context.Context.Context, errno.Errno.Errno}
+use Rattle.krs_types.specs.declared.{errno.Errno.TheVariants.{EACCES, ENOSPC}, kind.DescRule.DescRule}
+use Rattle.krs_types.specs.declared.kind.{DescRule.TheVariants.{AnyText, WithoutDot, WithService}, Kind.Kind}
+use Rattle.krs_types.specs.{declared.{name.Name.Name, rights.Want.TheVariants.Granted}, Kind.{checked, described_by}}
+use Rattle.krs_types.specs.{Kind.paid, Rights.{has_all, WRITE}}
 use Rattle.krs_types.proofs.Names.{and_left, and_right}
-use Rattle.krs_model.specs.Access.{is_alive, is_over, rights_on}
-use Rattle.krs_model.specs.Asks.Adding.{add, added, added_serial, admitted, by_match, if_room}
-use Rattle.krs_model.specs.Asks.Adding.{IsKeyringAt, Made, made, new_key, over_match, Place, place_of, Updated}
-use Rattle.krs_model.specs.Asks.Changing.{is_updatable, updated}
-use Rattle.krs_model.specs.Asks.Linked.{name_of, unless}
-use Rattle.krs_model.specs.Confidentiality.{HasToItself}
-use Rattle.krs_model.specs.Hiding.{hidden_added, Hides, Hiding, serial_in}
-use Rattle.krs_model.specs.Levels.{is_in}
-use Rattle.krs_model.specs.Linking.{has_room, is_named, link_named, linking, ring_links}
-use Rattle.krs_model.specs.Lookup.{context_of, look_up}
-use Rattle.krs_model.specs.Making.{made_for, with_new}
-use Rattle.krs_model.specs.Notes.Telling.{about, about_added, about_link, named}
-use Rattle.krs_model.specs.Outcome.{Outcome}
-use Rattle.krs_model.specs.Possession.{links_of_content, possessed}
-use Rattle.krs_model.specs.Reach.{Directly, Further, links_of_key_at, Reaches}
-use Rattle.krs_model.specs.Search.{found}
-use Rattle.krs_model.specs.Sound.{is_links, IsFitting}
-use Rattle.krs_model.specs.State.{Key, Links, Payload, State}
-use Rattle.krs_model.specs.Table.{alter, at, IsBelow, put}
-use Rattle.krs_model.specs.Usable.{IsUsable}
-use Rattle.krs_model.proofs.Asks.Houses.{HousesIn, made_houses}
-use Rattle.krs_model.proofs.Asks.Later.{bind_ok, changed_comes, Comes, comes_trans, same_ok, with_new_comes}
-use Rattle.krs_model.proofs.Asks.LaterByAsk.{made_for_comes}
-use Rattle.krs_model.proofs.Asks.Lawful.{IsLawful}
+use Rattle.krs_model.specs.{Access.{is_alive, rights_on}, Asks.Adding.{add, added, added_serial, admitted, by_match}}
+use Rattle.krs_model.specs.Asks.Adding.{if_room, IsKeyringAt, Made, made, new_key, over_match, Place, place_of}
+use Rattle.krs_model.specs.Asks.{Adding.Updated, Changing.{is_updatable, updated}, Linked.name_of}
+use Rattle.krs_model.specs.{Confidentiality.HasToItself, Hiding.{hidden_added, Hides, Hiding, serial_in}}
+use Rattle.krs_model.specs.{Levels.is_in, Linking.{is_named, link_named, linking, ring_links}, Lookup.context_of}
+use Rattle.krs_model.specs.{Lookup.look_up, Making.{made_for, with_new}, Notes.Telling.{about, about_added}}
+use Rattle.krs_model.specs.{Notes.Telling.{about_link, named}, Outcome.Outcome, Possession.links_of_content}
+use Rattle.krs_model.specs.{Possession.possessed, Reach.{Directly, Further, links_of_key_at, Reaches}, Search.found}
+use Rattle.krs_model.specs.{Sound.{is_links, IsFitting}, State.{Key, Links, Payload, State}, Table.{alter, at}}
+use Rattle.krs_model.specs.{Table.{IsBelow, put}, Usable.IsUsable}
+use Rattle.krs_model.proofs.Asks.{Houses.{HousesIn, made_houses}, Later.{bind_ok, changed_comes, Comes, comes_trans}}
+use Rattle.krs_model.proofs.Asks.{Later.{same_ok, with_new_comes}, LaterByAsk.made_for_comes, Lawful.IsLawful}
 use Rattle.krs_model.proofs.Asks.NewSerials.{IsWithin, place_is, same_counts, small_there}
 use Rattle.krs_model.proofs.Asks.NotedKeys.{about_link_small, about_small, IsThere, there_ends}
-use Rattle.krs_model.proofs.Asks.Outcomes.{meets_after, meets_ok}
-use Rattle.krs_model.proofs.Asks.Plain.{IsPlain, plain, plain_ok}
-use Rattle.krs_model.proofs.Asks.Plain.{plains}
-use Rattle.krs_model.proofs.Hiding.Adding.{add_blind, IsHidden}
-use Rattle.krs_model.proofs.Isolation.Attachments.{same_unattached}
+use Rattle.krs_model.proofs.Asks.{Outcomes.{meets_after, meets_ok}, Plain.{IsPlain, plain, plain_ok, plains}}
+use Rattle.krs_model.proofs.{Hiding.Adding.{add_blind, IsHidden}, Isolation.Attachments.same_unattached}
 use Rattle.krs_model.proofs.Isolation.Guarded.{changed_guarded, Guarded, lessens_keeps, next_apart}
-use Rattle.krs_model.proofs.Isolation.Keys.{changed_enclosed, KeepsOwn, no_rights, not_found}
-use Rattle.krs_model.proofs.Isolation.Links.{IsOther, later_made, made_alone, new_enclosed, other_made}
-use Rattle.krs_model.proofs.Isolation.Untouched.{AreSame, made_same, other_same, put_same, same_trans}
-use Rattle.krs_model.proofs.Lookups.Laws.{in_by_match, made_in_ring}
-use Rattle.krs_model.proofs.Lookups.Serials.{own_there}
-use Rattle.krs_model.proofs.MadeKeyring.Links.{place_of_new}
-use Rattle.krs_model.proofs.MadeKeyring.State.{HasMadeFor, made_for_has, MadeNone, MadeOne}
-use Rattle.krs_model.proofs.Notes.Fitting.{AllSmall}
-use Rattle.krs_model.proofs.Reach.Acyclic.{From}
-use Rattle.krs_model.proofs.Sound.Changes.{at_further, changed_stands, in_linked_content, linked_stands, LinksTo}
-use Rattle.krs_model.proofs.Sound.Changes.{not_there, Stands, there_alter, with_linked}
-use Rattle.krs_model.proofs.Sound.KeyChanges.{updated_lessens}
-use Rattle.krs_model.proofs.Sound.Links.{named_same}
-use Rattle.krs_model.proofs.Sound.NewContexts.{empty_stands, made_for_stands, own_process_there, some_there}
+use Rattle.krs_model.proofs.Isolation.{Keys.{changed_enclosed, no_rights, not_found}, Links.{IsOther, later_made}}
+use Rattle.krs_model.proofs.Isolation.{Links.{made_alone, new_enclosed, other_made}, Untouched.{AreSame, made_same}}
+use Rattle.krs_model.proofs.{Isolation.Untouched.{other_same, put_same, same_trans}, Lookups.Laws.in_by_match}
+use Rattle.krs_model.proofs.{Lookups.{Laws.made_in_ring, Serials.own_there}, MadeKeyring.Links.place_of_new}
+use Rattle.krs_model.proofs.{MadeKeyring.State.{HasMadeFor, made_for_has, MadeNone, MadeOne}, Notes.Fitting.AllSmall}
+use Rattle.krs_model.proofs.{Reach.Acyclic.From, Sound.Changes.{at_further, changed_stands, in_linked_content}}
+use Rattle.krs_model.proofs.Sound.Changes.{linked_stands, LinksTo, not_there, Stands, there_alter, with_linked}
+use Rattle.krs_model.proofs.Sound.{KeyChanges.updated_lessens, Links.named_same, NewContexts.empty_stands}
+use Rattle.krs_model.proofs.Sound.NewContexts.{made_for_stands, own_process_there, some_there}
 use Rattle.krs_model.proofs.Tables.Changes.{at_put_same}
 use Rattle.krs_types.specs.declared.note.KeyEvent.TheVariants as told_of
 
@@ -88,11 +59,7 @@ updated_within s c name id k _ MadeNone h = same_counts s s refl
 updated_within s c name id k _ (MadeOne t d desc before after made named) h =
     let no : cond (nat_lt 2147483647 t.next_serial) (Err ENOSPC) (Ok (Made s.next_serial)) ≡ Ok (Updated k) =
     sym (place_of_new s t c d desc before after name id made named) ∙ h in
-    elim (nat_lt 2147483647 t.next_serial) as
-    (λ b. cond b (Err ENOSPC) (Ok (Made s.next_serial)) ≡ Ok (Updated k) → IsWithin s t) [
-      | true ↦ λ e. cc
-      | false ↦ λ e. cc
-    ] no
+    grind (arith, nat_tests)
 
 added_within :
     (s : State) (c : Context) (name : Name) (payload : List ℕ) (id : ℤ) (place : Place) (made : State × Context)
@@ -108,23 +75,14 @@ added_there :
     → place_of s c name id ≡ Ok place → IsSome (at (added s c name payload place).keys (added_serial s place))
 added_there s c name payload id (Updated k) h =
     there_alter s.keys k (updated payload) k (place_is s c name id (Updated k) h)
-added_there s c name payload id (Made ring) h =
-    let n = s.next_serial in
-    let key = new_key name payload c.caller.uid c.caller.gid in
-    let there : IsSome (at (put s.keys n key) n) = rw (at_put_same s.keys n key) refl in
-    there_alter (put s.keys n key) ring (linking s.keys name n) n there
+added_there s c name payload id (Made ring) h = search (at_put_same, there_alter) depth 8
 
 add_there :
     (s new : State) (client context : ℕ) (type_name desc payload : List ℕ) (ring : ℤ) (answer : Answer)
     → add s client context type_name desc payload ring ≡ Ok (new, answer) → IsThere new answer
 unfolding add
 add_there s new client context type_name desc payload ring answer h =
-    let a = bind_ok (context_of s client context) _ (new, answer) h in
-    let b = bind_ok (admitted type_name desc payload) _ (new, answer) a.2 in
-    let made = made_for s context a.0 ring in
-    let d = bind_ok (place_of made.0 made.1 b.0 ring) _ (new, answer) b.2 in
-    there_ends (added made.0 made.1 b.0 payload d.0) new (added_serial made.0 d.0) answer
-    (added_there made.0 made.1 b.0 payload ring d.0 d.1) d.2
+    grind (arith, nat_tests, bind_ok, there_ends, added_there)
 
 added_small :
     (s mid : State) (ring : Result ℕ Errno) (answer : Answer) → IsBelow mid.keys 2147483648 → IsThere mid answer
@@ -203,10 +161,8 @@ made_stands s ring name key is named empty fits stands =
     true≢false (sym (ap (is_in k) (sym empty) ∙ i)) in
     let first : Stands one = empty_stands s key empty fits stands in
     let mine : at one.keys n ≡ Some key = at_put_same s.keys n key in
-    let unreached : From (links_of_key_at one.keys) n ring → ⊥ = λ from.
-    ⊎_elim (λ (e : n ≡ ring). not_there (at s.keys ring) ring_there (ap (λ (z : ℕ). at s.keys z) (sym e) ∙ none))
-    (λ (p : Reaches (links_of_key_at one.keys) n ring). let link = first_link (links_of_key_at one.keys) n ring p in
-    nothing link.0 (subst (LinksTo link.0) mine link.1)) from in
+    let unreached : From (links_of_key_at one.keys) n ring → ⊥ =
+    grind (arith, nat_tests, not_there, first_link) in
     let same : (k : ℕ) → IsSome (at s.keys k) → at one.keys k ≡ at s.keys k = λ k there.
     at_further s.keys n k key none there in
     let displaced : ℕ → Bool = λ k. is_named name (at s.keys k) in
@@ -223,8 +179,7 @@ added_stands :
 added_stands s c name payload id (Updated serial) is stands =
     changed_stands s serial (updated payload) (updated_lessens payload) stands
 added_stands s c name payload id (Made ring) is stands =
-    made_stands s ring name (new_key name payload c.caller.uid c.caller.gid) (made_in_ring s c name id ring is) refl
-    (no_links (same_kind name.kind Keyring) payload) (first_form (same_kind name.kind Keyring) payload) stands
+    search (made_stands, made_in_ring, no_links, first_form) depth 8
 
 added_fits : (hide : Hiding) (meant : Outcome) (payload : List ℕ) (kind : Kind) → Hides hide
     → paid kind (hidden_added hide meant payload) ≡ paid kind payload
@@ -235,38 +190,25 @@ added_guarded :
     (uid : ℕ) (private : ℕ → Bool) (P : Type 0) (s : State) (c : Context) (name : Name) (payload : List ℕ) (place : Place)
     → HasToItself uid private s → Guarded uid private P (added s c name payload place)
 added_guarded uid private P s c name payload (Updated serial) alone =
-    changed_guarded uid private P s serial (updated payload)
-    (λ p. lessens_keeps uid private serial (updated payload) (updated_lessens payload) (λ v m h. h)) alone
+    search (changed_guarded, lessens_keeps, updated_lessens) depth 8
 added_guarded uid private P s c name payload (Made ring) alone =
-    let n = s.next_serial in
-    let key = new_key name payload c.caller.uid c.caller.gid in
-    let one = with_new s key in
-    let fresh = next_apart uid private s alone in
-    let displaced : ℕ → Bool = λ k. is_named name (at s.keys k) in
-    let keeps : KeepsOwn uid private ring (with_linked displaced n) = record {
-      own = λ v m h. h;
-      links = λ v k m i. ⊎_elim (λ (was : is_in k (links_of_content v.content) ≡ true). inl was)
-          (λ (e : k ≡ n). absurd (fresh (subst (λ (z : ℕ). private z ≡ true) e m)))
-          (in_linked_content displaced n v.content k i);
-    } in
-    record {
-      made = later_made uid private s alone;
-      enclosed = λ p. changed_enclosed uid private one.keys ring (with_linked displaced n) keeps
-          (new_enclosed uid private s key (no_links (same_kind name.kind Keyring) payload) alone);
-      unattached = same_unattached uid private s (made s ring name key) refl refl refl alone.unattached;
-    }
+    grind (
+      arith,
+      nat_tests,
+      next_apart,
+      in_linked_content,
+      later_made,
+      changed_enclosed,
+      new_enclosed,
+      no_links,
+      same_unattached,
+    )
 
 -- no room is an updated key
 room_makes :
     (s : State) (ring : ℕ × Key) (f : ℕ) (links : List ℕ) (displaced : Option ℕ)
     → if_room s ring links displaced ≡ Ok (Updated f) → ⊥
-room_makes s ring f links displaced h =
-    let unclosed = bind_ok (unless ring.1.closed EPERM) _ (Updated f) h in
-    let room = bind_ok (has_room links displaced) _ (Updated f) unclosed.2 in
-    elim (nat_lt 2147483647 s.next_serial) as (λ b. cond b (Err ENOSPC) (Ok (Made ring.0)) ≡ Ok (Updated f) → ⊥) [
-      | true ↦ λ e. cc
-      | false ↦ λ e. cc
-    ] room.2
+room_makes s ring f links displaced h = grind (arith, nat_tests, bind_ok)
 
 -- the key that ADD updates may be written
 abbrev pub Writes : State → Context → ℕ → Type 0
@@ -280,17 +222,7 @@ alive_writes :
     (s : State) (c : Context) (found : ℕ) (key : Key) → at s.keys found ≡ Some key
     → (is_alive s.clock key && is_updatable key.kind) ≡ true
     → has_all (rights_on key c.caller (possessed s c found)) WRITE ≡ true → Writes s c found
-alive_writes s c found key there alive grants =
-    let over = is_over s.clock key.expiry in
-    let a = and_left (is_alive s.clock key) (is_updatable key.kind) alive in (
-      key,
-      record {
-        there = there;
-        live = opposite key.revoked (and_left (not key.revoked) (not over) a);
-        running = opposite over (and_right (not key.revoked) (not over) a);
-        granted = grants;
-      },
-    )
+alive_writes s c found key there alive grants = grind (arith, nat_tests, and_left, opposite, and_right)
 
 match_writes :
     (s : State) (c : Context) (ring : ℕ × Key) (f : ℕ) (links : List ℕ) (found : ℕ) (o : Option Key)
@@ -360,8 +292,7 @@ pub add_law :
     → IsLawful s client context (Add type_name desc payload ring)
 unfolding add
 add_law s client context type_name desc payload ring = record {
-  small = λ mid answer few h. added_small s mid (named s client context ring) answer few
-      (add_there s mid client context type_name desc payload ring answer h);
+  small = search (added_small, add_there) depth 8;
   plain = search (plains, plain_admitted, plain_place) depth 12;
   blind = λ hide hides.
       let meant = add s client context type_name desc payload ring in

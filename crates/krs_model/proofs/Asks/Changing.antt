@@ -8,9 +8,9 @@ use Rattle.krs_types.specs.{declared.rights.Want.TheVariants.Granted, Kind.paid,
 use Rattle.krs_types.specs.Rights.{SETATTR, WRITE}
 use Rattle.krs_model.specs.Asks.Changing.{changed, chown, emptied, if_may_own, if_owner, revoke, revoked, set_perm}
 use Rattle.krs_model.specs.Asks.Changing.{set_timeout, updatable, update, updated, with_owner, with_perm}
-use Rattle.krs_model.specs.{Hiding.{blind, blind_content, blind_key, hidden_at, Hides, Hiding, over}, Lookup.context_of}
-use Rattle.krs_model.specs.{Lookup.look_up, Notes.Telling.named, Possession.links_of_content, Sound.is_links}
-use Rattle.krs_model.specs.State.{Content, Key, Links, Payload, State}
+use Rattle.krs_model.specs.Hiding.{blind, blind_content, blind_key, hidden_at, Hides, Hiding, over}
+use Rattle.krs_model.specs.{Lookup.{context_of, look_up}, Notes.Telling.named, Possession.links_of_content}
+use Rattle.krs_model.specs.{Sound.is_links, State.{Content, Key, Links, Payload, State}}
 use Rattle.krs_model.proofs.Asks.{Fares.{changed_fares, fares}, Lawful.IsLawful, NotedKeys.about_small}
 use Rattle.krs_model.proofs.{Asks.{Outcomes.{meets_after, meets_ok}, Plain.plains}, Hiding.Accepted.blind_done}
 use Rattle.krs_model.proofs.Hiding.{Accepted.{done_changed, found_in, named_is, paid_blind}, Over.after, Seen.is_seen}
@@ -27,11 +27,7 @@ emptied_form (Payload bytes) = refl
 emptied_form (Links links) = refl
 
 revoked_lessens : Lessens revoked
-revoked_lessens = record {
-  links = λ v. emptied_part v.content;
-  named = λ v name. refl;
-  fits = form_stays revoked (λ v. emptied_form v.content) (λ v. refl);
-}
+revoked_lessens = search (emptied_part, form_stays, emptied_form) depth 8
 
 -- a payload without bytes is hidden as itself
 none_hidden : (hide : Hiding) (n : ℕ) → Hides hide → hide n [] ≡ []

@@ -1,17 +1,15 @@
 -- What an accepted ask has done: an ask of keys leaves queues and watches, and the asks of queues leave the rest.
-use Rattle.std.proofs.Common.{[], ◌==◌, ◌∙◌, ◌∷◌, ◌≡◌, ◌≤◌, ap, Bool, cond, Err, false, IsSome, length, List, nat_le}
-use Rattle.std.proofs.Common.{None, Ok, Option, refl, Some, subst, true, ℕ, ℤ}
+use Rattle.std.proofs.Common.{[], ◌∷◌, ◌≡◌, ◌≤◌, arith, Bool, false, IsSome, List, None, Ok, Option, Some, subst}
+use Rattle.std.proofs.{Common.{true, ℕ, ℤ}, lemmas.Bool.Decides.nat_tests}
+use Rattle.krs_types.specs.declared.ask.{Answer.{Answer, TheVariants.{Bytes, Nothing, Number}}, Op.Op}
+use Rattle.krs_types.specs.declared.ask.Op.TheVariants.{CloseQueue, Leave, OpenQueue, ReadQueue, SetFilter, Watch}
+use Rattle.krs_types.specs.declared.{errno.Errno.TheVariants.EBADF, note.{FilterEntry.FilterEntry, Record.Record}}
 use Rattle.krs_types.specs.Refusing.{◌>>=◌, or_refuse}
-use Rattle.krs_types.specs.declared.ask.Answer.{Answer, TheVariants.{Bytes, Nothing, Number}}
-use Rattle.krs_types.specs.declared.ask.Op.{Op, TheVariants.{CloseQueue, Leave, OpenQueue, ReadQueue, SetFilter, Watch}}
-use Rattle.krs_types.specs.declared.errno.Errno.TheVariants.{EBADF, EBADSLT, ENOBUFS}
-use Rattle.krs_types.specs.declared.note.{FilterEntry.FilterEntry, Record.Record}
-use Rattle.krs_model.specs.Asks.Leaving.{left}
-use Rattle.krs_model.specs.Asks.Watching.{after_read, unwatched, watch_id_of, with_filter, with_queue, without_queue}
-use Rattle.krs_model.specs.Notes.Bytes.{bytes_of, bytes_of_all}
-use Rattle.krs_model.specs.Notes.{Front.{front, readable}, Telling.{ended_by, named}, Waiting.is_capacity}
-use Rattle.krs_model.specs.Queues.{if_own_queue, queue_of, Queues, queues_of, watch_at, with_queues, with_watch}
-use Rattle.krs_model.specs.{Queues.without_watch, State.{Queue, State}, Table.{alter, at, Table}}
+use Rattle.krs_model.specs.Asks.{Leaving.left, Watching.{after_read, unwatched, watch_id_of, with_filter, with_queue}}
+use Rattle.krs_model.specs.{Asks.Watching.without_queue, Notes.{Bytes.bytes_of_all, Front.{front, readable}}}
+use Rattle.krs_model.specs.{Notes.{Telling.{ended_by, named}, Waiting.is_capacity}, Queues.{if_own_queue, queue_of}}
+use Rattle.krs_model.specs.{Queues.{Queues, queues_of, watch_at, with_queues, with_watch, without_watch}, State.Queue}
+use Rattle.krs_model.specs.{State.State, Table.{alter, at, Table}}
 use Rattle.krs_model.proofs.{Asks.Later.{bind_ok, Comes, same_ok}, Lookups.Serials.refused_is}
 
 -- the queues with these in their place
@@ -68,11 +66,7 @@ owned_is :
     (client : ℕ) (o : Option Queue) (queue : Queue) → (or_refuse EBADF o >>= if_own_queue client) ≡ Ok queue
     → o ≡ Some queue
 owned_is client None queue h = cc
-owned_is client (Some q) queue h =
-    elim (q.client == client) as (λ b. cond b (Ok q) (Err EBADF) ≡ Ok queue → Some q ≡ Some queue) [
-      | true ↦ λ is. cc
-      | false ↦ λ no. cc
-    ] h
+owned_is client (Some q) queue h = grind (arith, nat_tests)
 
 pub queue_there :
     (queues : Table Queue) (client number : ℕ) (queue : Queue) → queue_of queues client number ≡ Ok queue
@@ -82,28 +76,14 @@ queue_there queues client number queue h = owned_is client (at queues number) qu
 pub readable_is :
     (room : ℕ) (waiting notes : List Record) → readable room waiting ≡ Ok notes → front room waiting ≡ notes
 readable_is room [] notes h = cc
-readable_is room (note ∷ waiting) notes h =
-    let all = front room (note ∷ waiting) in
-    elim (nat_le (length (bytes_of note)) room) as (λ b. cond b (Ok all) (Err ENOBUFS) ≡ Ok notes → all ≡ notes) [
-      | true ↦ λ is. cc
-      | false ↦ λ no. cc
-    ] h
+readable_is room (note ∷ waiting) notes h = grind (arith, nat_tests)
 
 pub unwatched_is :
     (q : Queues) (client number key : ℕ) (x : Queues × ℕ) → unwatched q client number key ≡ Ok x
     → (queue : Queue) × (at q.queues number ≡ Some queue) × (watch_at q.watches key number ≡ Some x.1)
     × (record q { watches = without_watch q.watches key number } ≡ x.0)
 unfolding unwatched
-unwatched_is q client number key x h =
-    let a = bind_ok (queue_of q.queues client number) _ x h in
-    let b = bind_ok (or_refuse EBADSLT (watch_at q.watches key number)) _ x a.2 in
-    let is = same_ok _ (record q { watches = without_watch q.watches key number }, b.0) x refl b.2 in
-    let there = refused_is (watch_at q.watches key number) EBADSLT b.0 b.1 in (
-      a.0,
-      queue_there q.queues client number a.0 a.1,
-      there ∙ ap (λ (y : Queues × ℕ). Some y.1) is,
-      ap (λ (y : Queues × ℕ). y.0) is,
-    )
+unwatched_is q client number key x h = grind (arith, nat_tests, bind_ok, same_ok, refused_is, queue_there)
 
 abbrev pub end_of : State → Answer → State × Answer
 end_of new answer = (new, answer)

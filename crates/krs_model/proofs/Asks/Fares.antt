@@ -1,8 +1,8 @@
 -- What becomes of a store by an accepted ask.
-use Rattle.std.proofs.Common.{◌∙◌, ◌≡◌, Bool, cond, false, inl, Ok, Option, refl, Result, Some, subst, sym, true}
-use Rattle.std.proofs.Common.{true≢false, ℕ, ℤ}
+use Rattle.std.proofs.Common.{◌∙◌, ◌≡◌, arith, Bool, cond, false, inl, Ok, Option, refl, Result, Some, subst, sym}
+use Rattle.std.proofs.{Common.{true, true≢false, ℕ, ℤ}, lemmas.Bool.Decides.nat_tests}
 use Rattle.krs_types.specs.declared.{ask.Op.Op, context.{Context.Context, UidRings.UidRings}, errno.Errno.Errno}
-use Rattle.krs_types.specs.declared.{errno.Errno.TheVariants.ENOKEY, rights.Want.{TheVariants.Granted, Want}}
+use Rattle.krs_types.specs.declared.{errno.Errno.TheVariants.ENOKEY, rights.Want.{Want, TheVariants.Granted}}
 use Rattle.krs_types.specs.{Refusing.or_refuse, Rights.{allows, WRITE}}
 use Rattle.krs_model.specs.Asks.{Changing.changed, Finding.{found_into, if_linkable}, Linked.linked_into}
 use Rattle.krs_model.specs.{Confidentiality.{AreUnattached, HasToItself, is_own, may_give}, Lookup.context_of}
@@ -10,8 +10,8 @@ use Rattle.krs_model.specs.{Lookup.look_up, Making.{made_for, within_serials}, O
 use Rattle.krs_model.specs.{Queues.with_queues, Sound.AllPlaced, State.{Key, State}, Table.{at, Table}}
 use Rattle.krs_model.proofs.Asks.{Done.is_of_queues, Houses.{Houses, HousesIn, linked_houses, made_houses, Same}}
 use Rattle.krs_model.proofs.Asks.Later.{changed_comes, Comes, comes_trans, same_comes, within_ok}
-use Rattle.krs_model.proofs.Asks.{LaterByAsk.{linked_into_comes, made_for_comes}, NewSerials.{counts_within, IsWithin}}
-use Rattle.krs_model.proofs.Asks.{NewSerials.same_counts, Outcomes.{Meets, meets_after, meets_ok}}
+use Rattle.krs_model.proofs.Asks.{LaterByAsk.{linked_into_comes, made_for_comes}, NewSerials.counts_within}
+use Rattle.krs_model.proofs.Asks.{NewSerials.{IsWithin, same_counts}, Outcomes.{Meets, meets_after, meets_ok}}
 use Rattle.krs_model.proofs.Isolation.{Attachments.same_unattached, Guarded.{alone_guarded, changed_guarded, Guarded}}
 use Rattle.krs_model.proofs.Isolation.{Guarded.{Holds, lessens_keeps, none_found, NotBy}, Links.linked_guarded}
 use Rattle.krs_model.proofs.Isolation.{Links.{made_alone, other_linkable, other_made}, Untouched.KeysAfter}
@@ -50,8 +50,7 @@ changed_fares s client context op c id want found f own is wants less gone stays
   counts = λ placed. same_counts s (changed s found.0 f) refl;
   houses = Same;
   stands = λ stands. changed_stands s found.0 f less stands;
-  guards = λ uid private stands alone. changed_guarded uid private (Holds uid s client context op) s found.0 f
-      (λ holds. lessens_keeps uid private found.0 f less (stays uid private alone holds)) alone;
+  guards = search (changed_guarded, lessens_keeps) depth 8;
   keeps = λ uid private stands alone other. inl (other_same private s.keys found.0 f
       (λ m. none_found uid private s client context c id want found alone own other wants is m));
 }
@@ -76,11 +75,7 @@ queues_fares s client context op queues of_queues = record {
   counts = λ placed. same_counts s (with_queues s queues) refl;
   houses = Same;
   stands = λ stands. same_stands s _ refl refl stands.attached stands.placed stands.housed stands;
-  guards = λ uid private stands alone. record {
-    made = alone.made;
-    enclosed = λ p. alone.enclosed;
-    unattached = same_unattached uid private s (with_queues s queues) refl refl refl alone.unattached;
-  };
+  guards = grind (arith, nat_tests, same_unattached);
   keeps = λ uid private stands alone other. inl (λ k m. refl);
 }
 
@@ -97,27 +92,14 @@ pub housed_fares :
     → ((uid : ℕ) (private : ℕ → Bool) → Stands s → HasToItself uid private s
     → AreUnattached uid private (housing s contexts processes uids next))
     → Fares s client context op (housing s contexts processes uids next)
-housed_fares s client context op contexts processes uids next houses stands unattached = record {
-  comes = λ other. same_comes s (housing s contexts processes uids next) refl refl refl refl;
-  counts = λ placed. same_counts s (housing s contexts processes uids next) refl;
-  houses = houses;
-  stands = stands;
-  guards = λ uid private stands alone. record {
-    made = alone.made;
-    enclosed = λ p. alone.enclosed;
-    unattached = unattached uid private stands alone;
-  };
-  keeps = λ uid private stands alone other. inl (λ k m. refl);
-}
+housed_fares s client context op contexts processes uids next houses stands unattached =
+    grind (arith, nat_tests, same_comes, same_counts)
 
 -- where no serial above the last is given
 pub fares_within :
     {P : State → Type 0} (s : State) (r : Outcome) → Meets (λ (new : State). IsWithin s new → P new) r
     → Meets P (within_serials s r)
-fares_within s r h = record {
-  meets = λ new answer is.
-      h.meets new answer (within_ok s r (new, answer) is) ((counts_within s r).within new answer is);
-}
+fares_within s r h = grind (arith, nat_tests, within_ok, counts_within)
 
 -- one ask or the other, by a test
 pub meets_by :
@@ -137,8 +119,7 @@ pub linked_fares :
 linked_fares s client context op c id into found new own goes there linked apart within =
     let made = made_for s context c id in
     record {
-      comes = λ other. comes_trans s made.0 new (made_for_comes s context c id)
-          (linked_into_comes made.0 into found new linked);
+      comes = search (comes_trans, made_for_comes, linked_into_comes) depth 8;
       counts = λ placed. within;
       houses = linked_houses s made.0 client context op into found new linked
           (made_houses s client context op c id own);

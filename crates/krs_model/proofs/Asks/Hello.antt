@@ -1,8 +1,8 @@
 -- What is proved of HELLO.
-use Rattle.std.proofs.Common.{[], ◌+◌, ◌<◌, ◌||◌, ◌∙◌, ◌∷◌, ◌≡◌, ap, arith, Bool, codes, cond, Err, false, inl, inr}
-use Rattle.std.proofs.Common.{ltb-false, nat_lt, None, Ok, Option, refl, Some, subst, sym, true, true≢false, ℕ}
+use Rattle.std.proofs.Common.{[], ◌+◌, ◌<◌, ◌||◌, ◌∷◌, ◌≡◌, arith, Bool, codes, false, inl, ltb-false, None, Ok}
+use Rattle.std.proofs.{Common.{Option, refl, Some, true, true≢false, ℕ}, lemmas.Bool.Decides.nat_tests}
 use Rattle.krs_types.specs.{Caller.caller_check, declared.{ask.Op.TheVariants.Hello, caller.Caller.Caller}}
-use Rattle.krs_types.specs.declared.{context.UidRings.UidRings, errno.Errno.TheVariants.ENOSPC}
+use Rattle.krs_types.specs.declared.context.UidRings.{UidRings}
 use Rattle.krs_model.specs.Asks.Hello.{first_session, has_context_left, has_numbers, hello, uid_ring, with_context}
 use Rattle.krs_model.specs.{Asks.{Hello.with_uid, Leaving.left}, Confidentiality.{AreEnclosed, AreUnattached}}
 use Rattle.krs_model.specs.{Confidentiality.HasToItself, Hiding.{blind, Hiding}, Making.with_new, State.{Key, State}}
@@ -30,9 +30,7 @@ with_uid_comes s c (Some rings) = same_comes s s refl refl refl refl
 entered_comes :
     (s : State) (client : ℕ) (c : Caller) (rings : Option UidRings) (session : Option ℕ)
     → Comes s (with_context (with_uid s c rings) client c session)
-entered_comes s client c rings session =
-    let with_rings = with_uid s c rings in
-    comes_trans s with_rings _ (with_uid_comes s c rings) (same_comes with_rings _ refl refl refl refl)
+entered_comes s client c rings session = grind (arith, nat_tests, comes_trans, with_uid_comes, same_comes)
 
 or_false : (a b : Bool) → (a || b) ≡ false → b ≡ false
 or_false true b h = cc
@@ -42,15 +40,7 @@ uid_within :
     (s : State) (c : Caller) (rings : Option UidRings) (x : Unit {0}) → has_numbers s rings ≡ Ok x
     → IsWithin s (with_uid s c rings)
 uid_within s c (Some rings) x h = same_counts s s refl
-uid_within s c None x h =
-    elim (nat_lt 4294967295 s.next_context || nat_lt 2147483646 s.next_serial) as
-    (λ b. (nat_lt 4294967295 s.next_context || nat_lt 2147483646 s.next_serial) ≡ b
-    → cond b (Err ENOSPC) (Ok tt) ≡ Ok x → IsWithin s (with_uid s c None)) [
-      | true ↦ λ t no. cc
-      | false ↦ λ t is.
-          let low = ltb-false 2147483646 s.next_serial (or_false _ _ t) in
-          inr (omega arith)
-    ] refl h
+uid_within s c None x h = grind (arith, nat_tests, ltb-false, or_false)
 
 hello_ends :
     (s : State) (client context : ℕ) (c : Caller) (rings : Option UidRings) (room : Unit {0}) → at s.uids c.uid ≡ rings
@@ -69,8 +59,7 @@ with_uid_blind hide s c None =
     let second = uid_ring (codes "_uid_ses.") (n ∷ []) c in
     let t = with_uid s c None in
     let to : Table Key → State = λ es. record t { keys = es } in
-    ap (λ (es : Table Key). to (put es (n + 1) second)) (put_blind hide s.keys n first)
-    ∙ ap to (put_blind hide (put s.keys n first) (n + 1) second)
+    rw (put_blind hide s.keys n first, put_blind hide (put s.keys n first) (n + 1) second)
 
 second_apart : (uid : ℕ) (private : ℕ → Bool) (s : State) → HasToItself uid private s → private (s.next_serial + 1) ≡ true → ⊥
 second_apart uid private s alone m =
@@ -81,12 +70,7 @@ uid_enclosed :
     → AreEnclosed uid private (with_uid s c rings).keys
 uid_enclosed uid private s c (Some rings) alone = alone.enclosed
 uid_enclosed uid private s c None alone =
-    let n = s.next_serial in
-    let fresh = next_apart uid private s alone in
-    let second = second_apart uid private s alone in
-    put_enclosed uid private _ (n + 1) _ second
-    (λ k m i. fresh (subst (λ (z : ℕ). private z ≡ true) (only_in k n i) m))
-    (put_enclosed uid private s.keys n _ fresh (λ k m no. true≢false (sym no)) alone.enclosed)
+    grind (arith, nat_tests, next_apart, second_apart, put_enclosed, only_in, true≢false)
 
 uid_made :
     (uid : ℕ) (private : ℕ → Bool) (s : State) (c : Caller) (rings : Option UidRings) → HasToItself uid private s
@@ -103,10 +87,7 @@ uid_contexts uid private s client c stands alone =
     let one = with_uid s c rings in
     let first = with_uid_unattached uid private s c rings (next_apart uid private s alone) (second_apart uid private s alone)
     alone.unattached in
-    entered_unattached uid private one client c (first_session s.next_serial rings)
-    (λ other k m i. first_session_apart uid private s c rings k refl (second_apart uid private s alone) alone.unattached other m i)
-    (uid_processes s c rings (stands.housed.no_process s.next_context (omega arith)))
-    (uid_placed s c rings stands.placed) first
+    grind (arith, nat_tests, entered_unattached, first_session_apart, second_apart, uid_processes, uid_placed)
 
 uid_same :
     (uid : ℕ) (private : ℕ → Bool) (s : State) (c : Caller) (rings : Option UidRings) → HasToItself uid private s

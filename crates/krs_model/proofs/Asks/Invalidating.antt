@@ -1,21 +1,21 @@
 -- What is proved of INVALIDATE.
 use Rattle.std.proofs.Common.{◌∙◌, ◌≡◌, ap, arith, inr, None, Option, option_map, option_to_list, refl, Some, true, ℕ}
-use Rattle.std.proofs.Common.{ℤ}
+use Rattle.std.proofs.{Common.ℤ, lemmas.Bool.Decides.nat_tests}
 use Rattle.krs_types.specs.declared.ask.{Answer.TheVariants.Nothing, Op.TheVariants.Invalidate}
 use Rattle.krs_types.specs.{declared.rights.Want.TheVariants.Granted, Rights.SEARCH}
 use Rattle.krs_model.specs.Asks.Invalidating.{context_without, detached, invalidate, invalidated, rings_without}
 use Rattle.krs_model.specs.{Asks.Linked.without_link, Hiding.{blind, Hiding}, Lookup.{context_of, look_up}}
 use Rattle.krs_model.specs.{Notes.Telling.named, Queues.queues_of, Sound.AllAttached, State.{Key, State}}
-use Rattle.krs_model.specs.{Sweep.{context_roots, process_roots, uid_roots}, Table.{at, map_values, Table}}
+use Rattle.krs_model.specs.{Sweep.{context_roots, process_roots, uid_roots}, Table.map_values}
 use Rattle.krs_model.proofs.Asks.{Houses.Detaches, Later.{Comes, is_gone}, Lawful.IsLawful, NewSerials.same_counts}
 use Rattle.krs_model.proofs.Asks.{NotedKeys.about_small, Outcomes.{meets_after, meets_ok}, Plain.plains}
 use Rattle.krs_model.proofs.Hiding.{Accepted.{accepted, blind_done, found_in}, Keys.map_blind, Links.without_blind}
 use Rattle.krs_model.proofs.Isolation.{Attachments.invalidated_unattached, Keys.mapped_enclosed}
-use Rattle.krs_model.proofs.Sound.Attached.{attached_by, attached_mapped, context_keys, in_context, in_process, in_uid}
-use Rattle.krs_model.proofs.Sound.{Attached.{own_process, uid_keys}, Changes.{mapped_stands, same_stands, Stands}}
-use Rattle.krs_model.proofs.Sound.{Changes.there_map, Contexts.mapped_housed, KeyChanges.{both_in, detached_in}}
-use Rattle.krs_model.proofs.Sound.{KeyChanges.unlinked_lessens, NewContexts.{ArePlaced, in_placed, placed_in}}
-use Rattle.krs_model.proofs.Tables.{Changes.at_map, Counts.part_in}
+use Rattle.krs_model.proofs.Sound.Attached.{attached_by, attached_mapped, context_keys, in_context, in_process}
+use Rattle.krs_model.proofs.Sound.{Attached.{in_uid, own_process, uid_keys}, Changes.{mapped_stands, same_stands}}
+use Rattle.krs_model.proofs.Sound.{Changes.{Stands, there_map}, Contexts.mapped_housed, KeyChanges.both_in}
+use Rattle.krs_model.proofs.Sound.{KeyChanges.{detached_in, unlinked_lessens}, NewContexts.{ArePlaced, in_placed}}
+use Rattle.krs_model.proofs.{Sound.NewContexts.placed_in, Tables.{Changes.at_map, Counts.part_in}}
 use Rattle.krs_types.specs.declared.note.KeyEvent.TheVariants as told_of
 
 gone_mapped : (f : Key → Key) (o : Option Key) → ((v : Key) → (f v).revoked ≡ v.revoked) → is_gone o ≡ true
@@ -28,17 +28,7 @@ mapped_comes :
     (old new : State) (f : Key → Key) → ((v : Key) → (f v).revoked ≡ v.revoked)
     → new.keys ≡ map_values f old.keys → new.next_serial ≡ old.next_serial → queues_of new ≡ queues_of old
     → new.clock ≡ old.clock → Comes old new
-mapped_comes old new f same keys next queues clock = record {
-  follows = record {
-    next = omega arith;
-    unused = λ below. rw (keys, next) (λ k le. at_map f old.keys k ∙ ap (option_map f) (below k le));
-    absent = λ k lt none. rw keys (at_map f old.keys k ∙ ap (option_map f) none);
-    gone = λ k lt h. rw (keys, at_map f old.keys k) (gone_mapped f (at old.keys k) same h);
-  };
-  queues = queues;
-  clock = clock;
-  there = λ k h. rw keys (there_map f old.keys k h);
-}
+mapped_comes old new f same keys next queues clock = grind (arith, nat_tests, at_map, gone_mapped, there_map)
 
 -- a key that goes out of every keyring and every attachment
 invalidated_stands : (s : State) (serial : ℕ) → Stands s → Stands (invalidated s serial)
@@ -57,17 +47,12 @@ invalidated_stands s serial stands =
     let placed : ArePlaced after.contexts after.processes = λ p i.
     there_map (detached serial) s.processes p
     (placed_in s stands.placed p (attached_mapped own_process (context_without serial) s.contexts p (λ v j. j) i)) in
-    same_stands one after refl refl attached (in_placed after placed)
-    (mapped_housed s.contexts s.processes s.uids s.next_context (context_without serial) (detached serial)
-    (rings_without serial) (λ v. refl) stands.housed) first
+    search (same_stands, in_placed, mapped_housed) depth 8
 
 -- INVALIDATE
 invalidated_blind : (hide : Hiding) (s : State) (serial : ℕ)
     → invalidated (blind hide s) serial ≡ blind hide (invalidated s serial)
-invalidated_blind hide s serial =
-    let t = invalidated s serial in
-    let to : Table Key → State = λ es. record t { keys = es } in
-    ap to (map_blind hide (without_link serial) s.keys (λ n v. without_blind (hide n) serial v))
+invalidated_blind hide s serial = search (map_blind, without_blind) depth 8
 
 pub invalidate_law : (s : State) (client context : ℕ) (id : ℤ) → IsLawful s client context (Invalidate id)
 unfolding invalidate

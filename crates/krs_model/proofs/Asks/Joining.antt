@@ -1,24 +1,22 @@
 -- What is proved of JOIN.
-use Rattle.std.proofs.Common.{[], ◌==◌, ◌∙◌, ◌∷◌, ◌≡◌, ◌≢◌, ap, arith, Bool, codes, cond, false, find, inl, length}
-use Rattle.std.proofs.Common.{List, None, Ok, Option, option_map, refl, Some, sym, true, true≢false, ℕ}
+use Rattle.std.proofs.Common.{[], ◌==◌, ◌∙◌, ◌∷◌, ◌≡◌, ◌≢◌, ap, arith, Bool, cond, false, find, inl, length, List}
+use Rattle.std.proofs.Common.{None, Ok, Option, option_map, refl, Some, sym, true, true≢false, ℕ}
 use Rattle.std.proofs.lemmas.{Bool.Decides.nat_tests, Option.none-some}
 use Rattle.krs_types.specs.declared.{ask.{Answer.TheVariants.Number, Op.TheVariants.Join}, caller.Caller.Caller}
-use Rattle.krs_types.specs.{declared.context.Context.Context, Perm.{named_session_mask, session_mask}, Rights.has_all}
-use Rattle.krs_types.specs.Rights.{SEARCH}
+use Rattle.krs_types.specs.{declared.context.Context.Context, Rights.{has_all, SEARCH}}
 use Rattle.krs_model.specs.Asks.Joining.{is_joinable, join, joinable, joined_to, session_joined, session_named}
 use Rattle.krs_model.specs.{Asks.Joining.{session_ring, session_to}, Confidentiality.{AreUnattached, HasToItself}}
-use Rattle.krs_model.specs.{Hiding.{blind, blind_key, blind_keys, Hiding}, Lookup.context_of, Making.own_ring}
-use Rattle.krs_model.specs.{Making.with_new, Outcome.Outcome, Search.found, State.{Key, State}, Table.{at, put, Rises}}
-use Rattle.krs_model.specs.Table.{Table}
+use Rattle.krs_model.specs.{Hiding.{blind, blind_key, blind_keys, Hiding}, Lookup.context_of, Making.with_new}
+use Rattle.krs_model.specs.{Outcome.Outcome, Search.found, State.{Key, State}, Table.{at, put, Rises, Table}}
 use Rattle.krs_model.proofs.Asks.{Fares.{Fares, fares_within, housed_fares}, Houses.Alters, Joins.found_least}
 use Rattle.krs_model.proofs.Asks.{Joins.passed_may, Later.{comes_trans, same_comes, with_new_comes}, Lawful.IsLawful}
-use Rattle.krs_model.proofs.Asks.{NewSerials.IsWithin, Outcomes.{Meets, meets_after, meets_ok}, Plain.{IsPlain, plain}}
-use Rattle.krs_model.proofs.{Asks.Plain.{plain_ok, plains}, Hiding.{Accepted.blind_done, Keys.put_blind}}
+use Rattle.krs_model.proofs.Asks.{NewSerials.IsWithin, Outcomes.{Meets, meets_after, meets_ok}, Plain.IsPlain}
+use Rattle.krs_model.proofs.{Asks.Plain.{plain, plain_ok, plains}, Hiding.{Accepted.blind_done, Keys.put_blind}}
 use Rattle.krs_model.proofs.Hiding.{Lookups.blind_found, Seen.{is_seen, IsSeen, steps}}
 use Rattle.krs_model.proofs.Isolation.Attachments.{joined_unattached, own_joined_unattached, same_unattached}
 use Rattle.krs_model.proofs.Isolation.{Guarded.next_apart, Keys.no_class, Links.{later_made, new_enclosed}}
-use Rattle.krs_model.proofs.{Isolation.Untouched.put_same, Lookups.Serials.own_there, Sound.NewContexts.joinable_there}
-use Rattle.krs_model.proofs.Sound.NewContexts.{joined_stands, new_joined_stands, session_ring_empty}
+use Rattle.krs_model.proofs.{Isolation.Untouched.put_same, Lookups.Serials.own_there}
+use Rattle.krs_model.proofs.Sound.NewContexts.{joinable_there, joined_stands, new_joined_stands, session_ring_empty}
 
 plain_session_named : (name : List ℕ) → IsPlain (session_named name)
 plain_session_named name = search plain
@@ -32,14 +30,7 @@ plain_joined s number c name (Some found) = plain_ok
 find_blind : (hide : Hiding) (es : Table Key) (p : Key → Bool) → ((n : ℕ) (v : Key) → p (blind_key (hide n) v) ≡ p v)
     → find (λ e. p e.1) (blind_keys hide es) ≡ option_map (blind_found hide) (find (λ e. p e.1) es)
 find_blind hide [] p same = refl
-find_blind hide (e ∷ es) p same =
-    let first : ℕ × Key = (e.0, blind_key (hide e.0) e.1) in
-    ap (λ (b : Bool). cond b (Some first) (find (λ e. p e.1) (blind_keys hide es))) (same e.0 e.1)
-    ∙ (elim (p e.1) as (λ (b : Bool). cond b (Some first) (find (λ e. p e.1) (blind_keys hide es))
-    ≡ option_map (blind_found hide) (cond b (Some e) (find (λ e. p e.1) es))) [
-      | true ↦ refl
-      | false ↦ find_blind hide es p same
-    ])
+find_blind hide (e ∷ es) p same = grind (arith, nat_tests, find_blind hide es p same)
 
 joinable_blind : (hide : Hiding) (s : State) (c : Caller) (name : List ℕ)
     → joinable (blind hide s) c name ≡ option_map (blind_found hide) (joinable s c name)
@@ -53,13 +44,7 @@ joinable_blind hide s c name =
 
 ring_stays : (h : List ℕ → List ℕ) (name : List ℕ) (c : Caller)
     → blind_key h (session_ring name c) ≡ session_ring name c
-ring_stays h name c =
-    let none = own_ring (codes "_ses") session_mask true c in
-    let named = own_ring name named_session_mask true c in
-    elim (length name == 0) as (λ (b : Bool). blind_key h (cond b none named) ≡ cond b none named) [
-      | true ↦ refl
-      | false ↦ refl
-    ]
+ring_stays h name c = grind (arith, nat_tests)
 
 joined_blind : (hide : Hiding) (s : State) (number : ℕ) (c : Context) (name : List ℕ) (o : Option (ℕ × Key))
     → IsSeen (blind_done hide) (session_joined (blind hide s) number c name (option_map (blind_found hide) o))
@@ -78,12 +63,7 @@ joined_blind hide s number c name None =
 joinable_first :
     (s : State) (c : Context) (name : List ℕ) (found : ℕ × Key) → joinable s c.caller name ≡ Some found
     → find (λ e. is_joinable s.clock c.caller name e.1) s.keys ≡ Some found
-joinable_first s c name found h =
-    let first = find (λ (e : ℕ × Key). is_joinable s.clock c.caller name e.1) s.keys in
-    elim (length name == 0) as (λ b. cond b None first ≡ Some found → first ≡ Some found) [
-      | true ↦ λ no. absurd (none-some found no)
-      | false ↦ λ is. is
-    ] h
+joinable_first s c name found h = grind (arith, nat_tests, none-some)
 
 -- a context of another uid joins none of these keys
 other_joins :
@@ -100,12 +80,7 @@ found_joined :
     → Rises s.keys → HasToItself uid private s → at s.contexts number ≡ Some c → joinable s c.caller name ≡ Some found
     → AreUnattached uid private (joined_to s number found.0)
 found_joined uid private s number c name found rises alone there is =
-    elim (c.caller.uid == uid) as
-    (λ b. (c.caller.uid == uid) ≡ b → AreUnattached uid private (joined_to s number found.0)) [
-      | true ↦ λ t. own_joined_unattached uid private s number found.0 c there (grind (arith, nat_tests)) alone.unattached
-      | false ↦ λ t. joined_unattached uid private s number found.0
-          (λ m. other_joins uid private s c name found rises alone (λ e. grind (arith, nat_tests)) is m) alone.unattached
-    ] refl
+    grind (arith, nat_tests, own_joined_unattached, joined_unattached, other_joins)
 
 joined_fares :
     (s : State) (client context : ℕ) (c : Context) (name : List ℕ) (answer : Option (ℕ × Key))
@@ -143,8 +118,5 @@ join_law s client context name = record {
   small = λ mid answer few h. tt;
   plain = search (plains, plain_session_named, plain_joined) depth 12;
   blind = λ hide hides. is_seen (blind_done hide) (simp joinable_blind (search (joined_blind, steps) depth 12));
-  fares =
-      meets_after (context_of s client context) _ (λ c own.
-      meets_after (session_named name) _ (λ fit _.
-      fares_within s _ (joined_fares s client context c name (joinable s c.caller name) own refl)));
+  fares = search (meets_after, fares_within, joined_fares) depth 8;
 }

@@ -1,14 +1,15 @@
 -- What comes from a state by what asks share: made keyrings, links, moved links and keys that were found.
-use Rattle.std.proofs.Common.{◌&&◌, ◌==◌, ◌≡◌, Bool, codes, cond, false, is_some, List, Ok, refl, Result, subst, true}
-use Rattle.std.proofs.Common.{ℕ, ℤ}
-use Rattle.krs_types.specs.declared.{context.Context.Context, errno.Errno.{Errno, TheVariants.{EEXIST, EPERM}}}
+use Rattle.std.proofs.Common.{◌&&◌, ◌==◌, ◌≡◌, arith, Bool, codes, cond, false, is_some, List, Ok, refl, Result}
+use Rattle.std.proofs.{Common.{subst, true, ℕ, ℤ}, lemmas.Bool.Decides.nat_tests}
+use Rattle.krs_types.specs.declared.{context.Context.Context, errno.Errno.{Errno, TheVariants.EEXIST}}
 use Rattle.krs_types.specs.{declared.key_id.KeyId.KeyId, KeyId.key_id_of, Refusing.◌>>=◌}
-use Rattle.krs_model.specs.Asks.{Changing.changed, Linked.{if_linked, link_check, linked_into, name_of, nestable}}
-use Rattle.krs_model.specs.{Asks.{Linked.{unless, without_link}, Moving.{moved, moved_over}}, Linking.has_room}
-use Rattle.krs_model.specs.{Linking.{link_named, linking, ring_links}, Making.{made_for, special_ring, with_new}}
-use Rattle.krs_model.specs.{Making.{with_process, with_thread}, Search.found, State.{Key, State}}
-use Rattle.krs_model.proofs.Asks.Later.{bind_ok, changed_comes, Comes, comes_trans, same_comes, same_ok, with_new_comes}
-use Rattle.krs_model.proofs.MadeKeyring.Which.{IsMade, made_for_is, NoneMade, ProcessMade, ThreadMade}
+use Rattle.krs_model.specs.Asks.{Changing.changed, Linked.{if_linked, linked_into, name_of, nestable, unless}}
+use Rattle.krs_model.specs.{Asks.{Linked.without_link, Moving.{moved, moved_over}}, Linking.{link_named, linking}}
+use Rattle.krs_model.specs.{Linking.ring_links, Making.{made_for, special_ring, with_new, with_process, with_thread}}
+use Rattle.krs_model.specs.{Search.found, State.{Key, State}}
+use Rattle.krs_model.proofs.Asks.Later.{bind_ok, changed_comes, Comes, comes_trans, same_comes, same_ok}
+use Rattle.krs_model.proofs.{Asks.Later.with_new_comes, MadeKeyring.Which.{IsMade, made_for_is, NoneMade}}
+use Rattle.krs_model.proofs.MadeKeyring.Which.{ProcessMade, ThreadMade}
 
 -- a made thread or process keyring
 is_made_comes :
@@ -33,18 +34,7 @@ pub record IsLinked (s : State) (into found : ℕ × Key) (new : State) : Type 0
 
 pub linked_into_is :
     (s : State) (into found : ℕ × Key) (new : State) → linked_into s into found ≡ Ok new → IsLinked s into found new
-linked_into_is s into found new h =
-    let name = name_of found.1 in
-    let linked : State = changed s into.0 (linking s.keys name found.0) in
-    let fits : List ℕ → Result (Unit {0}) Errno = λ links. link_check s.keys into links found in
-    let unclosed = unless into.1.closed EPERM in
-    let nests = nestable s.keys into.0 found.0 in
-    let a = bind_ok (ring_links into.1.content) (λ links. fits links >>= (λ x. Ok linked)) new h in
-    let b = bind_ok (fits a.0) (λ x. Ok linked) new a.2 in
-    let room : Result (Unit {0}) Errno = has_room a.0 (link_named s.keys name a.0) in
-    let c = bind_ok unclosed (λ x. nests >>= (λ y. room)) b.0 b.1 in
-    let d = bind_ok nests (λ y. room) b.0 c.2 in
-    record { nests = d.1; is = same_ok (Ok linked) linked new refl b.2 }
+linked_into_is s into found new h = grind (arith, nat_tests, bind_ok, same_ok)
 
 pub linked_into_comes :
     (s : State) (into found : ℕ × Key) (new : State) → linked_into s into found ≡ Ok new → Comes s new

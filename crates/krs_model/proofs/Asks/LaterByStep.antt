@@ -43,18 +43,13 @@ end_follows :
     (s new : State) (client context : ℕ) (op : Op) (reply : Result Answer Errno) → Ends s client context op reply new
     → Follows s new
 end_follows s new client context op (Ok answer) serves =
-    let mid = serves.mid in
-    let effect = effect_of s client context op mid answer serves.meant in
-    follows_trans s mid new (effect_follows s client context op mid answer effect) (swept_follows serves)
+    search (effect_of, follows_trans, effect_follows, swept_follows) depth 8
 end_follows s new client context op (Err e) ends = subst (Follows s) (sym ends.1) (same_follows s s refl refl)
 
 -- each step follows
 pub step_follows : (old new : State) (event : Event) → Step old event new → Follows old new
 unfolding Step
-step_follows old new event step =
-    let up = raised old event.moment in
-    follows_trans old up new (raised_follows old event.moment)
-    (end_follows up new event.lane event.ask.context event.ask.op event.reply step)
+step_follows old new event step = search (follows_trans, raised_follows, end_follows) depth 8
 
 -- and so does the end of each legal history
 pub legal_follows : (start : State) (events : List Event) (end : State) → IsLegal start events end → Follows start end

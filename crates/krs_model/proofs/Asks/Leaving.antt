@@ -35,8 +35,7 @@ left_stands s client stands =
     let kept = process_of_one after.contexts p ∙ i in
     subst IsSome (sym (at_kept (λ q. list_any (λ c. c.process == q) (values_of after.contexts)) s.processes p))
     (kept_some _ (at s.processes p) kept was) in
-    same_stands s after refl refl attached (in_placed after placed)
-    (left_housed s.contexts s.processes s.uids s.next_context _ _ stands.housed) stands
+    search (same_stands, in_placed, left_housed) depth 8
 
 -- an entry goes where a test fails
 attached_unless :
@@ -59,9 +58,7 @@ exited_stands s number c stands =
     there_unless (has_process after.contexts) s.processes c.process p (has_process after.contexts c.process) refl
     (process_of_one after.contexts p ∙ i)
     (placed_in s stands.placed p (attached_without own_process s.contexts number p i)) in
-    same_stands s after refl refl attached (in_placed after placed)
-    (exited_housed s.contexts s.processes s.uids s.next_context number c.process c.caller.uid
-    (has_process after.contexts c.process) stands.housed) stands
+    search (same_stands, in_placed, exited_housed) depth 8
 
 left_blind : (hide : Hiding) (s : State) (client : ℕ) → left (blind hide s) client ≡ blind hide (left s client)
 unfolding left
@@ -71,11 +68,7 @@ left_guarded :
     (uid : ℕ) (private : ℕ → Bool) (P : Type 0) (s : State) (client : ℕ) → HasToItself uid private s
     → Guarded uid private P (left s client)
 unfolding left
-left_guarded uid private P s client alone = record {
-  made = alone.made;
-  enclosed = λ p. alone.enclosed;
-  unattached = left_unattached uid private s client alone.unattached;
-}
+left_guarded uid private P s client alone = search left_unattached depth 8
 
 left_same : (private : ℕ → Bool) (s : State) (client : ℕ) → AreSame private s.keys (left s client).keys
 unfolding left

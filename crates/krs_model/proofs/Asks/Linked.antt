@@ -1,13 +1,13 @@
 -- What is proved of LINK, UNLINK and CLEAR.
-use Rattle.std.proofs.Common.{[], ◌≡◌, Bool, IsSome, List, Ok, refl, subst, true, ℕ, ℤ}
+use Rattle.std.proofs.Common.{[], ◌≡◌, arith, Bool, IsSome, List, Ok, refl, subst, true, ℕ, ℤ}
+use Rattle.std.proofs.lemmas.Bool.Decides.{nat_tests}
 use Rattle.krs_types.specs.declared.ask.{Answer.{Answer, TheVariants.Nothing}, Op.TheVariants.{Clear, Link, Unlink}}
-use Rattle.krs_types.specs.declared.{context.Context.Context, errno.Errno.TheVariants.ENOKEY}
-use Rattle.krs_types.specs.{declared.rights.Want.TheVariants.Granted, Refusing.or_refuse, Rights.{LINK, WRITE}}
-use Rattle.krs_model.specs.Asks.{Changing.changed, Linked.{clear, cleared, cleared_content, if_linked, link, linked}}
-use Rattle.krs_model.specs.{Asks.Linked.{linked_into, name_of, unlink, without_link}, Confidentiality.HasToItself}
-use Rattle.krs_model.specs.{Hiding.blind_content, Linking.{linking, ring_links}, Lookup.{context_of, look_up}}
-use Rattle.krs_model.specs.{Lookup.serial_of, Making.made_for, Notes.Telling.named, Possession.links_of_content}
-use Rattle.krs_model.specs.{Search.found, Sound.is_links, State.{Content, Key, Links, Payload, State}, Table.at}
+use Rattle.krs_types.specs.{declared.{context.Context.Context, rights.Want.TheVariants.Granted}, Rights.{LINK, WRITE}}
+use Rattle.krs_model.specs.Asks.Linked.{clear, cleared, cleared_content, link, linked, linked_into, name_of, unlink}
+use Rattle.krs_model.specs.{Confidentiality.HasToItself, Hiding.blind_content, Linking.linking, Lookup.context_of}
+use Rattle.krs_model.specs.{Lookup.{look_up, serial_of}, Making.made_for, Notes.Telling.named}
+use Rattle.krs_model.specs.{Possession.links_of_content, Search.found, Sound.is_links, State.{Content, Key, Links}}
+use Rattle.krs_model.specs.{State.{Payload, State}, Table.at}
 use Rattle.krs_model.proofs.Asks.{Fares.{fares, fares_within, linked_fares}, Later.{bind_ok, same_ok, same_state}}
 use Rattle.krs_model.proofs.Asks.{Later.within_ok, LaterByAsk.linked_into_is, Lawful.IsLawful, NewSerials.small_there}
 use Rattle.krs_model.proofs.Asks.{NotedKeys.{about_link_small, about_small}, Outcomes.{meets_after, meets_ok}}
@@ -26,8 +26,7 @@ unfolding link
 link_there s new client context key ring answer k h names =
     let a = bind_ok (context_of s client context) _ (new, answer) h in
     let own = bind_ok (context_of s client context) _ k names in
-    let here : serial_of s a.0 key ≡ Ok k = subst (λ (c : Context). serial_of s c key ≡ Ok k)
-    (same_ok (context_of s client context) own.0 a.0 own.1 a.1) own.2 in
+    let here : serial_of s a.0 key ≡ Ok k = search same_ok depth 8 in
     let made = made_for s context a.0 ring in
     let still = made_still s context a.0 ring key k here in
     let b = within_ok s (linked made.0 made.1 key ring) (new, answer) a.2 in
@@ -50,21 +49,7 @@ unlink_there :
     → IsSome (at new.keys k)
 unfolding unlink
 unlink_there s new client context key ring answer k h names =
-    let a = bind_ok (context_of s client context) _ (new, answer) h in
-    let own = bind_ok (context_of s client context) _ k names in
-    let here : serial_of s a.0 key ≡ Ok k = subst (λ (c : Context). serial_of s c key ≡ Ok k)
-    (same_ok (context_of s client context) own.0 a.0 own.1 a.1) own.2 in
-    let b = bind_ok (look_up s a.0 ring (Granted WRITE)) _ (new, answer) a.2 in
-    let d = bind_ok (serial_of s a.0 key) _ (new, answer) b.2 in
-    let e = bind_ok (or_refuse ENOKEY (at s.keys d.0)) _ (new, answer) d.2 in
-    let f = bind_ok (ring_links b.0.1.content) _ (new, answer) e.2 in
-    let g = bind_ok (if_linked d.0 f.0) _ (new, answer) f.2 in
-    let same : d.0 ≡ k = same_ok (serial_of s a.0 key) d.0 k d.1 here in
-    let there : IsSome (at s.keys d.0) = rw (refused_is (at s.keys d.0) ENOKEY e.0 e.1) refl in
-    let left : State = changed s b.0.0 (without_link d.0) in
-    let end : left ≡ new = same_state (Ok (left, Nothing)) left new Nothing answer refl g.2 in
-    subst (λ (t : State). IsSome (at t.keys k)) end
-    (subst (λ (n : ℕ). IsSome (at left.keys n)) same (there_alter s.keys b.0.0 (without_link d.0) d.0 there))
+    grind (arith, nat_tests, bind_ok, same_ok, refused_is, same_state, there_alter)
 
 cleared_part : (content : Content) → IsPart (links_of_content (cleared_content content)) (links_of_content content)
 cleared_part (Payload bytes) = none_part []
@@ -75,11 +60,7 @@ cleared_form (Payload bytes) = refl
 cleared_form (Links links) = refl
 
 cleared_lessens : Lessens cleared
-cleared_lessens = record {
-  links = λ v. cleared_part v.content;
-  named = λ v name. refl;
-  fits = form_stays cleared (λ v. cleared_form v.content) (λ v. refl);
-}
+cleared_lessens = search (cleared_part, form_stays, cleared_form) depth 8
 
 cleared_blind : (h : List ℕ → List ℕ) (content : Content)
     → cleared_content (blind_content h content) ≡ blind_content h (cleared_content content)
@@ -95,8 +76,7 @@ other_found uid private s c id found alone other is m =
 pub link_law : (s : State) (client context : ℕ) (key ring : ℤ) → IsLawful s client context (Link key ring)
 unfolding link
 link_law s client context key ring = record {
-  small = λ mid answer few h. about_link_small told_of.Linked (named s client context ring) (named s client context key)
-      (λ k is. small_there mid.keys k few (link_there s mid client context key ring answer k h is));
+  small = search (about_link_small, small_there, link_there) depth 8;
   plain = search plains depth 12;
   blind = λ hide hides. is_seen (blind_done hide) (simp made_blind (search steps depth 12));
   fares =
@@ -116,9 +96,7 @@ link_law s client context key ring = record {
 pub unlink_law : (s : State) (client context : ℕ) (key ring : ℤ) → IsLawful s client context (Unlink key ring)
 unfolding unlink
 unlink_law s client context key ring = record {
-  small = λ mid answer few h.
-      about_link_small told_of.Unlinked (named s client context ring) (named s client context key)
-      (λ k is. small_there mid.keys k few (unlink_there s mid client context key ring answer k h is));
+  small = search (about_link_small, small_there, unlink_there) depth 8;
   plain = search plains depth 12;
   blind = λ hide hides. is_seen (blind_done hide) (search (steps, without_blind) depth 12);
   fares = search fares depth 12;

@@ -1,14 +1,14 @@
 -- What is proved of MOVE.
-use Rattle.std.proofs.Common.{[], ◌&&◌, ◌++◌, ◌<◌, ◌==◌, ◌^◌, ◌∷◌, ◌≡◌, Bool, cond, false, inl, is_some, IsSome, List}
-use Rattle.std.proofs.Common.{nat_lt, Ok, refl, Result, Some, subst, sym, true, ℕ, ℤ}
-use Rattle.krs_types.specs.declared.{ask.{Answer.Answer, Op.{Op, TheVariants.Move}}, context.Context.Context}
-use Rattle.krs_types.specs.declared.{errno.Errno.{Errno, TheVariants.{EEXIST, EINVAL}}, name.Name.Name}
+use Rattle.std.proofs.Common.{[], ◌&&◌, ◌++◌, ◌<◌, ◌==◌, ◌^◌, ◌∷◌, ◌≡◌, arith, Bool, inl, is_some, IsSome, List}
+use Rattle.std.proofs.{Common.{nat_lt, Ok, refl, Result, Some, subst, true, ℕ, ℤ}, lemmas.Bool.Decides.nat_tests}
+use Rattle.krs_types.specs.declared.{ask.{Answer.Answer, Op.{Op, TheVariants.Move}}, errno.Errno.Errno}
+use Rattle.krs_types.specs.declared.{errno.Errno.TheVariants.{EEXIST, EINVAL}, name.Name.Name}
 use Rattle.krs_types.specs.{declared.rights.Want.TheVariants.Granted, Refusing.◌>>=◌, Rights.{LINK, WRITE}}
 use Rattle.krs_model.specs.Asks.{Changing.changed, Linked.{linked, unless, without_link}, Moving.{move_link, moved}}
 use Rattle.krs_model.specs.{Confidentiality.HasToItself, Hiding.{blind_keys, Hiding}, Linking.link_named}
 use Rattle.krs_model.specs.{Lookup.{context_of, look_up, serial_of}, Making.made_for, Notes.Posting.Note}
-use Rattle.krs_model.specs.{Notes.Telling.{about_link, about_moved, is_one_ring, named}, Search.found, State.Key}
-use Rattle.krs_model.specs.{State.State, Table.{alter, at, Table}}
+use Rattle.krs_model.specs.{Notes.Telling.{about_moved, named}, Search.found, State.{Key, State}, Table.{alter, at}}
+use Rattle.krs_model.specs.Table.{Table}
 use Rattle.krs_model.proofs.Asks.{Fares.{Fares, fares_within}, Houses.{HousesIn, linked_houses, made_houses}}
 use Rattle.krs_model.proofs.Asks.Later.{bind_ok, changed_comes, Comes, comes_trans, same_comes, same_ok}
 use Rattle.krs_model.proofs.Asks.LaterByAsk.{IsMoved, linked_into_comes, made_for_comes, moved_is, Moves, Stays}
@@ -27,9 +27,7 @@ use Rattle.krs_types.specs.declared.note.KeyEvent.TheVariants as told_of
 is_moved_comes :
     (s : State) (found from into : ℕ × Key) (new : State) → IsMoved s found from into new → Comes s new
 is_moved_comes s found from into _ Stays = same_comes s s refl refl refl refl
-is_moved_comes s found from into _ (Moves mid linked) =
-    comes_trans s mid _ (linked_into_comes s into found mid linked)
-    (changed_comes mid from.0 (without_link found.0) (λ v h. h))
+is_moved_comes s found from into _ (Moves mid linked) = search (comes_trans, linked_into_comes, changed_comes) depth 8
 
 all_small : (notes more : List Note) → AllSmall notes → AllSmall more → AllSmall (notes ++ more)
 all_small [] more h k = k
@@ -37,13 +35,7 @@ all_small (note ∷ notes) more h k = (h.0, all_small notes more h.1 k)
 
 about_moved_small :
     (from into key : Result ℕ Errno) → ((k : ℕ) → key ≡ Ok k → k < 2 ^ 32) → AllSmall (about_moved from into key)
-about_moved_small from into key small =
-    elim (is_one_ring from into) as
-    (λ one. AllSmall (cond one [] (about_link told_of.Unlinked from key ++ about_link told_of.Linked into key))) [
-      | true ↦ tt
-      | false ↦ all_small (about_link told_of.Unlinked from key) (about_link told_of.Linked into key)
-          (about_link_small told_of.Unlinked from key small) (about_link_small told_of.Linked into key small)
-    ]
+about_moved_small from into key small = grind (arith, nat_tests, all_small, about_link_small)
 
 moved_houses :
     (s t : State) (client context : ℕ) (op : Op) (found from into : ℕ × Key) (new : State)
@@ -58,17 +50,13 @@ is_moved_stands :
     → IsMoved s found from into new → Stands s → Stands new
 is_moved_stands s found from into _ there Stays stands = stands
 is_moved_stands s found from into _ there (Moves mid linked) stands =
-    changed_stands mid from.0 (without_link found.0) (unlinked_lessens found.0)
-    (linked_into_stands s into found mid there linked stands)
+    search (changed_stands, unlinked_lessens, linked_into_stands) depth 8
 
 seen_free : {C D : Type 0} {h : C → D} (hide : Hiding) (keys : Table Key) (b : Bool) (name : Name) (links : List ℕ)
     (f : Unit {0} → Result C Errno) (k : Unit {0} → Result D Errno) → ((x : Unit {0}) → IsSeen h (k x) (f x))
     → IsSeen h (unless (b && is_some (link_named (blind_keys hide keys) name links)) EEXIST >>= k)
     (unless (b && is_some (link_named keys name links)) EEXIST >>= f)
-seen_free {h = h} hide keys b name links f k each =
-    let free = unless (b && is_some (link_named keys name links)) EEXIST in
-    subst (λ o. IsSeen h (unless (b && is_some o) EEXIST >>= k) (free >>= f))
-    (sym (same_link_named hide keys name links)) (seen_after free f k (λ x _. each x))
+seen_free {h = h} hide keys b name links f k each = search (same_link_named, seen_after) depth 8
 
 -- a link less
 less_guarded :
@@ -140,8 +128,7 @@ unfolding move_link
 move_there s new client context key from to flags answer k h names =
     let a = bind_ok (context_of s client context) _ (new, answer) h in
     let own = bind_ok (context_of s client context) _ k names in
-    let here : serial_of s a.0 key ≡ Ok k = subst (λ (c : Context). serial_of s c key ≡ Ok k)
-    (same_ok (context_of s client context) own.0 a.0 own.1 a.1) own.2 in
+    let here : serial_of s a.0 key ≡ Ok k = search same_ok depth 8 in
     let b = bind_ok (unless (nat_lt 1 flags) EINVAL) _ (new, answer) a.2 in
     let d = bind_ok (look_up s a.0 key (Granted LINK)) _ (new, answer) b.2 in
     let found = found_serial s a.0 key (Granted LINK) d.0 d.1 in
@@ -154,9 +141,7 @@ pub move_law :
     (s : State) (client context : ℕ) (key from to : ℤ) (flags : ℕ) → IsLawful s client context (Move key from to flags)
 unfolding move_link
 move_law s client context key from to flags = record {
-  small = λ mid answer few h.
-      about_moved_small (named s client context from) (named s client context to) (named s client context key)
-      (λ k is. small_there mid.keys k few (move_there s mid client context key from to flags answer k h is));
+  small = search (about_moved_small, small_there, move_there) depth 8;
   plain = search plains depth 24;
   blind = λ hide hides.
       is_seen (blind_done hide) (simp made_blind (search (seen_free, steps, without_blind) depth 24));

@@ -1,14 +1,14 @@
 -- The keys that the notes of an accepted ask name are there.
-use Rattle.std.proofs.Common.{⊎_elim, ◌<◌, ◌^◌, ◌∙◌, ◌≡◌, ◌≤◌, ◌⊎◌, ap, arith, Bool, cond, Err, false, inl, inr}
-use Rattle.std.proofs.Common.{is_some, IsSome, List, nat_lt, Ok, refl, Result, subst, sym, true, ℕ, ℤ}
-use Rattle.std.proofs.lemmas.Bool.{cases_lt, Decides.nat_tests}
-use Rattle.krs_types.specs.{Refusing.or_refuse, declared.ask.Answer.{Answer, TheVariants.{Bytes, Nothing, Number}}}
-use Rattle.krs_types.specs.declared.{context.Context.Context, errno.Errno.Errno}
-use Rattle.krs_types.specs.declared.{errno.Errno.TheVariants.{ENOKEY, ENOSPC}, name.Name.Name, note.KeyEvent.KeyEvent}
+use Rattle.std.proofs.Common.{◌<◌, ◌^◌, ◌∙◌, ◌≡◌, ◌≤◌, ◌⊎◌, ap, arith, Bool, cond, Err, false, inl, inr, is_some}
+use Rattle.std.proofs.{Common.{IsSome, List, nat_lt, Ok, refl, Result, subst, sym, true, ℕ, ℤ}, lemmas.Bool.cases_lt}
+use Rattle.std.proofs.lemmas.Bool.Decides.{nat_tests}
+use Rattle.krs_types.specs.declared.ask.Answer.{Answer, TheVariants.{Bytes, Nothing, Number}}
+use Rattle.krs_types.specs.declared.{context.Context.Context, errno.Errno.{Errno, TheVariants.ENOSPC}, name.Name.Name}
+use Rattle.krs_types.specs.declared.note.KeyEvent.{KeyEvent}
 use Rattle.krs_model.specs.Asks.Adding.{add, added_serial, admitted, Made, Place, place_of, Updated}
-use Rattle.krs_model.specs.{Asks.{Finding.{found_into, if_linkable}, Linked.{linked_into, name_of}}, Linking.linking}
-use Rattle.krs_model.specs.{Lookup.context_of, Making.made_for, Notes.Telling.{about, about_found, about_link, named}}
-use Rattle.krs_model.specs.{Outcome.Outcome, Search.found, Sound.AllPlaced, State.{Key, State}, Table.{at, IsBelow}}
+use Rattle.krs_model.specs.{Asks.Finding.found_into, Lookup.context_of, Making.made_for, Notes.Telling.about}
+use Rattle.krs_model.specs.{Notes.Telling.{about_found, about_link, named}, Outcome.Outcome, Search.found}
+use Rattle.krs_model.specs.{Sound.AllPlaced, State.{Key, State}, Table.{at, IsBelow}}
 use Rattle.krs_model.proofs.Asks.{Later.{bind_ok, same_ok}, LaterByAsk.{linked_into_is, made_for_comes}}
 use Rattle.krs_model.proofs.{Asks.NewSerials.{place_is, small_there}, Lookups.Serials.{own_there, refused_is}}
 use Rattle.krs_model.proofs.MadeKeyring.{Links.place_of_new, State.{HasMadeFor, made_for_has, MadeNone, MadeOne}}
@@ -51,11 +51,7 @@ updated_there s c name id k _ MadeNone h = place_is s c name id (Updated k) h
 updated_there s c name id k _ (MadeOne t d desc before after made named) h =
     let no : cond (nat_lt 2147483647 t.next_serial) (Err ENOSPC) (Ok (Made s.next_serial)) ≡ Ok (Updated k) =
     sym (place_of_new s t c d desc before after name id made named) ∙ h in
-    elim (nat_lt 2147483647 t.next_serial) as
-    (λ b. cond b (Err ENOSPC) (Ok (Made s.next_serial)) ≡ Ok (Updated k) → IsSome (at s.keys k)) [
-      | true ↦ λ e. cc
-      | false ↦ λ e. cc
-    ] no
+    grind (arith, nat_tests)
 
 added_is :
     (s : State) (c : Context) (name : Name) (id : ℤ) (place : Place) (made : State × Context) → HasMadeFor s c id made
@@ -86,46 +82,26 @@ add_serial s new client context type_name desc payload ring n placed h =
 -- it was there where its serial had been given
 pub added_before :
     (s : State) (n : ℕ) → IsBelow s.keys s.next_serial → IsAdded s n → is_some (at s.keys n) ≡ nat_lt n s.next_serial
-added_before s n below is =
-    ⊎_elim (λ (lt : n < s.next_serial).
-    let there : is_some (at s.keys n) ≡ true = ⊎_elim (λ (t : IsSome (at s.keys n)). t)
-    (λ (le : s.next_serial ≤ n). absurd (omega arith)) is in
-    there ∙ sym (grind (arith, nat_tests)))
-    (λ (ge : s.next_serial ≤ n). ap is_some (below n ge) ∙ sym (grind (arith, nat_tests))) (cases_lt n s.next_serial)
+added_before s n below is = grind (arith, nat_tests, cases_lt)
 
 -- where the answer ends an ask
 pub there_ends :
     (mid new : State) (n : ℕ) (answer : Answer) → IsSome (at mid.keys n) → told_by mid n ≡ Ok (new, answer)
     → IsThere new answer
-there_ends mid new n answer there h = λ k is.
-    let end = same_ok (told_by mid n) (mid, Number n) (new, answer) refl h in
-    let key : n ≡ k = same_key n k (ap (λ (x : State × Answer). x.1) end ∙ is) in
-    subst (λ (t : State). IsSome (at t.keys k)) (ap (λ (x : State × Answer). x.0) end)
-    (subst (λ (m : ℕ). IsSome (at mid.keys m)) key there)
+there_ends mid new n answer there h = grind (arith, nat_tests, same_ok, same_key)
 
 pub found_into_there :
     (s new : State) (c : Context) (into : ℕ × Key) (found : Result ℕ Errno) (answer : Answer)
     → found_into s c into found ≡ Ok (new, answer) → IsThere new answer
 found_into_there s new c into found answer h =
-    let a = bind_ok found _ (new, answer) h in
-    let b = bind_ok (or_refuse ENOKEY (at s.keys a.0)) _ (new, answer) a.2 in
-    let d = bind_ok (if_linkable s c a.0 b.0) _ (new, answer) b.2 in
-    let e = bind_ok (linked_into s into d.0) _ (new, answer) d.2 in
-    let there : IsSome (at s.keys a.0) = rw (refused_is (at s.keys a.0) ENOKEY b.0 b.1) refl in
-    let change = linking s.keys (name_of d.0.1) d.0.0 in
-    let after : IsSome (at e.0.keys a.0) = subst (λ (t : State). IsSome (at t.keys a.0))
-    (linked_into_is s into d.0 e.0 e.1).is (there_alter s.keys into.0 change a.0 there) in
-    there_ends e.0 new a.0 answer after e.2
+    grind (arith, nat_tests, bind_ok, refused_is, linked_into_is, there_alter, there_ends)
 
 found_small :
     (mid : State) (ring : Result ℕ Errno) (answer : Answer) → IsBelow mid.keys 2147483648 → IsThere mid answer
     → AllSmall (about_found true ring answer)
 found_small mid ring Nothing few there = tt
 found_small mid ring (Bytes bytes) few there = tt
-found_small mid ring (Number serial) few there =
-    about_link_small told_of.Linked ring (Ok serial) (λ k is.
-    subst (λ (n : ℕ). n < 2 ^ 32) (same_ok (Ok serial) serial k refl is)
-    (small_there mid.keys serial few (there serial refl)))
+found_small mid ring (Number serial) few there = search (about_link_small, same_ok, small_there) depth 8
 
 -- where a destination is wanted, or not
 pub wanted_small :

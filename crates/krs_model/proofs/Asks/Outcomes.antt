@@ -1,6 +1,6 @@
 -- What an ask comes to meets a predicate of states, where it is accepted: test by test.
-use Rattle.std.proofs.Common.{◌≡◌, Err, Ok, refl, Result, subst}
-use Rattle.krs_types.specs.{Refusing.◌>>=◌, declared.{ask.Answer.Answer, errno.Errno.Errno}}
+use Rattle.std.proofs.{Common.{◌≡◌, arith, Err, Ok, refl, Result}, lemmas.Bool.Decides.nat_tests}
+use Rattle.krs_types.specs.{declared.{ask.Answer.Answer, errno.Errno.Errno}, Refusing.◌>>=◌}
 use Rattle.krs_model.specs.{Making.within_serials, Outcome.Outcome, State.State}
 use Rattle.krs_model.proofs.Asks.Later.{same_state, within_ok}
 
@@ -9,9 +9,7 @@ pub record Meets (P : State → Type 0) (meant : Outcome) : Type 0 where
   pub meets : (new : State) (answer : Answer) → meant ≡ Ok (new, answer) → P new
 
 pub meets_ok : {P : State → Type 0} {new : State} {answer : Answer} → P new → Meets P (Ok (new, answer))
-meets_ok {P} {new} {answer} h = record {
-  meets = λ t a e. subst P (same_state (Ok (new, answer)) new t answer a refl e) h;
-}
+meets_ok {P} {new} {answer} h = grind (arith, nat_tests, same_state)
 
 -- after a test that may refuse
 pub meets_after :

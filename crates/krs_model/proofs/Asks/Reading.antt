@@ -1,27 +1,16 @@
 -- What is proved of READ and DESCRIBE.
-use Rattle.std.proofs.Common.{ap, List, Ok, Option, refl, Result, sym, ℕ, ℤ, ◌∙◌, ◌≡◌}
-use Rattle.krs_types.specs.Kind.{row_of}
-use Rattle.krs_types.specs.Refusing.{◌>>=◌}
-use Rattle.krs_types.specs.Rights.{VIEW}
-use Rattle.krs_types.specs.declared.ask.Answer.{Answer}
-use Rattle.krs_types.specs.declared.ask.Answer.TheVariants.{Bytes}
-use Rattle.krs_types.specs.declared.ask.Op.TheVariants.{Describe, Read}
-use Rattle.krs_types.specs.declared.context.Context.{Context}
-use Rattle.krs_types.specs.declared.errno.Errno.{Errno}
-use Rattle.krs_types.specs.declared.kind.Told.{Told}
+use Rattle.std.proofs.Common.{◌∙◌, ◌≡◌, ap, List, Ok, refl, Result, sym, ℕ, ℤ}
+use Rattle.krs_types.specs.declared.ask.{Answer.{Answer, TheVariants.Bytes}, Op.TheVariants.{Describe, Read}}
+use Rattle.krs_types.specs.declared.{context.Context.Context, errno.Errno.Errno, kind.Told.Told}
 use Rattle.krs_types.specs.declared.kind.Told.TheVariants.{ItsLinks, ItsPayload, Never}
-use Rattle.krs_types.specs.declared.rights.Want.TheVariants.{Granted, ToRead}
-use Rattle.krs_model.specs.Asks.Reading.{describe, read, readable, told_as}
-use Rattle.krs_model.specs.Hiding.{blind, blind_answer, blind_content, Hiding, over, told, told_at, told_by, told_of}
-use Rattle.krs_model.specs.Lookup.{context_of, look_up}
-use Rattle.krs_model.specs.Notes.Telling.{named}
-use Rattle.krs_model.specs.Search.{found}
-use Rattle.krs_model.specs.State.{Content, Key, Links, Payload, State}
-use Rattle.krs_model.proofs.Asks.Fares.{fares}
-use Rattle.krs_model.proofs.Asks.Lawful.{IsLawful}
-use Rattle.krs_model.proofs.Asks.Plain.{IsPlain, plain_err, plain_ok, plains}
-use Rattle.krs_model.proofs.Hiding.Accepted.{accepted, blind_done, found_in, named_is}
-use Rattle.krs_model.proofs.Hiding.Over.{bound}
+use Rattle.krs_types.specs.{declared.rights.Want.TheVariants.{Granted, ToRead}, Kind.row_of, Refusing.◌>>=◌}
+use Rattle.krs_types.specs.Rights.{VIEW}
+use Rattle.krs_model.specs.{Asks.Reading.{describe, read, readable, told_as}, Hiding.{blind, blind_answer}}
+use Rattle.krs_model.specs.{Hiding.{blind_content, Hiding, over, told, told_at, told_by, told_of}, Lookup.context_of}
+use Rattle.krs_model.specs.{Lookup.look_up, Notes.Telling.named, Search.found, State.{Content, Key, Links, Payload}}
+use Rattle.krs_model.specs.State.{State}
+use Rattle.krs_model.proofs.Asks.{Fares.fares, Lawful.IsLawful, Plain.{IsPlain, plain_err, plain_ok, plains}}
+use Rattle.krs_model.proofs.Hiding.{Accepted.{accepted, blind_done, found_in, named_is}, Over.bound}
 use Rattle.krs_model.proofs.Lookups.Laws.{look_up_usable}
 
 plain_told : (mark : Told) (content : Content) → IsPlain (told_as mark content)
@@ -49,8 +38,7 @@ told_is :
     → context_of s client context ≡ Ok c → look_up s c id ToRead ≡ Ok found
     → told_at hide s.keys (named s client context id) bytes ≡ told_of (hide found.0) found.1.kind bytes
 told_is hide s client context id c found bytes own there =
-    ap (λ (r : Result ℕ Errno). told_at hide s.keys r bytes) (named_is s client context id ToRead c found own there)
-    ∙ ap (λ (o : Option Key). told (hide found.0) o bytes) (look_up_usable s c id ToRead found there).there
+    rw (named_is s client context id ToRead c found own there, (look_up_usable s c id ToRead found there).there)
 
 pub read_law : (s : State) (client context : ℕ) (id : ℤ) → IsLawful s client context (Read id)
 unfolding read

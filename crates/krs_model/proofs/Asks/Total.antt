@@ -1,15 +1,15 @@
 -- Each ask has a step from a sound store: what it comes to has a sweep, and is not ENOMEM.
-use Rattle.std.proofs.Common.{⊎_elim, ◌≡◌, ◌≢◌, arith, Bool, Err, filter, inl, inr, length, List, Ok, refl, Result, suc}
-use Rattle.std.proofs.Common.{sym, true, true≢false, zero, ℕ}
+use Rattle.std.proofs.Common.{◌≡◌, ◌≢◌, arith, Bool, Err, filter, inl, inr, length, List, Ok, refl, Result, suc, sym}
+use Rattle.std.proofs.{Common.{true, true≢false, zero, ℕ}, lemmas.Bool.Decides.nat_tests}
 use Rattle.std.specs.Map.{keys_of}
 use Rattle.krs_types.specs.declared.{ask.{Answer.Answer, Ask.Ask, Op.Op}, errno.Errno.{Errno, TheVariants.ENOMEM}}
 use Rattle.krs_model.specs.{History.event_of, Levels.{is_in, level, levels}, Notes.Posting.posted_in, Outcome.Outcome}
-use Rattle.krs_model.specs.Reach.{links_of_key_at}
-use Rattle.krs_model.specs.{Sound.IsSound, State.{Key, raised, State}, Step.{Ends, outcome_of, posts_by, Step}}
-use Rattle.krs_model.specs.{Sweep.{Attached, IsHeld, IsSweep, Linked, live_watches, PicksHeld, roots}, Table.Table}
-use Rattle.krs_model.proofs.Asks.{Laws.law_of, Refusals.refusal_is_no_memory}
-use Rattle.krs_model.proofs.Reach.{Acyclic.{From, IsClosed, one_more, reached_in_levels}, Cycles.there_in}
-use Rattle.krs_model.proofs.{Reach.Levels.{in_flat, in_one}, Sound.{Changes.Stands, Steps.{raised_sound, sound_stands}}}
+use Rattle.krs_model.specs.{Reach.links_of_key_at, Sound.IsSound, State.{Key, raised, State}, Step.{Ends, outcome_of}}
+use Rattle.krs_model.specs.{Step.{posts_by, Step}, Sweep.{Attached, IsHeld, IsSweep, Linked, live_watches, PicksHeld}}
+use Rattle.krs_model.specs.{Sweep.roots, Table.Table}
+use Rattle.krs_model.proofs.{Asks.{Laws.law_of, Refusals.refusal_is_no_memory}, Reach.Acyclic.{From, IsClosed}}
+use Rattle.krs_model.proofs.Reach.{Acyclic.{one_more, reached_in_levels}, Cycles.there_in, Levels.{in_flat, in_one}}
+use Rattle.krs_model.proofs.Sound.{Changes.Stands, Steps.{raised_sound, sound_stands}}
 
 -- what is in a level from the attachments is held
 level_held :
@@ -26,9 +26,7 @@ levels_held :
     → IsHeld keys attached k
 unfolding levels
 levels_held keys attached zero k h = absurd (true≢false (sym h))
-levels_held keys attached (suc n) k h =
-    ⊎_elim (λ i. levels_held keys attached n k i) (λ i. level_held keys attached n k i)
-    (in_one k (levels (links_of_key_at keys) attached n) (level (links_of_key_at keys) attached n) h)
+levels_held keys attached (suc n) k h = grind (arith, nat_tests, level_held, in_one, levels_held keys attached n k)
 
 -- a held key is an attachment, or reached from one
 held_from :

@@ -1,22 +1,21 @@
 -- What is proved of WATCH and the asks of queues.
-use Rattle.std.proofs.Common.{[], ◌∙◌, ◌∷◌, ◌≡◌, ◌≤◌, ap, Bool, cond, Err, false, is_some, IsSome, leb-true, length}
-use Rattle.std.proofs.Common.{List, nat_le, nat_lt, negsuc, None, not, Ok, Option, pos, refl, Some, subst, suc, true}
-use Rattle.std.proofs.Common.{zero, ℕ, ℤ}
+use Rattle.std.proofs.Common.{[], ◌∙◌, ◌∷◌, ◌≡◌, ◌≤◌, ap, arith, Bool, false, IsSome, leb-true, List, negsuc, None}
+use Rattle.std.proofs.Common.{not, Ok, Option, pos, refl, Some, suc, true, zero, ℕ, ℤ}
+use Rattle.std.proofs.lemmas.Bool.Decides.{nat_tests}
 use Rattle.krs_types.specs.declared.ask.Answer.{Answer, TheVariants.{Bytes, Nothing, Number}}
 use Rattle.krs_types.specs.declared.ask.Op.TheVariants.{CloseQueue, OpenQueue, ReadQueue, SetFilter, Watch}
-use Rattle.krs_types.specs.declared.{context.Context.Context, errno.Errno.{Errno, TheVariants.{EBUSY, EINVAL, ENFILE}}}
-use Rattle.krs_types.specs.declared.{errno.Errno.TheVariants.ENOSPC, note.{FilterEntry.FilterEntry, Record.Record}}
-use Rattle.krs_types.specs.{declared.rights.Want.TheVariants.Granted, Rights.VIEW}
+use Rattle.krs_types.specs.declared.{context.Context.Context, errno.Errno.Errno, note.FilterEntry.FilterEntry}
+use Rattle.krs_types.specs.{declared.{note.Record.Record, rights.Want.TheVariants.Granted}, Rights.VIEW}
 use Rattle.krs_model.specs.Asks.{Linked.unless, Watching.{after_read, close_queue, closed, filtered, open_queue}}
 use Rattle.krs_model.specs.Asks.Watching.{opened, read_out, read_queue, set_filter, unwatched, watch, watch_id_of}
 use Rattle.krs_model.specs.Asks.Watching.{watched, with_filter, with_queue, with_watching, without_queue}
 use Rattle.krs_model.specs.{Lookup.{context_of, look_up, serial_of}, Notes.{Bytes.bytes_of_all, Filter.filter_of}}
-use Rattle.krs_model.specs.Notes.{Filter.is_good_filter, Front.{front, readable}, Telling.named, Waiting.is_capacity}
-use Rattle.krs_model.specs.{Queues.{queue_of, Queues, queues_of, watch_at, with_queues, with_watch}, State.Queue}
-use Rattle.krs_model.specs.{State.State, Table.{alter, at, Table}}
-use Rattle.krs_model.proofs.Asks.Done.{Closes, Effect, end_of, ends_as, Filters, Opens, queue_there, readable_is, Reads}
-use Rattle.krs_model.proofs.Asks.{Done.{unwatched_is, Unwatches, Watches}, Fares.fares, Later.{bind_ok, same_ok}}
-use Rattle.krs_model.proofs.Asks.{Lawful.IsLawful, Plain.{IsPlain, plain, plain_err, plain_ok, plains}}
+use Rattle.krs_model.specs.{Notes.{Front.{front, readable}, Telling.named, Waiting.is_capacity}, Queues.queue_of}
+use Rattle.krs_model.specs.{Queues.{Queues, queues_of, with_queues, with_watch}, State.{Queue, State}, Table.alter}
+use Rattle.krs_model.specs.Table.{at, Table}
+use Rattle.krs_model.proofs.Asks.Done.{Closes, Effect, end_of, ends_as, Filters, Opens, queue_there, readable_is}
+use Rattle.krs_model.proofs.Asks.{Done.{Reads, unwatched_is, Unwatches, Watches}, Fares.fares, Later.bind_ok}
+use Rattle.krs_model.proofs.Asks.{Later.same_ok, Lawful.IsLawful, Plain.{IsPlain, plain, plain_err, plain_ok, plains}}
 use Rattle.krs_model.proofs.Hiding.{Accepted.blind_done, Over.after, Seen.{is_seen, steps}}
 use Rattle.krs_model.proofs.Lookups.{Laws.look_up_usable, Serials.found_serial}
 
@@ -32,18 +31,10 @@ opened_is :
     (q : Queues) (client capacity : ℕ) (x : Queues × ℕ) → opened q client capacity ≡ Ok x
     → (is_capacity capacity ≡ true) × ((with_queue q client capacity, q.next_queue) ≡ x)
 unfolding opened
-opened_is q client capacity x h =
-    let a = bind_ok (unless (not (is_capacity capacity)) EINVAL) _ x h in
-    let b = bind_ok (unless (nat_le 256 (length q.queues)) ENFILE) _ x a.2 in
-    let c = bind_ok (unless (nat_lt 4294967295 q.next_queue) ENOSPC) _ x b.2 in
-    (not_false (is_capacity capacity) (unless_ok _ EINVAL a.0 a.1), same_ok _ _ x refl c.2)
+opened_is q client capacity x h = grind (arith, nat_tests, bind_ok, not_false, unless_ok, same_ok)
 
 filter_is : (entries good : List FilterEntry) → filter_of entries ≡ Ok good → entries ≡ good
-filter_is entries good h =
-    elim (is_good_filter entries) as (λ b. cond b (Ok entries) (Err EINVAL) ≡ Ok good → entries ≡ good) [
-      | true ↦ λ is. cc
-      | false ↦ λ no. cc
-    ] h
+filter_is entries good h = grind (arith, nat_tests)
 
 filtered_is :
     (q : Queues) (client number : ℕ) (entries : List FilterEntry) (x : Queues × Unit {0})
@@ -51,52 +42,30 @@ filtered_is :
     → (queue : Queue) × (at q.queues number ≡ Some queue)
     × ((record q { queues = alter q.queues number (with_filter entries) }, tt) ≡ x)
 unfolding filtered
-filtered_is q client number entries x h =
-    let a = bind_ok (queue_of q.queues client number) _ x h in
-    let b = bind_ok (filter_of entries) _ x a.2 in
-    let after : List FilterEntry → Queues × Unit {0} = λ good.
-    (record q { queues = alter q.queues number (with_filter good) }, tt) in
-    (a.0, queue_there q.queues client number a.0 a.1, ap after (filter_is entries b.0 b.1) ∙ same_ok _ _ x refl b.2)
+filtered_is q client number entries x h = grind (arith, nat_tests, bind_ok, after, queue_there, filter_is, same_ok)
 
 read_out_is :
     (q : Queues) (client number room : ℕ) (x : Queues × List ℕ) → read_out q client number room ≡ Ok x
     → (queue : Queue) × (at q.queues number ≡ Some queue)
     × ((record q { queues = alter q.queues number (after_read room) }, bytes_of_all (front room queue.waiting)) ≡ x)
 unfolding read_out
-read_out_is q client number room x h =
-    let a = bind_ok (queue_of q.queues client number) _ x h in
-    let b = bind_ok (readable room a.0.waiting) _ x a.2 in
-    let after : List Record → Queues × List ℕ = λ notes.
-    (record q { queues = alter q.queues number (after_read room) }, bytes_of_all notes) in (
-      a.0,
-      queue_there q.queues client number a.0 a.1,
-      ap after (readable_is room a.0.waiting b.0 b.1) ∙ same_ok _ _ x refl b.2,
-    )
+read_out_is q client number room x h = grind (arith, nat_tests, bind_ok, after, queue_there, readable_is, same_ok)
 
 closed_is :
     (q : Queues) (client number : ℕ) (x : Queues × Unit {0}) → closed q client number ≡ Ok x
     → (queue : Queue) × (at q.queues number ≡ Some queue) × ((without_queue q number, tt) ≡ x)
 unfolding closed
-closed_is q client number x h =
-    let a = bind_ok (queue_of q.queues client number) _ x h in
-    (a.0, queue_there q.queues client number a.0 a.1, same_ok _ _ x refl a.2)
+closed_is q client number x h = grind (arith, nat_tests, bind_ok, queue_there, same_ok)
 
 watched_is :
     (q : Queues) (client number key n : ℕ) (x : Queues × Unit {0}) → watched q client number key n ≡ Ok x
     → (queue : Queue) × (at q.queues number ≡ Some queue)
     × ((record q { watches = with_watch q.watches key number n }, tt) ≡ x)
 unfolding watched
-watched_is q client number key n x h =
-    let a = bind_ok (queue_of q.queues client number) _ x h in
-    let b = bind_ok (unless (is_some (watch_at q.watches key number)) EBUSY) _ x a.2 in
-    (a.0, queue_there q.queues client number a.0 a.1, same_ok _ _ x refl b.2)
+watched_is q client number key n x h = grind (arith, nat_tests, bind_ok, queue_there, same_ok)
 
 small_id : (watch_id : ℤ) (n : ℕ) → watch_id_of watch_id ≡ Ok (Some n) → n ≤ 255
-small_id (pos m) n h =
-    elim (nat_le m 255) as (λ b. nat_le m 255 ≡ b → cond b (Ok (Some m)) (Err EINVAL) ≡ Ok (Some n) → n ≤ 255) [
-      | true ↦ λ t is. let small = leb-true m 255 t in let same : m ≡ n = cc in subst (λ (k : ℕ). k ≤ 255) same small
-      | false ↦ λ t no. cc
-    ] refl h
+small_id (pos m) n h = grind (arith, nat_tests, leb-true)
 small_id (negsuc zero) n h = cc
 small_id (negsuc (suc m)) n h = cc
 
@@ -182,8 +151,7 @@ watches s client context id watch_id number new answer h =
     let there = (look_up_usable s a.0 id (Granted VIEW) d.0 d.1).there in
     let names = named_is s client context id a.0 d.0.0 a.1 (found_serial s a.0 id (Granted VIEW) d.0 d.1) in
     let some : IsSome (at s.keys d.0.0) = rw there refl in
-    ends_as s client context _ _ new _ answer
-    (watches_as s client context id watch_id number d.0.0 b.0 e.0 some names b.1 e.1) (same_ok _ _ _ refl e.2)
+    grind (arith, nat_tests, ends_as, watches_as, same_ok)
 
 plain_queue : (queues : Table Queue) (client number : ℕ) → IsPlain (queue_of queues client number)
 plain_queue queues client number = search plain

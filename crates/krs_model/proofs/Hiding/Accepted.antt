@@ -1,10 +1,10 @@
 -- What an accepted ask comes to, and a change of one key, with the payloads hidden.
 use Rattle.std.proofs.Common.{◌∙◌, ◌≡◌, ap, List, Ok, refl, Result, ℕ, ℤ}
-use Rattle.krs_types.specs.Refusing.{◌>>=◌}
 use Rattle.krs_types.specs.declared.{ask.Answer.Answer, context.Context.Context, errno.Errno.Errno, rights.Want.Want}
-use Rattle.krs_model.specs.{Asks.Changing.{changed, paid_with}, Hiding.{blind, blind_content, blind_key, Hiding, over}}
-use Rattle.krs_model.specs.{Lookup.{context_of, look_up, serial_of}, Notes.Telling.named, Outcome.Outcome}
-use Rattle.krs_model.specs.{State.{Content, Key, Links, Payload, State}, Table.Table}
+use Rattle.krs_types.specs.Refusing.{◌>>=◌}
+use Rattle.krs_model.specs.{Asks.Changing.{changed, paid_with}, Hiding.{blind, blind_content, blind_key, Hiding}}
+use Rattle.krs_model.specs.{Hiding.over, Lookup.{context_of, look_up, serial_of}, Notes.Telling.named}
+use Rattle.krs_model.specs.{Outcome.Outcome, State.{Content, Key, Links, Payload, State}, Table.Table}
 use Rattle.krs_model.proofs.Hiding.{Keys.alter_blind, Lookups.{blind_found, look_up_blind}, Over.{after, bound}}
 use Rattle.krs_model.proofs.Lookups.Serials.{found_serial}
 
@@ -21,10 +21,7 @@ pub found_in :
     → (context_of (blind hide s) client context >>= (λ c. look_up (blind hide s) c id want >>= (λ found. g c found)))
     ≡ over view (context_of s client context >>= (λ c. look_up s c id want >>= (λ found. f c found)))
 unfolding context_of
-found_in hide s client context id want view f g each =
-    after view (context_of s client context) _ _ (λ c is.
-    ap (λ (r : Result (ℕ × Key) Errno). r >>= g c) (look_up_blind hide s c id want)
-    ∙ bound (blind_found hide) view (look_up s c id want) _ _ (λ found there. each c found is there))
+found_in hide s client context id want view f g each = search (after, look_up_blind, bound) depth 8
 
 -- an accepted ask
 abbrev pub accepted : State → Answer → Outcome

@@ -1,19 +1,18 @@
 -- What a client is told hangs on no payload that is hidden, but those that it reads.
-use Rattle.std.proofs.Common.{[], ⊎_elim, ◌==◌, ◌∙◌, ◌∷◌, ◌≡◌, ◌≢◌, ◌⊎◌, ap, arith, Bool, cond, Err, false, filter, inl}
-use Rattle.std.proofs.Common.{inr, IsOk, List, map, None, Ok, Option, refl, Result, Some, subst, sym, true, true≢false}
-use Rattle.std.proofs.{Common.ℕ, lemmas.Bool.Decides.nat_tests}
-use Rattle.krs_types.specs.{Kind.row_of, Refusing.◌>>=◌}
-use Rattle.krs_types.specs.declared.ask.{Answer.{Answer, TheVariants.Bytes}, Ask.Ask, Op.{Op, TheVariants.Read}}
-use Rattle.krs_types.specs.declared.{context.Context.Context, errno.Errno.{Errno, TheVariants.ENOMEM}}
-use Rattle.krs_types.specs.declared.{event.Event.Event, kind.Told.{Told, TheVariants.{ItsLinks, ItsPayload, Never}}}
+use Rattle.std.proofs.Common.{[], ⊎_elim, ◌∙◌, ◌∷◌, ◌≡◌, ◌≢◌, ◌⊎◌, ap, arith, Bool, cond, Err, false, inl, inr, IsOk}
+use Rattle.std.proofs.Common.{List, map, None, Ok, Option, refl, Result, Some, subst, sym, true, true≢false, ℕ}
+use Rattle.std.proofs.lemmas.Bool.Decides.{nat_tests}
+use Rattle.krs_types.specs.declared.ask.{Answer.{Answer, TheVariants.Bytes}, Op.{Op, TheVariants.Read}}
+use Rattle.krs_types.specs.declared.{errno.Errno.{Errno, TheVariants.ENOMEM}, event.Event.Event}
+use Rattle.krs_types.specs.{declared.kind.Told.TheVariants.ItsPayload, Kind.row_of}
 use Rattle.krs_model.specs.Hiding.{blind, blind_answer, blind_ask, blind_event, blind_keys, FurtherEvents, Hides}
-use Rattle.krs_model.specs.Hiding.{Hiding, IsBlinded, NoEvents, over, told, told_at, told_by}
-use Rattle.krs_model.specs.{History.IsLegal, Lookup.{context_of, serial_of}, Notes.Telling.named}
-use Rattle.krs_model.specs.Secrecy.{AreAskedAlike, asked, DifferInReads, is_read, is_wanting, IsRead, KeepsSecrets}
-use Rattle.krs_model.specs.Secrecy.{ReadsShown, replies_to, TellsNoUnread}
-use Rattle.krs_model.specs.{State.{Key, raised, State}, Step.Step, Table.{at, Table}}
-use Rattle.krs_model.proofs.Hiding.{Keys.seen, Steps.{blinded_legal, step_blind}}
-use Rattle.krs_model.proofs.History.{Determined.{one_history, one_reply, one_step}, Revocations.read_of_key}
+use Rattle.krs_model.specs.{Hiding.{Hiding, IsBlinded, NoEvents, over, told, told_at}, History.IsLegal}
+use Rattle.krs_model.specs.{Lookup.{context_of, serial_of}, Notes.Telling.named, Secrecy.{AreAskedAlike, asked}}
+use Rattle.krs_model.specs.Secrecy.{DifferInReads, is_read, is_wanting, IsRead, KeepsSecrets, ReadsShown, replies_to}
+use Rattle.krs_model.specs.{Secrecy.TellsNoUnread, State.{Key, raised, State}, Step.Step, Table.{at, Table}}
+use Rattle.krs_model.proofs.{Hiding.{Keys.seen, Steps.{blinded_legal, step_blind}}, History.Determined.one_history}
+use Rattle.krs_model.proofs.History.{Determined.{one_reply, one_step}, Revocations.read_of_key}
+use Rattle.krs_model.proofs.Reach.Levels.{equal_is}
 
 wanting_is : (reply : Result Answer Errno) → is_wanting reply ≡ true → reply ≡ Err ENOMEM
 wanting_is (Ok answer) h = absurd (true≢false (sym h))
@@ -39,29 +38,13 @@ same_events start x y [] [] f g same = refl
 same_events start x y [] (e ∷ es) f g same = absurd (cc)
 same_events start x y (e ∷ es) [] f g same = absurd (cc)
 same_events start x y (e ∷ es) (f ∷ fs) a b same =
-    let first : asked e ≡ asked f = cc in
-    let rest : map asked es ≡ map asked fs = cc in
-    let lane : e.lane ≡ f.lane = ap (λ (t : ((ℕ × ℕ) × Ask) × Bool). t.0.0.0) first in
-    let moment : e.moment ≡ f.moment = ap (λ (t : ((ℕ × ℕ) × Ask) × Bool). t.0.0.1) first in
-    let ask : e.ask ≡ f.ask = ap (λ (t : ((ℕ × ℕ) × Ask) × Bool). t.0.1) first in
-    let wanting : is_wanting e.reply ≡ is_wanting f.reply = ap (λ (t : ((ℕ × ℕ) × Ask) × Bool). t.1) first in
-    let reply : e.reply ≡ f.reply = one_wanting e.reply f.reply (is_wanting f.reply) wanting refl
-    (one_reply start a.0 b.0 e f lane moment ask a.1 b.1) in
-    let event : e ≡ f = λ i. record { lane = lane i; moment = moment i; ask = ask i; reply = reply i } in
-    let next : a.0 ≡ b.0 = one_step start a.0 b.0 f (subst (λ (z : Event). Step start z a.0) event a.1) b.1 in
-    let more : es ≡ fs =
-    same_events b.0 x y es fs (subst (λ (t : State). IsLegal t es x) next a.2) b.2 rest in
-    λ i. event i ∷ more i
+    grind (arith, nat_tests, one_wanting, one_reply, one_step, same_events b.0 x y es fs)
 
 -- of two histories that are asked alike the replies are the same, but for hidden payloads
 pub blinded_alike :
     (hide : Hiding) (a b : State) (events others : List Event) → Hides hide
     → (alike : AreAskedAlike hide a b events others) → alike.blinded ≡ alike.other_blinded
-blinded_alike hide a b events others hides alike =
-    same_events (blind hide b) (blind hide alike.end) (blind hide alike.other_end) alike.blinded alike.other_blinded
-    (subst (λ (t : State). IsLegal t alike.blinded (blind hide alike.end)) alike.starts
-    (blinded_legal hide a alike.end events alike.blinded hides alike.first))
-    (blinded_legal hide b alike.other_end others alike.other_blinded hides alike.second) alike.asks
+blinded_alike hide a b events others hides alike = grind (arith, nat_tests, same_events, blinded_legal)
 
 -- and they end alike
 pub ends_alike :
@@ -72,9 +55,7 @@ ends_alike hide a b events others hides alike =
     let legal = blinded_legal hide a alike.end events alike.blinded hides alike.first in
     let from : IsLegal (blind hide b) alike.blinded x =
     subst (λ (t : State). IsLegal t alike.blinded x) alike.starts legal in
-    one_history (blind hide b) x (blind hide alike.other_end) alike.other_blinded
-    (subst (λ (l : List Event). IsLegal (blind hide b) l x) (blinded_alike hide a b events others hides alike) from)
-    (blinded_legal hide b alike.other_end others alike.other_blinded hides alike.second)
+    search (one_history, blinded_alike, blinded_legal) depth 8
 
 same_told : (hide : Hiding) (keys : Table Key) (serial : Result ℕ Errno) (bytes : List ℕ)
     → told_at hide (blind_keys hide keys) serial bytes ≡ told_at hide keys serial bytes
@@ -96,13 +77,7 @@ shown_told :
     → ((key : Key) → o ≡ Some key → (row_of key.kind).told ≡ ItsPayload → hide serial bytes ≡ bytes)
     → told (hide serial) o bytes ≡ bytes
 shown_told hide keys serial bytes None shown = refl
-shown_told hide keys serial bytes (Some key) shown =
-    let mark = (row_of key.kind).told in
-    elim mark as (λ (told : Told). mark ≡ told → told_by (hide serial) told bytes ≡ bytes) [
-      | ItsPayload ↦ λ is. shown key refl is
-      | ItsLinks ↦ λ is. refl
-      | Never ↦ λ is. refl
-    ] refl
+shown_told hide keys serial bytes (Some key) shown = grind (arith, nat_tests)
 
 -- a READ that is accepted tells no hidden payload, where the client reads shown keys alone
 read_tells_none :
@@ -115,8 +90,7 @@ read_tells_none hide client s next event events (Read id) (Bytes bytes) shown st
     let found = read_of_key s next event id step is accepted in
     let reads = found.1 in
     let up = raised s event.moment in
-    let same : named up event.lane event.ask.context reads.id ≡ Ok found.0 =
-    ap (λ (r : Result Context Errno). r >>= (λ c. serial_of up c reads.id)) reads.names.own ∙ reads.names.named in
+    let same : named up event.lane event.ask.context reads.id ≡ Ok found.0 = search depth 8 in
     let here : named up event.lane event.ask.context id ≡ Ok found.0 = cc in
     ap (λ (told : List ℕ). Bytes told) (ap (λ (r : Result ℕ Errno). told_at hide s.keys r bytes) here
     ∙ shown_told hide s.keys found.0 bytes (at s.keys found.0)
@@ -128,9 +102,7 @@ read_tells_none hide client s next event events op answer shown step lane accept
 one_told :
     (f g : Answer → Answer) (reply other : Result Answer Errno) → (IsOk reply → (x : Answer) → f x ≡ x)
     → (IsOk reply → (x : Answer) → g x ≡ x) → over f reply ≡ over g other → reply ≡ other
-one_told f g (Ok x) (Ok y) plain bare same =
-    let inner : f x ≡ g y = cc in
-    ap (λ (answer : Answer). Ok answer) (sym (plain refl x) ∙ (inner ∙ bare refl y))
+one_told f g (Ok x) (Ok y) plain bare same = grind (arith, nat_tests)
 one_told f g (Ok x) (Err e) plain bare same = absurd (cc)
 one_told f g (Err e) (Ok y) plain bare same = absurd (cc)
 one_told f g (Err e) (Err d) plain bare same = cc
@@ -177,10 +149,7 @@ reply_or_read hide s t event other b same first second =
 
 pub read_alike : (hide : Hiding) (s t : State) (event other : Event) → blind_event hide s event ≡ blind_event hide t other
     → is_read other.ask.op ≡ is_read event.ask.op
-read_alike hide s t event other same =
-    sym (same_read hide (raised t other.moment) other.lane other.ask.context other.ask.op)
-    ∙ (sym (ap (λ (e : Event). is_read e.ask.op) same)
-    ∙ same_read hide (raised s event.moment) event.lane event.ask.context event.ask.op)
+read_alike hide s t event other same = grind (arith, nat_tests, same_read)
 
 differ :
     (hide : Hiding) (a b x y : State) (events others blinded alike : List Event)
@@ -191,25 +160,22 @@ differ hide _ _ _ _ _ _ _ _ (NoEvents s) (FurtherEvents t next end event events 
 differ hide _ _ _ _ _ _ _ _ (FurtherEvents s next end event events blinded step rest) (NoEvents t) same = absurd (cc)
 differ hide _ _ _ _ _ _ _ _ (FurtherEvents s next end event events blinded step rest)
     (FurtherEvents t top last other others alike further behind) same =
-    let first : blind_event hide s event ≡ blind_event hide t other = cc in
-    let then : blinded ≡ alike = cc in (
-      ap (λ (e : Event). e.lane) first,
-      reply_or_read hide s t event other (is_read event.ask.op) first refl (read_alike hide s t event other first),
-      differ hide next top end last events others blinded alike rest behind then,
+    grind (
+      arith,
+      nat_tests,
+      reply_or_read,
+      read_alike,
+      differ hide next top end last events others blinded alike
+          rest behind,
     )
 
 -- of histories that are asked alike all replies are the same, but those to accepted READs
 pub differ_in_reads :
     (hide : Hiding) (a b : State) (events others : List Event) → Hides hide → AreAskedAlike hide a b events others
     → DifferInReads events others
-differ_in_reads hide a b events others hides alike =
-    differ hide a b alike.end alike.other_end events others alike.blinded alike.other_blinded alike.first alike.second
-    (blinded_alike hide a b events others hides alike)
+differ_in_reads hide a b events others hides alike = search (differ, blinded_alike) depth 8
 
-lane_is : (n client : ℕ) → (n == client) ≡ true → n ≡ client
-lane_is n client h = grind (arith, nat_tests)
-
-abbrev replied : List Event → List (Result Answer Errno)
+abbrev pub replied : List Event → List (Result Answer Errno)
 replied events = map (λ e. e.reply) events
 
 one_further :
@@ -222,10 +188,7 @@ one_further false e f es fs same rest = rest
 told_further :
     (client : ℕ) (e f : Event) (es fs : List Event) → e.lane ≡ f.lane → (e.lane ≡ client → e.reply ≡ f.reply)
     → replies_to client es ≡ replies_to client fs → replies_to client (e ∷ es) ≡ replies_to client (f ∷ fs)
-told_further client e f es fs lane same rest =
-    let own : List Event → List Event = λ events. filter (λ event. event.lane == client) events in
-    one_further (e.lane == client) e f (own es) (own fs) (λ is. same (lane_is e.lane client is)) rest
-    ∙ ap (λ (n : ℕ). replied (cond (n == client) (f ∷ own fs) (own fs))) lane
+told_further client e f es fs lane same rest = grind (arith, nat_tests, one_further, equal_is)
 
 -- replies to events whose blinded ones are the same are the same where the client reads shown keys alone
 told_alike :
@@ -237,8 +200,7 @@ told_alike hide client s t next event other events starts same shown step lane =
     let top = raised t other.moment in
     let f = blind_answer hide up event.lane event.ask.context event.ask.op in
     let g = blind_answer hide top other.lane other.ask.context other.ask.op in
-    let plain : IsOk event.reply → (x : Answer) → f x ≡ x = λ accepted x.
-    read_tells_none hide client s next event events event.ask.op x shown step lane accepted refl in
+    let plain : IsOk event.reply → (x : Answer) → f x ≡ x = search read_tells_none depth 8 in
     let one : (x : Answer) → g x ≡ f x = λ x.
     sym (answer_of_blind hide top other.lane other.ask.context other.ask.op x)
     ∙ (sym (λ i. blind_answer hide (raised (starts i) (same i).moment) (same i).lane (same i).ask.context
@@ -264,9 +226,7 @@ client_told hide client _ _ _ _ _ _ _ _ hides starts (FurtherEvents s next end e
     subst (λ (e : Event). Step (blind hide t) e (blind hide next)) first
     (subst (λ (state : State). Step state (blind_event hide s event) (blind hide next)) starts
     (step_blind hide s next event hides step)) in
-    let nexts : blind hide next ≡ blind hide top =
-    one_step (blind hide t) (blind hide next) (blind hide top) (blind_event hide t other) from
-    (step_blind hide t top other hides further) in
+    let nexts : blind hide next ≡ blind hide top = search (one_step, step_blind) depth 8 in
     let more = client_told hide client next top end last events others blinded alike hides nexts rest behind then
     (λ before later reading old serial key is legal. shown (event ∷ before) later reading old serial key
     (ap (λ (l : List Event). event ∷ l) is) (next, step, legal)) in
@@ -274,9 +234,7 @@ client_told hide client _ _ _ _ _ _ _ _ hides starts (FurtherEvents s next end e
     (λ lane. told_alike hide client s t next event other events starts first shown step lane) more
 
 pub tells_no_unread : (start : State) (events : List Event) → TellsNoUnread start events
-tells_no_unread start events hide client other others hides alike shown =
-    client_told hide client start other alike.end alike.other_end events others alike.blinded alike.other_blinded hides
-    alike.starts alike.first alike.second (blinded_alike hide start other events others hides alike) shown
+tells_no_unread start events hide client other others hides alike shown = search (client_told, blinded_alike) depth 8
 
 pub keeps_secrets : (start : State) → KeepsSecrets start
 keeps_secrets start = λ events. tells_no_unread start events

@@ -1,14 +1,14 @@
 -- The payload of a key that is gone is told to nobody.
 use Rattle.std.proofs.Common.{[], ◌++◌, ◌∙◌, ◌∷◌, ◌≡◌, ap, List, None, Option, refl, Some, subst, sym, true, ℕ}
-use mathlib.Core.Logic.{dite}
 use native.Mathlib.Decide.{ℕ_discrete}
 use Rattle.krs_types.specs.declared.{ask.Op.TheVariants.{Read, Revoke}, event.Event.Event}
 use Rattle.krs_model.specs.{Hiding.{FurtherEvents, Hiding, IsBlinded, NoEvents}, History.IsLegal, Revocation.Revokes}
 use Rattle.krs_model.specs.{Secrecy.{IsGone, TellsNobody}, State.{Key, raised, State}, Step.Step, Table.{at, IsBelow}}
 use Rattle.krs_model.proofs.Asks.{Later.is_gone, LaterByStep.{legal_follows, raised_follows, swept_follows}}
-use Rattle.krs_model.proofs.Hiding.Clients.{tells_no_unread}
-use Rattle.krs_model.proofs.History.{Determined.one_history, Revocations.accepted_came}
-use Rattle.krs_model.proofs.History.Revocations.{IsSpent, read_is_not_spent, revoke_spends, spent_follows}
+use Rattle.krs_model.proofs.{Hiding.Clients.tells_no_unread, History.Determined.one_history}
+use Rattle.krs_model.proofs.History.Revocations.{accepted_came, IsSpent, read_is_not_spent, revoke_spends}
+use Rattle.krs_model.proofs.History.Revocations.{spent_follows}
+use mathlib.Core.Logic.{dite}
 
 gone_if : (o : Option Key) → ((key : Key) → o ≡ Some key → key.revoked ≡ true) → is_gone o ≡ true
 gone_if None gone = refl
@@ -61,19 +61,12 @@ step_behind start old end (x ∷ xs) event later front whole =
 pub tells_nobody : (start : State) (serial : ℕ) (events : List Event) → IsGone start serial
     → TellsNobody serial start events
 tells_nobody start serial events g hide client other others hides only alike =
-    tells_no_unread start events hide client other others hides alike
-    (λ before later reading old k key is legal lane reads there kind.
-    dite (ℕ_discrete k serial)
-    (λ same.
-    let whole = legal_of hide start alike.end events alike.blinded alike.first in
-    let step = step_behind start old alike.end before reading later legal
-    (subst (λ (l : List Event). IsLegal start l alike.end) is whole) in
-    let came = accepted_came old step.0 reading (Read reads.id) step.1 reads.asked reads.accepted in
-    let spent : IsSpent old serial =
-    spent_follows start old serial (legal_follows start before old legal) (spent_of start serial g) in
-    let up = raised old reading.moment in
-    let now : IsSpent up k = subst (IsSpent up) (sym same)
-    (spent_follows old up serial (raised_follows old reading.moment) spent) in
-    absurd (read_is_not_spent up came.serves.mid reading.lane reading.ask.context reads.id came.answer k reads.names
-    came.serves.meant now))
-    (λ apart. only k apart))
+    rw (tells_no_unread start events hide client other others hides alike (λ before later reading old k key is
+    legal lane reads there kind. dite (ℕ_discrete k serial) (λ same. let whole = legal_of hide start alike.end
+    events alike.blinded alike.first in let step = step_behind start old alike.end before reading later legal
+    (subst (λ (l : List Event). IsLegal start l alike.end) is whole) in let came = accepted_came old step.0 reading
+    (Read reads.id) step.1 reads.asked reads.accepted in let spent : IsSpent old serial = spent_follows start old
+    serial (legal_follows start before old legal) (spent_of start serial g) in let up = raised old reading.moment
+    in let now : IsSpent up k = subst (IsSpent up) (sym same) (spent_follows old up serial (raised_follows old
+    reading.moment) spent) in absurd (read_is_not_spent up came.serves.mid reading.lane reading.ask.context
+    reads.id came.answer k reads.names came.serves.meant now)) (λ apart. only k apart)))

@@ -1,15 +1,15 @@
 -- The key of an accepted INVALIDATE is gone: nothing holds it, and the sweep takes it.
-use Rattle.std.proofs.Common.{[], ⊎_elim, ◌++◌, ◌<◌, ◌==◌, ◌||◌, ◌∙◌, ◌∷◌, ◌≡◌, ◌≤◌, ap, arith, Bool, cond, false}
-use Rattle.std.proofs.Common.{filter, IsSome, List, None, not, Ok, Option, option_map, option_to_list, refl, Some}
-use Rattle.std.proofs.Common.{subst, sym, true, true≢false, ℕ, ℤ}
-use Rattle.krs_types.specs.{Rights.SEARCH, declared.ask.Answer.{Answer, TheVariants.Nothing}}
-use Rattle.krs_types.specs.declared.{ask.Op.TheVariants.Invalidate, event.Event.Event, rights.Want.TheVariants.Granted}
+use Rattle.std.proofs.Common.{[], ⊎_elim, ◌++◌, ◌<◌, ◌==◌, ◌∙◌, ◌∷◌, ◌≡◌, ◌≤◌, ap, arith, Bool, cond, false, filter}
+use Rattle.std.proofs.Common.{IsSome, List, None, not, Ok, Option, option_map, option_to_list, refl, Some, subst, sym}
+use Rattle.std.proofs.{Common.{true, true≢false, ℕ, ℤ}, lemmas.Bool.Decides.nat_tests}
+use Rattle.krs_types.specs.declared.ask.{Answer.{Answer, TheVariants.Nothing}, Op.TheVariants.Invalidate}
+use Rattle.krs_types.specs.{declared.{event.Event.Event, rights.Want.TheVariants.Granted}, Rights.SEARCH}
 use Rattle.krs_model.specs.Asks.Invalidating.{context_without, detached, invalidate, invalidated, rings_without}
-use Rattle.krs_model.specs.Asks.Linked.{unlinked_content, without_link}
-use Rattle.krs_model.specs.{Levels.is_in, Outcome.Outcome, Possession.links_of_content, Revocation.IsServed}
-use Rattle.krs_model.specs.{Secrecy.IsGone, State.{Content, Key, Links, Payload, raised, State}, Step.Step}
-use Rattle.krs_model.specs.Sweep.{Attached, context_roots, IsHeld, IsSweep, Linked, links_of_key, process_roots, roots}
-use Rattle.krs_model.specs.{Sweep.uid_roots, Table.{at, IsBelow, map_values, Table}}
+use Rattle.krs_model.specs.{Asks.Linked.{unlinked_content, without_link}, Levels.is_in, Outcome.Outcome}
+use Rattle.krs_model.specs.{Possession.links_of_content, Revocation.IsServed, Secrecy.IsGone, State.{Content, Key}}
+use Rattle.krs_model.specs.{State.{Links, Payload, raised, State}, Step.Step, Sweep.{Attached, context_roots, IsHeld}}
+use Rattle.krs_model.specs.{Sweep.{IsSweep, Linked, links_of_key, process_roots, roots, uid_roots}, Table.at}
+use Rattle.krs_model.specs.Table.{IsBelow, map_values, Table}
 use Rattle.krs_model.proofs.{Asks.{Later.{is_gone, same_state}, LaterByStep.swept_follows}, Hiding.Gone.gone_of}
 use Rattle.krs_model.proofs.History.Revocations.{accepted_came, accepted_finds, Finds, given_serial, one_named}
 use Rattle.krs_model.proofs.{Reach.Levels.in_one, Sound.Attached.{attached_by, attachments, context_keys, uid_keys}}
@@ -17,21 +17,14 @@ use Rattle.krs_model.proofs.Tables.Changes.{at_kept, at_map}
 
 detached_out : (serial : ℕ) (o : Option ℕ) → is_in serial (option_to_list (detached serial o)) ≡ true → ⊥
 detached_out serial None h = true≢false (sym h)
-detached_out serial (Some j) h =
-    elim (j == serial) as (λ b. (j == serial) ≡ b → is_in serial (option_to_list (cond b None (Some j))) ≡ true → ⊥) [
-      | true ↦ λ t no. true≢false (sym no)
-      | false ↦ λ t i. let at_all : is_in serial (j ∷ []) ≡ false = ap (λ b. b || is_in serial []) t in
-          true≢false (sym i ∙ at_all)
-    ] refl h
+detached_out serial (Some j) h = grind (arith, nat_tests, true≢false)
 
 -- what no entry attaches is not attached
 none_attached :
     {X : Type 0} (g : X → List ℕ) (f : X → X) (es : Table X) (q : ℕ) → ((v : X) → is_in q (g (f v)) ≡ true → ⊥)
     → is_in q (attachments g (map_values f es)) ≡ true → ⊥
 none_attached {X = X} g f [] q never h = true≢false (sym h)
-none_attached {X = X} g f (e ∷ es) q never h =
-    ⊎_elim (λ here. never e.1 here) (λ later. none_attached g f es q never later)
-    (in_one q (g (f e.1)) (attachments g (map_values f es)) h)
+none_attached {X = X} g f (e ∷ es) q never h = grind (arith, nat_tests, in_one, none_attached g f es q never)
 
 both_out : (serial : ℕ) (a b : Option ℕ)
     → is_in serial (option_to_list (detached serial a) ++ option_to_list (detached serial b)) ≡ true → ⊥
@@ -40,14 +33,7 @@ both_out serial a b h = ⊎_elim (detached_out serial a) (detached_out serial b)
 
 filtered_out : (serial : ℕ) (l : List ℕ) → is_in serial (filter (λ k. not (k == serial)) l) ≡ true → ⊥
 filtered_out serial [] h = true≢false (sym h)
-filtered_out serial (k ∷ ks) h =
-    elim (k == serial) as (λ b. (k == serial) ≡ b
-    → is_in serial (cond (not b) (k ∷ filter (λ k. not (k == serial)) ks) (filter (λ k. not (k == serial)) ks)) ≡ true
-    → ⊥) [
-      | true ↦ λ t i. filtered_out serial ks i
-      | false ↦ λ t i. filtered_out serial ks
-          (sym (ap (λ b. b || is_in serial (filter (λ k. not (k == serial)) ks)) t) ∙ i)
-    ] refl h
+filtered_out serial (k ∷ ks) h = grind (arith, nat_tests, filtered_out serial ks)
 
 unlinked_out : (serial : ℕ) (content : Content)
     → is_in serial (links_of_content (unlinked_content serial content)) ≡ true → ⊥
@@ -117,9 +103,4 @@ invalidated_gone old new event serial below step served =
     let given : found.serial < up.next_serial = given_serial up found.serial found.key below found.there in
     let next_is : serves.mid.next_serial ≡ up.next_serial = sym (ap (λ (t : State). t.next_serial) mid_is) in
     let on : serves.mid.next_serial ≤ new.next_serial = (swept_follows serves).next in
-    subst (IsGone new) here
-    (gone_of new found.serial
-    record {
-      given = omega arith;
-      gone = ap (λ (es : Table Key). is_gone (at es found.serial)) keys_are ∙ swept_gone;
-    })
+    grind (arith, nat_tests, gone_of)

@@ -1,21 +1,19 @@
 -- Links, and keyrings that asks make, with the payloads hidden.
-use Rattle.std.proofs.Common.{[], ◌&&◌, ◌∙◌, ◌∷◌, ◌≡◌, ap, Bool, codes, Err, filter, find, length, List, nat_lt, None}
-use Rattle.std.proofs.Common.{Ok, Option, refl, Result, Some, suc, ℕ, ℤ}
-use Rattle.krs_types.specs.{KeyId.key_id_of, Refusing.◌>>=◌, declared.{context.Context.Context, errno.Errno.Errno}}
-use Rattle.krs_types.specs.declared.{errno.Errno.TheVariants.{EDEADLK, ELOOP, ENOSPC, EPERM}, key_id.KeyId.KeyId}
+use Rattle.std.proofs.Common.{[], ◌∙◌, ◌∷◌, ◌≡◌, ap, Bool, codes, Err, filter, find, length, List, None, Ok, Option}
+use Rattle.std.proofs.Common.{refl, Result, Some, suc, ℕ, ℤ}
+use Rattle.krs_types.specs.declared.{context.Context.Context, errno.Errno.Errno, key_id.KeyId.KeyId}
 use Rattle.krs_types.specs.declared.key_id.KeyId.TheVariants.{Process, Serial, Session, Thread, User, UserSession}
-use Rattle.krs_types.specs.declared.name.Name.{Name}
-use Rattle.krs_model.specs.Asks.{Changing.changed, Linked.link_check}
-use Rattle.krs_model.specs.Asks.Linked.{linked_into, name_of, nestable, unless, unlinked_content, without_link}
-use Rattle.krs_model.specs.Hiding.{blind, blind_content, blind_key, blind_keys, Hiding, over}
-use Rattle.krs_model.specs.Levels.{is_in, level, levels}
-use Rattle.krs_model.specs.Linking.{has_room, is_named, link_named, linked_content, linking, ring_links}
-use Rattle.krs_model.specs.Making.{made_at, made_for, process_made, special_ring, thread_made, thread_to, with_process}
-use Rattle.krs_model.specs.{Making.{with_thread, within_serials}, Outcome.Outcome, Possession.process_ring}
-use Rattle.krs_model.specs.Reach.{closes, has_chain, is_ring, is_some_in, links_of_key_at, nesting_depth}
-use Rattle.krs_model.specs.{State.{Content, Key, Links, Payload, State}, Sweep.links_of_key, Table.{at, Table}}
-use Rattle.krs_model.proofs.Hiding.{Accepted.blind_done, Keys.{alter_blind, put_blind, seen}}
-use Rattle.krs_model.proofs.Hiding.{Lookups.{blind_found, same_links}, Over.{after, either}}
+use Rattle.krs_types.specs.{declared.name.Name.Name, KeyId.key_id_of, Refusing.◌>>=◌}
+use Rattle.krs_model.specs.Asks.{Changing.changed, Linked.{link_check, linked_into, name_of, nestable}}
+use Rattle.krs_model.specs.{Asks.Linked.{unlinked_content, without_link}, Hiding.{blind, blind_content, blind_key}}
+use Rattle.krs_model.specs.{Hiding.{blind_keys, Hiding, over}, Levels.{is_in, level, levels}, Linking.is_named}
+use Rattle.krs_model.specs.{Linking.{link_named, linked_content, linking, ring_links}, Making.{made_at, made_for}}
+use Rattle.krs_model.specs.Making.{process_made, special_ring, thread_made, thread_to, with_process, with_thread}
+use Rattle.krs_model.specs.{Making.within_serials, Outcome.Outcome, Possession.process_ring, Reach.closes}
+use Rattle.krs_model.specs.{Reach.{has_chain, is_ring, is_some_in, links_of_key_at}, State.{Content, Key, Links}}
+use Rattle.krs_model.specs.{State.{Payload, State}, Sweep.links_of_key, Table.{at, Table}}
+use Rattle.krs_model.proofs.Hiding.{Accepted.blind_done, Keys.{alter_blind, put_blind, seen}, Lookups.blind_found}
+use Rattle.krs_model.proofs.Hiding.{Lookups.same_links, Over.{after, either}}
 
 -- a keyring links what it did
 pub same_ring_links : (h : List ℕ → List ℕ) (content : Content)
@@ -58,11 +56,7 @@ same_check : (hide : Hiding) (keys : Table Key) (ring : ℕ × Key) (links : Lis
     → link_check (blind_keys hide keys) (blind_found hide ring) links (blind_found hide found)
     ≡ link_check keys ring links found
 unfolding nestable
-same_check hide keys ring links found = λ i.
-    unless ring.1.closed EPERM
-    >>= (λ unclosed. (unless (same_closes hide keys found.0 ring.0 i) EDEADLK
-    >>= (λ acyclic. unless (same_chain hide keys found.0 nesting_depth i) ELOOP))
-    >>= (λ nests. has_room links (same_link_named hide keys (name_of found.1) links i)))
+same_check hide keys ring links found = search (same_closes, same_chain, same_link_named) depth 8
 
 linked_blind : (h : List ℕ → List ℕ) (displaced : ℕ → Bool) (serial : ℕ) (content : Content)
     → linked_content displaced serial (blind_content h content)
@@ -74,32 +68,22 @@ linked_blind h displaced serial (Links serials) = refl
 pub linking_blind : (hide : Hiding) (keys : Table Key) (name : Name) (serial n : ℕ) (v : Key)
     → linking (blind_keys hide keys) name serial (blind_key (hide n) v)
     ≡ blind_key (hide n) (linking keys name serial v)
-linking_blind hide keys name serial n v =
-    let same : (λ (k : ℕ). is_named name (at (blind_keys hide keys) k)) ≡ (λ (k : ℕ). is_named name (at keys k)) =
-    λ i k. same_named hide keys name k i in
-    ap (λ (displaced : ℕ → Bool). record v {
-      content = linked_content displaced serial (blind_content (hide n) v.content);
-    }) same
-    ∙ ap (λ (content : Content). record v { content = content })
-    (linked_blind (hide n) (λ k. is_named name (at keys k)) serial v.content)
+linking_blind hide keys name serial n v = search (same_named, linked_blind) depth 8
 
 pub linked_into_blind : (hide : Hiding) (s : State) (into found : ℕ × Key)
     → linked_into (blind hide s) (blind_found hide into) (blind_found hide found)
     ≡ over (blind hide) (linked_into s into found)
 linked_into_blind hide s into found =
-    ap (λ (r : Result (List ℕ) Errno). r >>= (λ links. link_check (blind hide s).keys
-    (blind_found hide into) links (blind_found hide found)
-    >>= (λ allowed. Ok (changed (blind hide s) into.0 (linking (blind hide s).keys (name_of found.1) found.0)))))
-    (same_ring_links (hide into.0) into.1.content)
-    ∙ after (blind hide) (ring_links into.1.content) _ _ (λ links _.
-    ap (λ (r : Result (Unit {0}) Errno). r
-    >>= (λ allowed. Ok (changed (blind hide s) into.0 (linking (blind hide s).keys (name_of found.1) found.0))))
-    (same_check hide s.keys into links found)
-    ∙ after (blind hide) (link_check s.keys into links found) _ _ (λ allowed _.
-    let to : Table Key → Result State Errno = λ es. Ok (record s { keys = es }) in
-    ap to (alter_blind hide s.keys into.0 (linking s.keys (name_of found.1) found.0)
-    (linking (blind hide s).keys (name_of found.1) found.0)
-    (λ v. linking_blind hide s.keys (name_of found.1) found.0 into.0 v))))
+    cc (
+      same_ring_links (hide into.0) into.1.content,
+      after (blind hide) (ring_links into.1.content) _ _ (λ links
+          _. ap (λ (r : Result (Unit {0}) Errno). r >>= (λ allowed. Ok (changed (blind hide s) into.0 (linking (blind
+          hide s).keys (name_of found.1) found.0)))) (same_check hide s.keys into links found) ∙ after (blind hide)
+          (link_check s.keys into links found) _ _ (λ allowed _. let to : Table Key → Result State Errno = λ es. Ok
+          (record s { keys = es }) in ap to (alter_blind hide s.keys into.0 (linking s.keys (name_of found.1) found.0)
+          (linking (blind hide s).keys (name_of found.1) found.0) (λ v. linking_blind hide s.keys (name_of found.1)
+          found.0 into.0 v)))),
+    )
 
 -- a store and a context, with the payloads of the store hidden
 abbrev pub blind_made : Hiding → State × Context → State × Context
@@ -140,10 +124,7 @@ made_blind hide s number c id = made_at_blind hide s number c (key_id_of id)
 pub within_blind : (hide : Hiding) (s : State) (r : Outcome)
     → within_serials (blind hide s) (over (blind_done hide) r) ≡ over (blind_done hide) (within_serials s r)
 within_blind hide s (Err e) = refl
-within_blind hide s (Ok done) =
-    either (blind_done hide) (nat_lt s.next_serial done.0.next_serial && nat_lt 2147483648 done.0.next_serial)
-    (Err ENOSPC)
-    (Ok done) (Err ENOSPC) (Ok (blind_done hide done)) refl refl
+within_blind hide s (Ok done) = search either depth 8
 
 unlinked_blind : (h : List ℕ → List ℕ) (serial : ℕ) (content : Content)
     → unlinked_content serial (blind_content h content) ≡ blind_content h (unlinked_content serial content)

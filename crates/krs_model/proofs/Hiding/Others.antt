@@ -1,19 +1,19 @@
 -- Each legal history has others that are asked alike.
-use Rattle.std.proofs.Common.{[], ◌&&◌, ◌∙◌, ◌∷◌, ◌≡◌, ap, Bool, cond, Err, false, length, List, nat_le, None, Ok}
-use Rattle.std.proofs.Common.{Option, option_map, refl, Result, Some, subst, sym, true, ℕ, ℤ}
-use Rattle.krs_types.specs.{Kind.{paid, paid_by, row_of}, declared.ask.{Answer.{Answer, TheVariants.Bytes}, Op.Op}}
-use Rattle.krs_types.specs.declared.{ask.Op.TheVariants.{Add, Read, Update}, errno.Errno.{Errno, TheVariants.EINVAL}}
-use Rattle.krs_types.specs.declared.{event.Event.Event, kind.Kind.{Kind, TheVariants.User}}
-use Rattle.krs_types.specs.declared.kind.PayloadRule.{PayloadRule, TheVariants.{NoBytes, SomeBytes}}
-use Rattle.krs_types.specs.declared.kind.Told.{Told, TheVariants.{ItsLinks, ItsPayload, Never}}
+use Rattle.std.proofs.Common.{[], ◌&&◌, ◌∙◌, ◌∷◌, ◌≡◌, ap, arith, Bool, cond, Err, false, length, List, nat_le, None}
+use Rattle.std.proofs.Common.{Ok, Option, option_map, refl, Result, Some, subst, sym, true, ℕ, ℤ}
+use Rattle.std.proofs.lemmas.Bool.Decides.{nat_tests}
+use Rattle.krs_types.specs.declared.ask.{Answer.{Answer, TheVariants.Bytes}, Op.{Op, TheVariants.{Add, Read, Update}}}
+use Rattle.krs_types.specs.declared.{errno.Errno.Errno, event.Event.Event, kind.Kind.{Kind, TheVariants.User}}
+use Rattle.krs_types.specs.{declared.kind.PayloadRule.{PayloadRule, TheVariants.{NoBytes, SomeBytes}}, Kind.paid}
+use Rattle.krs_types.specs.Kind.{paid_by, row_of}
 use Rattle.krs_model.specs.{Asks.Adding.add, Hiding.{blind, blind_answer, blind_ask, blind_content, blind_event}}
 use Rattle.krs_model.specs.Hiding.{blind_key, blind_keys, blind_outcome, blind_reply, FurtherEvents, hidden_added}
-use Rattle.krs_model.specs.Hiding.{hidden_at, Hiding, hiding, IsBlinded, NoEvents, serial_in, told, told_at, told_by}
-use Rattle.krs_model.specs.Lookup.{context_of, serial_of}
-use Rattle.krs_model.specs.{Notes.Telling.named, Outcome.Outcome, Secrecy.{Changes, HasOthers, putting}}
-use Rattle.krs_model.specs.{State.{Content, Key, Links, Payload, raised, State}, Table.{at, Table}}
-use Rattle.krs_model.proofs.Hiding.Keys.{at_blind}
-use Rattle.krs_model.proofs.Hiding.{Outcomes.outcome_blind, Sets.not_empty, Steps.{history_blinded, step_blind}}
+use Rattle.krs_model.specs.Hiding.{hidden_at, Hiding, hiding, IsBlinded, NoEvents, serial_in, told, told_at}
+use Rattle.krs_model.specs.{Lookup.{context_of, serial_of}, Notes.Telling.named, Outcome.Outcome, Secrecy.Changes}
+use Rattle.krs_model.specs.{Secrecy.{HasOthers, putting}, State.{Content, Key, Links, Payload, raised, State}}
+use Rattle.krs_model.specs.Table.{Table}
+use Rattle.krs_model.proofs.Hiding.{Keys.at_blind, Outcomes.outcome_blind, Sets.{lawful, not_empty, taken}}
+use Rattle.krs_model.proofs.Hiding.Steps.{history_blinded, step_blind}
 
 -- What is changed and then hidden is hidden as if it weren't changed.
 
@@ -25,9 +25,7 @@ content_twice h c same (Links serials) = refl
 keys_twice : (hide change : Hiding) → Changes hide change → (keys : Table Key)
     → blind_keys hide (blind_keys change keys) ≡ blind_keys hide keys
 keys_twice hide change ch [] = refl
-keys_twice hide change ch (e ∷ es) = λ i.
-    (e.0, record e.1 { content = content_twice (hide e.0) (change e.0) (ch.hidden e.0) e.1.content i })
-    ∷ keys_twice hide change ch es i
+keys_twice hide change ch (e ∷ es) = grind (arith, nat_tests, content_twice, keys_twice hide change ch es)
 
 blind_twice : (hide change : Hiding) → Changes hide change → (s : State)
     → blind hide (blind change s) ≡ blind hide s
@@ -55,9 +53,7 @@ ask_twice hide change ch s client context (Add type_name desc payload ring) =
     let same : add (blind change s) client context type_name desc put ring
     ≡ blind_outcome change s client context (Add type_name desc payload ring) meant =
     outcome_blind change s client context (Add type_name desc payload ring) ch.lawful in
-    ap (λ (bytes : List ℕ). Add type_name desc bytes ring)
-    (ap (λ (r : Outcome). hidden_added hide r put) same
-    ∙ added_twice hide change ch s client context type_name desc payload ring meant)
+    rw (same, added_twice hide change ch s client context type_name desc payload ring meant)
 ask_twice hide change ch s client context (Update id payload) =
     ap (λ (bytes : List ℕ). Update id bytes) (at_twice hide change ch (named s client context id) payload)
 ask_twice hide change ch s client context op = refl
@@ -65,20 +61,12 @@ ask_twice hide change ch s client context op = refl
 key_told_twice : (hide change : Hiding) → Changes hide change → (n : ℕ) (o : Option Key) (bytes : List ℕ)
     → told (hide n) (option_map (blind_key (change n)) o) (told (change n) o bytes) ≡ told (hide n) o bytes
 key_told_twice hide change ch n None bytes = refl
-key_told_twice hide change ch n (Some key) bytes =
-    elim (row_of key.kind).told as (λ (mark : Told). told_by (hide n) mark (told_by (change n) mark bytes)
-    ≡ told_by (hide n) mark bytes) [
-      | ItsPayload ↦ ch.hidden n bytes
-      | ItsLinks ↦ refl
-      | Never ↦ refl
-    ]
+key_told_twice hide change ch n (Some key) bytes = grind (arith, nat_tests)
 
 told_twice : (hide change : Hiding) → Changes hide change → (keys : Table Key) (serial : Result ℕ Errno)
     (bytes : List ℕ)
     → told_at hide (blind_keys change keys) serial (told_at change keys serial bytes) ≡ told_at hide keys serial bytes
-told_twice hide change ch keys (Ok n) bytes =
-    ap (λ (o : Option Key). told (hide n) o (told (change n) (at keys n) bytes)) (at_blind change keys n)
-    ∙ key_told_twice hide change ch n (at keys n) bytes
+told_twice hide change ch keys (Ok n) bytes = grind (arith, nat_tests, at_blind, key_told_twice)
 told_twice hide change ch keys (Err e) bytes = refl
 
 answer_twice : (hide change : Hiding) → Changes hide change → (s : State) (client context : ℕ) (op : Op)
@@ -131,32 +119,13 @@ alike_blinded hide change _ _ _ _ ch (FurtherEvents s next end event events othe
 pub has_others : HasOthers
 has_others hide change start end events ch legal =
     let t = history_blinded change start end events legal in
-    let r = alike_blinded hide change start end events t.0 ch t.1 in (
-      t.0,
-      t.1,
-      record {
-        starts = sym (blind_twice hide change ch start);
-        end = end;
-        other_end = blind change end;
-        blinded = r.0;
-        other_blinded = r.0;
-        first = r.1;
-        second = r.2;
-        asks = refl;
-      },
-    )
+    let r = alike_blinded hide change start end events t.0 ch t.1 in
+    search blind_twice depth 8
 
 -- Any payload that a user key may have may take the place of another.
 
 abbrev fits : List ℕ → Bool
 fits bytes = nat_le 1 (length bytes) && nat_le (length bytes) 32767
-
-abbrev taken : Bool → Result (Unit {0}) Errno
-taken b = cond b (Ok tt) (Err EINVAL)
-
-fits_if : (b : Bool) → taken b ≡ Ok tt → b ≡ true
-fits_if true h = refl
-fits_if false h = absurd (cc)
 
 paid_alike : (rule : PayloadRule) (bytes payload : List ℕ) → fits bytes ≡ true → fits payload ≡ true
     → paid_by rule payload ≡ paid_by rule bytes
@@ -181,8 +150,4 @@ put_hidden false false bytes payload is fit = refl
 
 pub puts_any : (secret : ℕ → Bool) (payload : List ℕ) → paid User payload ≡ Ok tt
     → Changes (hiding secret) (putting secret payload)
-puts_any secret payload taken_is =
-    let fit : fits payload ≡ true = fits_if (fits payload) taken_is in record {
-      lawful = λ n kind bytes. put_paid kind bytes payload (secret n) (fits bytes) refl fit;
-      hidden = λ n bytes. put_hidden (secret n) (fits bytes) bytes payload refl fit;
-    }
+puts_any secret payload taken_is = search (lawful, put_paid, put_hidden) depth 8

@@ -1,16 +1,14 @@
 -- Who may read a key: what an accepted READ has found.
-use Rattle.std.proofs.Common.{◌&&◌, ◌||◌, ◌≡◌, ◌≢◌, ◌⊎◌, Bool, false, inl, inr, List, Ok, refl, subst, true, ℕ, ℤ}
-use Rattle.krs_types.specs.{Kind.row_of, Refusing.◌>>=◌, Rights.{has_all, READ, SEARCH}}
-use Rattle.krs_types.specs.declared.ask.Answer.{Answer, TheVariants.Bytes}
-use Rattle.krs_types.specs.declared.{ask.Op.TheVariants.Read, context.Context.Context}
-use Rattle.krs_types.specs.declared.kind.Told.{Told, TheVariants.{ItsLinks, ItsPayload, Never}}
-use Rattle.krs_types.specs.declared.rights.Want.TheVariants.{ToRead}
-use Rattle.krs_model.specs.{Access.rights_on, Asks.Reading.{read, readable, told_as}}
-use Rattle.krs_model.specs.Lookup.{context_of, look_up, serial_of}
-use Rattle.krs_model.specs.{Outcome.Outcome, Possession.possessed, Revocation.Names, Secrecy.{MayBeRead, ReadsByRight}}
-use Rattle.krs_model.specs.State.{Content, Key, raised, State}
-use Rattle.krs_model.proofs.Asks.Later.{bind_ok, same_ok}
-use Rattle.krs_model.proofs.{History.Revocations.accepted_came, Lookups.{Laws.look_up_usable, Serials.found_serial}}
+use Rattle.std.proofs.Common.{◌&&◌, ◌||◌, ◌≡◌, ◌≢◌, ◌⊎◌, arith, Bool, false, inl, inr, List, Ok, refl, subst, true, ℕ}
+use Rattle.std.proofs.{Common.ℤ, lemmas.Bool.Decides.nat_tests}
+use Rattle.krs_types.specs.declared.ask.{Answer.{Answer, TheVariants.Bytes}, Op.TheVariants.Read}
+use Rattle.krs_types.specs.declared.{context.Context.Context, kind.Told.{Told, TheVariants.{ItsLinks, ItsPayload}}}
+use Rattle.krs_types.specs.{declared.{kind.Told.TheVariants.Never, rights.Want.TheVariants.ToRead}, Refusing.◌>>=◌}
+use Rattle.krs_model.specs.{Access.rights_on, Asks.Reading.{read, readable, told_as}, Lookup.{context_of, look_up}}
+use Rattle.krs_model.specs.{Lookup.serial_of, Outcome.Outcome, Possession.possessed, Revocation.Names}
+use Rattle.krs_model.specs.{Secrecy.{MayBeRead, ReadsByRight}, State.{Content, Key, State}}
+use Rattle.krs_model.proofs.{Asks.Later.{bind_ok, same_ok}, History.Revocations.accepted_came}
+use Rattle.krs_model.proofs.Lookups.{Laws.look_up_usable, Serials.found_serial}
 
 tells : (told : Told) (content : Content) (bytes : List ℕ) → told_as told content ≡ Ok bytes → told ≢ Never
 tells ItsPayload content bytes h = λ is. absurd (cc)
@@ -46,17 +44,9 @@ may_be_read s new client context id answer serial names h =
     let rights = rights_on key c.caller mine in
     let here : n ≡ serial =
     same_ok (serial_of s c id) n serial (found_serial s c id ToRead found.0 found.1) names.named in
-    subst (MayBeRead s c) here (record {
-      key = key;
-      there = usable.there;
-      live = usable.live;
-      running = usable.running;
-      told = tells (row_of key.kind).told key.content told.0 told.1;
-      granted = either_right (has_all rights READ) mine (has_all rights SEARCH) usable.granted;
-    })
+    grind (arith, nat_tests, tells, either_right)
 
 pub reads_by_right : (start : State) → ReadsByRight start
 reads_by_right start before old legal reading end serial step reads =
     let came = accepted_came old end reading (Read reads.id) step reads.asked reads.accepted in
-    may_be_read (raised old reading.moment) came.serves.mid reading.lane reading.ask.context reads.id came.answer serial
-    reads.names came.serves.meant
+    search may_be_read depth 8

@@ -1,11 +1,10 @@
 -- A refusal does not hang on a payload.
-use Rattle.std.proofs.Common.{[], ◌∙◌, ◌∷◌, ◌≡◌, ap, Err, List, Ok, refl, Result, sym, ℕ, ℤ}
-use Rattle.krs_types.specs.{Kind.paid, Refusing.◌>>=◌, Rights.WRITE, declared.ask.Answer.{Answer, TheVariants.Nothing}}
-use Rattle.krs_types.specs.declared.{errno.Errno.Errno, kind.Kind.Kind, rights.Want.TheVariants.Granted}
-use Rattle.krs_model.specs.Asks.{Adding.add, Changing.{changed, updatable, update, updated}}
-use Rattle.krs_model.specs.{Hiding.{blind, blind_content, blind_keys, Hiding, over}, Lookup.{context_of, look_up}}
-use Rattle.krs_model.specs.{Outcome.Outcome, State.{Content, Key, Links, Payload, State}, Table.Table}
-use Rattle.krs_model.proofs.Hiding.{Accepted.{accepted, blind_done}, Adding.{add_blind, IsHidden}}
+use Rattle.std.proofs.{Common.{[], ◌∷◌, ◌≡◌, arith, Err, List, Ok, refl, Result, ℕ, ℤ}, lemmas.Bool.Decides.nat_tests}
+use Rattle.krs_types.specs.{declared.{ask.Answer.Answer, errno.Errno.Errno, kind.Kind.Kind}, Kind.paid}
+use Rattle.krs_types.specs.Refusing.{◌>>=◌}
+use Rattle.krs_model.specs.{Asks.{Adding.add, Changing.update}, Hiding.{blind, blind_content, blind_keys, Hiding}}
+use Rattle.krs_model.specs.{State.{Content, Key, Links, Payload, State}, Table.Table}
+use Rattle.krs_model.proofs.Hiding.Adding.{add_blind, IsHidden}
 
 -- what hides nothing
 abbrev bare : Hiding
@@ -31,9 +30,7 @@ add_refused s client context type_name desc payload other ring e fits refused =
     let meant = add s client context type_name desc payload ring in
     let none : (done : State × Answer) → meant ≡ Ok done → IsHidden bare payload other done = λ done is.
     absurd (cc) in
-    ap (λ (t : State). add t client context type_name desc other ring) (sym (bare_state s))
-    ∙ (add_blind bare s client context type_name desc payload other ring fits none
-    ∙ ap (over (blind_done bare)) refused)
+    rw (← (bare_state s), add_blind bare s client context type_name desc payload other ring fits none, refused)
 
 -- where each refusal of a step is one of another step, each refusal of what ends with the one is one with the other
 refused_with :
@@ -48,11 +45,4 @@ pub update_refused :
     → ((kind : Kind) → paid kind other ≡ paid kind payload)
     → update s client context id payload ≡ Err e → update s client context id other ≡ Err e
 unfolding update
-update_refused s client context id payload other e fits =
-    refused_with (context_of s client context) _ _ e (λ c.
-    refused_with (look_up s c id (Granted WRITE)) _ _ e (λ found.
-    refused_with (updatable found.1.kind) _ _ e (λ kind is.
-    let end : List ℕ → Unit {0} → Outcome =
-    λ bytes fit. accepted (changed s found.0 (updated bytes)) Nothing in
-    ap (λ (r : Result (Unit {0}) Errno). r >>= end other) (fits kind)
-    ∙ refused_with (paid kind payload) (end payload) (end other) e (λ fit no. absurd (cc)) is)))
+update_refused s client context id payload other e fits = grind (arith, nat_tests, refused_with)

@@ -1,12 +1,11 @@
 -- What a search finds with the payloads hidden.
 use Rattle.std.proofs.Common.{[], ◌∙◌, ◌∷◌, ◌≡◌, ap, cond, find, flat_map, List, not, refl, ℕ}
 use Rattle.std.specs.List.{list_any}
-use Rattle.krs_types.specs.{Refusing.or_refuse, declared.{context.Context.Context, name.Name.Name}}
-use Rattle.krs_model.specs.{Access.is_over, Hiding.{blind, blind_keys, Hiding}, Levels.levels}
-use Rattle.krs_model.specs.Possession.{attached_with, possessed, process_ring}
-use Rattle.krs_model.specs.Search.{entered, fault, found, found_by, grants_search, is_answer, is_denied, is_expired}
-use Rattle.krs_model.specs.Search.{is_match, is_open, is_revoked, open_links, requested, requested_by, searched}
-use Rattle.krs_model.specs.{Search.{Searcher, searcher_with, sought}, State.State}
+use Rattle.krs_types.specs.{declared.{context.Context.Context, name.Name.Name}, Refusing.or_refuse}
+use Rattle.krs_model.specs.{Access.is_over, Hiding.{blind, blind_keys, Hiding}, Levels.levels, Possession.possessed}
+use Rattle.krs_model.specs.{Possession.process_ring, Search.{entered, fault, found, found_by, grants_search}}
+use Rattle.krs_model.specs.Search.{is_answer, is_denied, is_expired, is_match, is_open, is_revoked, open_links}
+use Rattle.krs_model.specs.{Search.{requested, requested_by, searched, Searcher, searcher_with, sought}, State.State}
 use Rattle.krs_model.proofs.Hiding.{Keys.seen, Lookups.{same_links, same_possessed}}
 
 -- one who searches keys with their payloads hidden
@@ -65,15 +64,10 @@ same_searcher hide s c = λ i. record {
 pub same_found : (hide : Hiding) (s : State) (c : Context) (head : ℕ) (name : Name)
     → found (blind hide s) c head name ≡ found s c head name
 unfolding found
-same_found hide s c head name =
-    ap (λ (by : Searcher). found_by by head name) (same_searcher hide s c)
-    ∙ same_found_by hide (searcher_with s.keys s.clock c (process_ring s c.process)) head name
+same_found hide s c head name = search (same_searcher, same_found_by) depth 8
 
 -- and so does a request
 pub same_requested : (hide : Hiding) (s : State) (c : Context) (name : Name)
     → requested (blind hide s) c name ≡ requested s c name
 unfolding requested
-same_requested hide s c name =
-    let heads = attached_with c (process_ring s c.process) in
-    ap (λ (by : Searcher). requested_by by heads name) (same_searcher hide s c)
-    ∙ same_requested_by hide (searcher_with s.keys s.clock c (process_ring s c.process)) heads name
+same_requested hide s c name = search (same_searcher, same_requested_by) depth 8

@@ -1,15 +1,14 @@
 -- Steps and histories with the payloads hidden.
-use Rattle.std.proofs.Common.{[], ⊎_elim, ◌++◌, ◌∙◌, ◌∷◌, ◌≡◌, ap, Bool, cond, Err, filter, inl, inr, IsOk, List, not}
-use Rattle.std.proofs.Common.{Ok, refl, Result, subst, sym, ℕ}
-use Rattle.krs_types.specs.{Growth.grows, declared.ask.Answer.{Answer, TheVariants.{Bytes, Nothing, Number}}}
-use Rattle.krs_types.specs.declared.ask.Op.{Op, TheVariants.{Add, GetId, Watch}}
-use Rattle.krs_types.specs.declared.{errno.Errno.Errno, event.Event.Event, note.KeyEvent.TheVariants.{Linked, Updated}}
-use Rattle.krs_model.specs.Hiding.{blind, blind_answer, blind_ask, blind_event, blind_keys, blind_outcome, blind_reply}
-use Rattle.krs_model.specs.{Hiding.{FurtherEvents, Hides, Hiding, IsBlinded, NoEvents}, History.IsLegal}
-use Rattle.krs_model.specs.{Lookup.{context_of, serial_of}, Notes.Posting.{dropped_watches, Post, posted_in, posts}}
-use Rattle.krs_model.specs.Notes.Telling.{about, about_added, about_link, ended_by, named, notes_of}
-use Rattle.krs_model.specs.{Outcome.Outcome, Queues.queues_of, State.{Key, raised, State}}
-use Rattle.krs_model.specs.{Step.{Ends, LacksMemory, outcome_of, posts_by, Serves, Step, watches_left}, Table.Table}
+use Rattle.std.proofs.Common.{[], ◌∙◌, ◌∷◌, ◌≡◌, ap, arith, Err, filter, IsOk, List, not, Ok, refl, Result, subst, ℕ}
+use Rattle.std.proofs.lemmas.Bool.Decides.{nat_tests}
+use Rattle.krs_types.specs.declared.ask.{Answer.{Answer, TheVariants.{Bytes, Nothing, Number}}, Op.Op}
+use Rattle.krs_types.specs.declared.{ask.Op.TheVariants.{Add, GetId, Watch}, errno.Errno.Errno, event.Event.Event}
+use Rattle.krs_types.specs.Growth.{grows}
+use Rattle.krs_model.specs.Hiding.{blind, blind_answer, blind_ask, blind_event, blind_keys, blind_outcome}
+use Rattle.krs_model.specs.{Hiding.{blind_reply, FurtherEvents, Hides, Hiding, IsBlinded, NoEvents}, History.IsLegal}
+use Rattle.krs_model.specs.{Lookup.{context_of, serial_of}, Notes.{Posting.dropped_watches, Telling.about_added}}
+use Rattle.krs_model.specs.{Notes.Telling.{ended_by, named, notes_of}, Outcome.Outcome, State.{Key, raised, State}}
+use Rattle.krs_model.specs.{Step.{Ends, posts_by, Serves, Step, watches_left}, Table.Table}
 use Rattle.krs_model.proofs.Hiding.{Outcomes.outcome_blind, Sweeps.{same_there, sweep_blind}}
 use Rattle.krs_model.specs.Queues as queues
 
@@ -18,9 +17,7 @@ added_notes : (hide : Hiding) (keys : Table Key) (ring : Result ℕ Errno) (answ
     → about_added (blind_keys hide keys) ring answer ≡ about_added keys ring answer
 added_notes hide keys ring Nothing = refl
 added_notes hide keys ring (Bytes bytes) = refl
-added_notes hide keys ring (Number serial) =
-    ap (λ (b : Bool). cond b (about Updated (Ok serial)) (about_link Linked ring (Ok serial)))
-    (same_there hide keys serial)
+added_notes hide keys ring (Number serial) = search same_there depth 8
 
 same_notes : (hide : Hiding) (s : State) (client context : ℕ) (op : Op) (answer : Answer)
     → notes_of (blind hide s) client context (blind_ask hide s client context op)
@@ -55,16 +52,7 @@ same_posts :
     → posts_by (blind hide s) client context (blind_ask hide s client context op)
     (blind_answer hide s client context op answer) (blind_keys hide keys) ≡ posts_by s client context op answer keys
 same_posts hide s client context op answer keys hides =
-    let meant = outcome_of s client context op in
-    let left : watches_left (outcome_of (blind hide s) client context (blind_ask hide s client context op))
-    ≡ watches_left meant =
-    ap watches_left (outcome_blind hide s client context op hides) ∙ same_left hide s client context op meant in
-    let dropped : dropped_watches (blind_keys hide keys)
-    (watches_left (outcome_of (blind hide s) client context (blind_ask hide s client context op)))
-    ≡ dropped_watches keys (watches_left meant) =
-    ap (dropped_watches (blind_keys hide keys)) left ∙ same_dropped hide keys (watches_left meant) in
-    λ i. posts (queues_of s) (same_notes hide s client context op answer i)
-    (same_ended hide s client context op i ++ dropped i)
+    grind (arith, nat_tests, outcome_blind, same_left, same_dropped, same_notes, same_ended)
 
 serves_blind :
     (hide : Hiding) (s new : State) (client context : ℕ) (op : Op) (answer : Answer) → Hides hide
@@ -77,9 +65,7 @@ serves_blind hide s new client context op answer hides serves = record {
   meant = outcome_blind hide s client context op hides
       ∙ ap (blind_outcome hide s client context op) serves.meant;
   sweep = sweep_blind hide serves.mid serves.swept serves.sweep;
-  posted = ap (blind hide) serves.posted
-      ∙ ap (λ (ps : List Post). posted_in ps (blind hide serves.swept))
-      (sym (same_posts hide s client context op answer serves.swept.keys hides));
+  posted = grind (arith, nat_tests, same_posts);
 }
 
 ok_blind : (hide : Hiding) (s : State) (client context : ℕ) (op : Op) (meant : Outcome) → IsOk meant
@@ -95,16 +81,7 @@ ends_blind :
 ends_blind hide s new client context op (Ok answer) hides ends =
     serves_blind hide s new client context op answer hides ends
 ends_blind hide s new client context op (Err e) hides ends =
-    let same = outcome_blind hide s client context op hides in
-    let meant = outcome_of s client context op in (
-      ⊎_elim (λ (refused : meant ≡ Err e). inl (same ∙ ap (blind_outcome hide s client context op) refused))
-          (λ (lacks : LacksMemory op e meant). inr (
-            lacks.0,
-            same_grows hide s client context op ∙ lacks.1,
-            subst (λ (r : Outcome). IsOk r) (sym same) (ok_blind hide s client context op meant lacks.2),
-          )) ends.0,
-      ap (blind hide) ends.1,
-    )
+    grind (arith, nat_tests, outcome_blind, same_grows, ok_blind)
 
 -- a step with the payloads hidden is a step
 pub step_blind : (hide : Hiding) (old new : State) (event : Event) → Hides hide → Step old event new

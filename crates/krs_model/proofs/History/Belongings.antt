@@ -1,26 +1,24 @@
 -- Whose contexts are, and what is left of a client that has left.
-use Rattle.std.proofs.Common.{[], ⊎_elim, ◌++◌, ◌==◌, ◌∙◌, ◌∷◌, ◌≡◌, ◌≢◌, ◌⊎◌, ap, append-nil, append_assoc, arith}
-use Rattle.std.proofs.Common.{Bool, cond, Err, false, filter, inl, inr, is_ok, IsOk, List, nat_cmp, None, not, Ok}
-use Rattle.std.proofs.Common.{Option, option_map, refl, Result, Some, subst, sym, true, true≢false, ℕ}
-use Rattle.std.proofs.lemmas.{Bool.Decides.nat_tests, Option.{none-some, same_Some}}
+use Rattle.std.proofs.Common.{[], ⊎_elim, ◌++◌, ◌==◌, ◌∙◌, ◌∷◌, ◌≡◌, ◌≢◌, ◌⊎◌, ap, append_assoc, arith, Bool, cond}
+use Rattle.std.proofs.Common.{Err, false, filter, inr, is_ok, IsOk, List, nat_cmp, None, not, Ok, Option, option_map}
+use Rattle.std.proofs.{Common.{refl, Result, Some, subst, sym, true, true≢false, ℕ}, lemmas.Bool.Decides.nat_tests}
+use Rattle.std.proofs.lemmas.Option.{none-some, same_Some}
 use Rattle.std.specs.BTreeMap.{is_at}
 use Rattle.krs_types.specs.declared.ask.{Answer.{Answer, TheVariants.Nothing}, Op.{Op, TheVariants.{Hello, Leave}}}
 use Rattle.krs_types.specs.declared.{caller.Caller.Caller, context.{Context.Context, UidRings.UidRings}}
-use Rattle.krs_types.specs.declared.{errno.Errno.{Errno, TheVariants.ESRCH}, event.Event.Event, note.Record.Record}
-use Rattle.krs_types.specs.{Growth.grows, Refusing.or_refuse}
-use Rattle.krs_model.specs.Asks.{Entering.without_thread, Invalidating.context_without, Leaving.left}
-use Rattle.krs_model.specs.{Belonging.{HasGreeted, HasNothing, HasStayed}, Confidentiality.KeepsPrivate}
-use Rattle.krs_model.specs.{History.IsLegal, Lookup.{context_of, if_own}, Notes.Posting.{after_note, after_notes}}
-use Rattle.krs_model.specs.{Notes.Posting.records_for, Revocation.Reads, Sound.IsSound, State.{Queue, raised}}
-use Rattle.krs_model.specs.{State.{starting_at, State}, Step.{Ends, LacksMemory, outcome_of, posts_by, Serves, Step}}
-use Rattle.krs_model.specs.Table.{alter, at, IsDistinct, put, Table}
+use Rattle.krs_types.specs.declared.{errno.Errno.Errno, event.Event.Event, note.Record.Record}
+use Rattle.krs_model.specs.{Asks.{Entering.without_thread, Leaving.left}, Belonging.{HasGreeted, HasNothing}}
+use Rattle.krs_model.specs.{Belonging.HasStayed, Confidentiality.KeepsPrivate, History.IsLegal, Lookup.context_of}
+use Rattle.krs_model.specs.{Lookup.if_own, Notes.Posting.{after_note, after_notes, records_for}, Revocation.Reads}
+use Rattle.krs_model.specs.{Sound.IsSound, State.{Queue, raised, starting_at, State}, Step.{Ends, LacksMemory}}
+use Rattle.krs_model.specs.{Step.{outcome_of, posts_by, Serves, Step}, Table.{alter, at, IsDistinct, put, Table}}
 use Rattle.krs_model.proofs.Asks.Houses.{Alters, Begins, Departs, Detaches, entering, Enters, EntersAs, Execs, Exits}
 use Rattle.krs_model.proofs.Asks.{Houses.{Forked, Houses, Named, Rings, Same, StaysWhose, Threads}, Later.bind_ok}
 use Rattle.krs_model.proofs.{Asks.{Later.{same_ok, same_state}, Laws.law_of}, Isolation.Histories.keeps_from_nothing}
 use Rattle.krs_model.proofs.{Isolation.Histories.private_legal, Lookups.Serials.own_there, Notes.Called.served_at}
-use Rattle.krs_model.proofs.{Reach.Levels.same_is, Sound.Changes.{at_change, at_put, IsChanged, IsPut}}
-use Rattle.krs_model.proofs.{Sound.Steps.{start_sound, step_sound}, Tables.{Changes.at_map, Distinct.alter_distinct}}
-use Rattle.krs_model.proofs.Tables.{Distinct.at_filter_some, Entries.{rises_distinct, without_was}}
+use Rattle.krs_model.proofs.{Reach.Levels.same_is, Sound.{Changes.at_change, Steps.{legal_keeps, start_sound}}}
+use Rattle.krs_model.proofs.Tables.{Changes.at_map, Distinct.{alter_distinct, at_filter_some}, Each.put_is}
+use Rattle.krs_model.proofs.Tables.Entries.{rises_distinct, without_was}
 
 -- ---- what is left of a client
 
@@ -44,10 +42,7 @@ apart k client h e = true≢false (sym h ∙ ap not (same_is k client e))
 
 left_nothing : (s : State) (client : ℕ) → HasNothing client (left s client)
 unfolding left
-left_nothing s client = record {
-  contexts = λ n c there. apart c.client client (passed (λ e. not (e.1.client == client)) s.contexts n c there).1;
-  queues = λ n q there. apart q.client client (passed (λ e. not (e.1.client == client)) s.queues n q there).1;
-}
+left_nothing s client = grind (arith, nat_tests, apart, passed)
 
 pub notes_client : (notes : List Record) (queue : Queue) → (after_notes notes queue).client ≡ queue.client
 notes_client [] queue = refl
@@ -94,9 +89,7 @@ refused_leave s client context e h = true≢false (ap is_ok h)
 never_refused :
     (s : State) (client context : ℕ) (op : Op) (e : Errno) → op ≡ Leave
     → (outcome_of s client context op ≡ Err e) ⊎ LacksMemory op e (outcome_of s client context op) → ⊥
-never_refused s client context op e is refused =
-    ⊎_elim (λ unlike. refused_leave s client context e (subst (λ (o : Op). outcome_of s client context o ≡ Err e) is unlike))
-    (λ lacks. true≢false (sym lacks.1 ∙ ap grows is)) refused
+never_refused s client context op e is refused = grind (arith, nat_tests, refused_leave, true≢false)
 
 ended_leaves :
     (s new : State) (client context : ℕ) (op : Op) (reply : Result Answer Errno) → op ≡ Leave
@@ -122,23 +115,13 @@ abbrev Whence : Table Context → ℕ → Op → Context → Type 0
 Whence old client op c = ((c.client ≡ client) × (op ≡ Hello c.caller)) ⊎ WasThere old c
 
 own_is_client : (client : ℕ) (found c : Context) → if_own client found ≡ Ok c → c.client ≡ client
-own_is_client client found c h =
-    elim (found.client == client) as
-    (λ b. (found.client == client) ≡ b → cond b (Ok found) (Err ESRCH) ≡ Ok c → c.client ≡ client) [
-      | true ↦ λ t i.
-          let same : found ≡ c = same_ok (Ok found) found c refl i in
-          let is : found.client ≡ client = grind (arith, nat_tests) in
-          ap (λ (d : Context). d.client) (sym same) ∙ is
-      | false ↦ λ t i. cc
-    ] refl h
+own_is_client client found c h = grind (arith, nat_tests, same_ok)
 
 -- a context that a client may ask in is its own
 pub own_client :
     (s : State) (client number : ℕ) (c : Context) → context_of s client number ≡ Ok c → c.client ≡ client
 unfolding context_of
-own_client s client number c h =
-    let there = bind_ok (or_refuse ESRCH (at s.contexts number)) (if_own client) c h in
-    own_is_client client there.0 c there.2
+own_client s client number c h = grind (arith, nat_tests, bind_ok, own_is_client)
 
 changed_was :
     (f : Context → Context) (o : Option Context) (c : Context) → StaysWhose f → option_map f o ≡ Some c
@@ -155,31 +138,13 @@ changed_was f (Some v) c stays h =
 alter_was :
     (es : Table Context) (n : ℕ) (f : Context → Context) → StaysWhose f → (m : ℕ) (c : Context)
     → at (alter es n f) m ≡ Some c → WasThere es c
-alter_was es n f stays m c there =
-    ⊎_elim
-    (λ (r : IsChanged es n f m).
-    let w = changed_was f (at es m) c stays (sym r.1 ∙ there) in (m, w.0, w.1, w.2, w.3))
-    (λ same. (m, c, sym same ∙ there, refl, refl)) (at_change es n m f)
-
-put_is :
-    (es : Table Context) (n m : ℕ) (new c : Context) → at (put es n new) m ≡ Some c
-    → (new ≡ c) ⊎ (at es m ≡ Some c)
-put_is es n m new c there =
-    ⊎_elim (λ (r : IsPut es n new m). inl (same_Some new c (sym r.1 ∙ there))) (λ same. inr (sym same ∙ there))
-    (at_put es n m new)
+alter_was es n f stays m c there = grind (arith, nat_tests, changed_was, at_change)
 
 named_whence :
     (s : State) (client : ℕ) (op : Op) (caller : Caller) (session : Option ℕ) (m : ℕ) (c : Context)
     → op ≡ Hello caller → at (put s.contexts s.next_context (entering s client caller session)) m ≡ Some c
     → Whence s.contexts client op c
-named_whence s client op caller session m c is there =
-    ⊎_elim
-    (λ (first : entering s client caller session ≡ c). inl (
-      ap (λ (d : Context). d.client) (sym first),
-      is ∙ ap (λ (d : Context). Hello d.caller) first,
-    ))
-    (λ was. inr (m, c, was, refl, refl))
-    (put_is s.contexts s.next_context m (entering s client caller session) c there)
+named_whence s client op caller session m c is there = grind (arith, nat_tests, put_is)
 
 enters_whence :
     (s : State) (client context : ℕ) (op : Op) (caller : Caller) (session : Option ℕ) (m : ℕ) (c : Context)
@@ -189,16 +154,7 @@ enters_whence :
 enters_whence s client context op _ _ m c (Named caller rings is known) there =
     named_whence s client op caller rings.session m c is there
 enters_whence s client context op _ _ m c (Forked d is own) there =
-    ⊎_elim
-    (λ (first : entering s client d.caller d.session ≡ c). inr (
-      context,
-      d,
-      own_there s client context d own,
-      ap (λ (z : Context). z.client) (sym first) ∙ sym (own_client s client context d own),
-      ap (λ (z : Context). z.caller) (sym first),
-    ))
-    (λ was. inr (m, c, was, refl, refl))
-    (put_is s.contexts s.next_context m (entering s client d.caller d.session) c there)
+    grind (arith, nat_tests, own_there, own_client, put_is)
 
 houses_whence :
     (s : State) (client context : ℕ) (op : Op) (contexts : Table Context) (processes : Table (Option ℕ))
@@ -211,15 +167,7 @@ houses_whence s client context op _ _ _ distinct (Begins caller session rings ro
 houses_whence s client context op _ _ _ distinct (Enters caller session room who left) m c there =
     enters_whence s client context op caller session m c who there
 houses_whence s client context op _ _ _ distinct (Threads d room is own left) m c there =
-    ⊎_elim
-    (λ (first : without_thread d ≡ c). inr (
-      context,
-      d,
-      own_there s client context d own,
-      ap (λ (z : Context). z.client) (sym first),
-      ap (λ (z : Context). z.caller) (sym first),
-    ))
-    (λ was. inr (m, c, was, refl, refl)) (put_is s.contexts s.next_context m (without_thread d) c there)
+    grind (arith, nat_tests, own_there, put_is)
 houses_whence s client context op _ _ _ distinct (Alters d f own stays) m c there =
     inr (alter_was s.contexts context f stays m c there)
 houses_whence s client context op _ _ _ distinct (Rings d n own) m c there = inr (m, c, there, refl, refl)
@@ -229,10 +177,7 @@ houses_whence s client context op _ _ _ distinct (Execs d is own) m c there =
     (record { client = λ v. refl; process = λ v. refl; caller = λ v. refl }) m c
     (at_filter_some _ one m c (alter_distinct s.contexts context without_thread distinct) there))
 houses_whence s client context op _ _ _ distinct (Detaches d id gone is own found) m c there =
-    let f = context_without gone.0 in
-    let w = changed_was f (at s.contexts m) c (record { client = λ v. refl; process = λ v. refl; caller = λ v. refl })
-    (sym (at_map f s.contexts m) ∙ there) in
-    inr (m, w.0, w.1, w.2, w.3)
+    grind (arith, nat_tests, changed_was, at_map)
 houses_whence s client context op _ _ _ distinct (Exits d is own) m c there =
     inr (m, c, without_was s.contexts context m c distinct there, refl, refl)
 houses_whence s client context op _ _ _ distinct (Departs is) m c there =
@@ -251,8 +196,7 @@ ended_comes s new client context op (Ok answer) distinct serves m c there =
     let same = served_contexts s new client context op answer serves in
     let mid : at serves.mid.contexts m ≡ Some c = sym (ap (λ (es : Table Context). at es m) same) ∙ there in
     let houses = ((law_of s client context op).fares.meets serves.mid answer serves.meant).houses in
-    ⊎_elim (λ named. inl (named.0, named.1, refl)) (λ was. inr was)
-    (houses_whence s client context op serves.mid.contexts serves.mid.processes serves.mid.uids distinct houses m c mid)
+    grind (arith, nat_tests, houses_whence)
 ended_comes s new client context op (Err e) distinct ends m c there =
     inr (m, c, ap (λ (t : State). at t.contexts m) (sym ends.1) ∙ there, refl, refl)
 
@@ -260,9 +204,7 @@ step_comes :
     (old new : State) (event : Event) → IsSound old → Step old event new → (m : ℕ) (c : Context)
     → at new.contexts m ≡ Some c → Comes old event.lane event.ask.op event.reply c
 unfolding Step
-step_comes old new event sound step m c there =
-    ended_comes (raised old event.moment) new event.lane event.ask.context event.ask.op event.reply
-    (rises_distinct old.contexts sound.housed.contexts_rise) step m c there
+step_comes old new event sound step m c there = grind (arith, nat_tests, ended_comes, rises_distinct)
 
 pub stayed_more :
     (client : ℕ) (events : List Event) (event : Event) → HasStayed client events
@@ -301,22 +243,10 @@ greeted_on old new past event sound known step number c there =
     (subst (λ (z : Caller). HasGreeted was.1.client z past) (sym was.4) (known was.0 was.1 was.2))) unlike)
     (step_comes old new event sound step number c there)
 
-legal_greeted :
-    (start end : State) (past events : List Event) → IsSound start → AreGreeted start past → IsLegal start events end
-    → AreGreeted end (past ++ events)
-unfolding IsLegal
-legal_greeted start end past [] sound known legal number c there =
-    subst (HasGreeted c.client c.caller) (sym (append-nil past))
-    (known number c (ap (λ (t : State). at t.contexts number) legal ∙ there))
-legal_greeted start end past (event ∷ events) sound known legal number c there =
-    subst (HasGreeted c.client c.caller) (append_assoc past (event ∷ []) events)
-    (legal_greeted legal.0 end (past ++ event ∷ []) events (step_sound start legal.0 event sound legal.1)
-    (greeted_on start legal.0 past event sound known legal.1) legal.2 number c there)
-
 pub contexts_greeted :
     (n : ℕ) (events : List Event) (end : State) → IsLegal (starting_at n) events end → AreGreeted end events
 contexts_greeted n events end legal =
-    legal_greeted (starting_at n) end [] events (start_sound n) (λ k d h. absurd (none-some d h)) legal
+    legal_keeps AreGreeted greeted_on (starting_at n) end [] events (start_sound n) (λ k d h. absurd (none-some d h)) legal
 
 pub readers_greeted :
     (n uid : ℕ) (before : List Event) (old : State) (last : ℕ → Bool)

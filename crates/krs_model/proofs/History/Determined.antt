@@ -1,12 +1,12 @@
 -- A reply leads to one state, and a history to one: what is called for of a queue and taken from it is determined.
 -- So is the reply, ENOMEM aside.
-use Rattle.std.proofs.Common.{[], ⊎_elim, ◌++◌, ◌∙◌, ◌∷◌, ◌≡◌, ◌≢◌, ap, Err, List, map, Ok, refl, Result, subst, sym, ℕ}
-use Rattle.krs_types.specs.declared.ask.{Answer.Answer, Ask.Ask, Op.Op}
-use Rattle.krs_types.specs.declared.{errno.Errno.{Errno, TheVariants.ENOMEM}, event.Event.Event, note.Record.Record}
+use Rattle.std.proofs.Common.{[], ◌++◌, ◌∙◌, ◌∷◌, ◌≡◌, ◌≢◌, ap, arith, Err, List, map, Ok, refl, Result, subst, sym}
+use Rattle.std.proofs.{Common.ℕ, lemmas.Bool.Decides.nat_tests}
+use Rattle.krs_types.specs.declared.{ask.{Answer.Answer, Op.Op}, errno.Errno.{Errno, TheVariants.ENOMEM}}
+use Rattle.krs_types.specs.declared.{event.Event.Event, note.Record.Record}
 use Rattle.krs_model.specs.{History.IsLegal, Notes.{Posting.posted_in, Stream.{Move, Posted, Took}}, Outcome.Outcome}
-use Rattle.krs_model.specs.Receiving.{called_for, FurtherMoves, HasMoves, NoMoves, Takes}
-use Rattle.krs_model.specs.{Sound.IsSound, State.{raised, State}}
-use Rattle.krs_model.specs.{Step.{Ends, LacksMemory, outcome_of, posts_by, Serves, Step}, Sweep.IsSweep}
+use Rattle.krs_model.specs.{Receiving.{called_for, FurtherMoves, HasMoves, NoMoves, Takes}, Sound.IsSound}
+use Rattle.krs_model.specs.{State.{raised, State}, Step.{Ends, outcome_of, posts_by, Serves, Step}, Sweep.IsSweep}
 use Rattle.krs_model.proofs.{Asks.Later.same_state, Notes.Reads.{step_read, takes_one, takes_some}}
 use Rattle.krs_model.proofs.{Sound.Steps.step_sound, Sweep.Laws.one_sweep}
 
@@ -41,36 +41,21 @@ reply_is :
     (s new : State) (client context : ℕ) (op : Op) (reply : Result Answer Errno) → Ends s client context op reply new
     → reply ≢ Err ENOMEM → reply ≡ replied (outcome_of s client context op)
 reply_is s new client context op (Ok answer) ends memory = sym (ap replied ends.meant)
-reply_is s new client context op (Err e) ends memory =
-    let error : Errno → Result Answer Errno = λ x. Err x in
-    ⊎_elim (λ (meant : outcome_of s client context op ≡ Err e). sym (ap replied meant))
-    (λ (wanting : LacksMemory op e (outcome_of s client context op)). absurd (memory (ap error wanting.0))) ends.0
+reply_is s new client context op (Err e) ends memory = grind (arith, nat_tests)
 
 -- what is asked of a state is answered with one reply, but for ENOMEM
 pub one_reply :
     (old a b : State) (e f : Event) → e.lane ≡ f.lane → e.moment ≡ f.moment → e.ask ≡ f.ask → Step old e a
     → Step old f b → e.reply ≢ Err ENOMEM → f.reply ≢ Err ENOMEM → e.reply ≡ f.reply
 unfolding Step
-one_reply old a b e f lane moment ask first second memory other =
-    let meant : ℕ → ℕ → Ask → Outcome = λ n at_moment asked.
-    outcome_of (raised old at_moment) n asked.context asked.op in
-    let this : e.reply ≡ replied (meant e.lane e.moment e.ask) =
-    reply_is (raised old e.moment) a e.lane e.ask.context e.ask.op e.reply first memory in
-    let that : f.reply ≡ replied (meant f.lane f.moment f.ask) =
-    reply_is (raised old f.moment) b f.lane f.ask.context f.ask.op f.reply second other in
-    let same : meant e.lane e.moment e.ask ≡ meant f.lane f.moment f.ask =
-    ap (λ (n : ℕ). meant n e.moment e.ask) lane
-    ∙ (ap (λ (n : ℕ). meant f.lane n e.ask) moment ∙ ap (λ (x : Ask). meant f.lane f.moment x) ask) in
-    this ∙ (ap replied same ∙ sym that)
+one_reply old a b e f lane moment ask first second memory other = grind (arith, nat_tests, reply_is)
 
 -- and so does a history
 pub one_history :
     (start a b : State) (events : List Event) → IsLegal start events a → IsLegal start events b → a ≡ b
 unfolding IsLegal
 one_history start a b [] f g = sym f ∙ g
-one_history start a b (event ∷ events) f g =
-    let same : f.0 ≡ g.0 = one_step start f.0 g.0 event f.1 g.1 in
-    one_history g.0 a b events (subst (λ (t : State). IsLegal t events a) same f.2) g.2
+one_history start a b (event ∷ events) f g = grind (arith, nat_tests, one_step, one_history g.0 a b events)
 
 -- a legal history has moves of each queue
 pub legal_moves :

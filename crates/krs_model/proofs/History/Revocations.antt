@@ -1,17 +1,17 @@
 -- A revoked key is not read again, as no key gets its serial.
-use Rattle.std.proofs.Common.{⊎_elim, ◌<◌, ◌∙◌, ◌≡◌, ◌≤◌, ap, arith, Err, false, IsOk, Ok, option_map, refl, Result}
-use Rattle.std.proofs.{Common.{Some, subst, sym, true, true≢false, ℕ, ℤ}, lemmas.{Bool.cases_lt, Option.none-some}}
-use Rattle.krs_types.specs.{Refusing.◌>>=◌, Rights.{SETATTR, WRITE}, declared.ask.Answer.Answer}
-use Rattle.krs_types.specs.declared.ask.{Answer.TheVariants.{Bytes, Nothing}, Op.Op}
-use Rattle.krs_types.specs.declared.{ask.Op.TheVariants.{Read, Revoke}, context.Context.Context, errno.Errno.Errno}
-use Rattle.krs_types.specs.declared.{event.Event.Event, rights.Want.{Want, TheVariants.{Either, ToRead}}}
-use Rattle.krs_model.specs.Asks.Changing.{changed, revoke, revoked}
-use Rattle.krs_model.specs.{Asks.Reading.{read, readable}, Lookup.{context_of, look_up, serial_of}, Outcome.Outcome}
-use Rattle.krs_model.specs.Revocation.{IsOfKey, Names, StaysUnread}
-use Rattle.krs_model.specs.{State.{Key, raised, State}, Step.{Ends, Serves, Step}, Table.{at, IsBelow}}
-use Rattle.krs_model.proofs.Asks.Later.{bind_ok, Follows, is_gone, same_ok, same_state}
-use Rattle.krs_model.proofs.Asks.LaterByStep.{legal_follows, raised_follows, swept_follows}
-use Rattle.krs_model.proofs.{Lookups.{Laws.look_up_usable, Serials.found_serial}, Tables.Changes.at_alter_same}
+use Rattle.std.proofs.Common.{⊎_elim, ◌<◌, ◌∙◌, ◌≡◌, ap, arith, Err, false, IsOk, Ok, option_map, refl, Result, Some}
+use Rattle.std.proofs.{Common.{subst, sym, true, true≢false, ℕ, ℤ}, lemmas.Bool.{cases_lt, Decides.nat_tests}}
+use Rattle.std.proofs.lemmas.Option.{none-some}
+use Rattle.krs_types.specs.declared.ask.{Answer.{Answer, TheVariants.{Bytes, Nothing}}, Op.{Op, TheVariants.Read}}
+use Rattle.krs_types.specs.declared.{ask.Op.TheVariants.Revoke, errno.Errno.Errno, event.Event.Event}
+use Rattle.krs_types.specs.{declared.rights.Want.{Want, TheVariants.{Either, ToRead}}, Refusing.◌>>=◌, Rights.SETATTR}
+use Rattle.krs_types.specs.Rights.{WRITE}
+use Rattle.krs_model.specs.{Asks.{Changing.{changed, revoke, revoked}, Reading.{read, readable}}, Lookup.context_of}
+use Rattle.krs_model.specs.{Lookup.look_up, Outcome.Outcome, Revocation.{IsOfKey, Names, StaysUnread}, State.Key}
+use Rattle.krs_model.specs.{State.{raised, State}, Step.{Ends, Serves, Step}, Table.{at, IsBelow}}
+use Rattle.krs_model.proofs.Asks.{Later.{bind_ok, Follows, is_gone, same_ok, same_state}, LaterByStep.legal_follows}
+use Rattle.krs_model.proofs.{Asks.LaterByStep.{raised_follows, swept_follows}, Lookups.Laws.look_up_usable}
+use Rattle.krs_model.proofs.{Lookups.Serials.found_serial, Tables.Changes.at_alter_same}
 
 -- what an accepted ask has found that begins with a look-up: a key that was not revoked, at the serial that the id
 -- names
@@ -31,23 +31,13 @@ accepted_finds s client context id want f x h =
     let own = bind_ok (context_of s client context) (λ c. look_up s c id want >>= f) x h in
     let found = bind_ok (look_up s own.0 id want) f x own.2 in
     let usable = look_up_usable s own.0 id want found.0 found.1 in
-    record {
-      serial = found.0.0;
-      key = found.0.1;
-      names = record { whose = own.0; own = own.1; named = found_serial s own.0 id want found.0 found.1 };
-      there = usable.there;
-      live = usable.live;
-      then = found.2;
-    }
+    search found_serial depth 8
 
 -- an id names one serial
 pub one_named :
     (s : State) (client context : ℕ) (id : ℤ) (a b : ℕ) → Names s client context id a → Names s client context id b
     → a ≡ b
-one_named s client context id a b n m =
-    let whose = same_ok (context_of s client context) n.whose m.whose n.own m.own in
-    let named : serial_of s m.whose id ≡ Ok a = subst (λ (c : Context). serial_of s c id ≡ Ok a) whose n.named in
-    same_ok (serial_of s m.whose id) a b named m.named
+one_named s client context id a b n m = search same_ok depth 8
 
 -- the key at a serial that was given is gone
 pub record IsSpent (s : State) (serial : ℕ) : Type 0 where
@@ -55,10 +45,7 @@ pub record IsSpent (s : State) (serial : ℕ) : Type 0 where
   pub gone : is_gone (at s.keys serial) ≡ true
 
 pub spent_follows : (old new : State) (serial : ℕ) → Follows old new → IsSpent old serial → IsSpent new serial
-spent_follows old new serial follows spent =
-    let next : old.next_serial ≤ new.next_serial = follows.next in
-    let given : serial < old.next_serial = spent.given in
-    record { given = omega arith; gone = follows.gone serial spent.given spent.gone }
+spent_follows old new serial follows spent = grind (arith, nat_tests)
 
 -- a key has a serial that was given
 pub given_serial :
@@ -130,13 +117,7 @@ pub accepted_came :
     (old new : State) (event : Event) (op : Op) → Step old event new → event.ask.op ≡ op → IsOk event.reply
     → Came (raised old event.moment) new event op
 unfolding Step
-accepted_came old new event op step asked accepted =
-    let up = raised old event.moment in
-    let end = accepted_end up new event.lane event.ask.context event.ask.op event.reply step accepted in
-    record {
-      answer = end.0;
-      serves = subst (λ (o : Op). Serves up event.lane event.ask.context o end.0 new) asked end.1;
-    }
+accepted_came old new event op step asked accepted = grind (arith, nat_tests, accepted_end)
 
 -- a revoked key stays unread, where the serials not given yet are in no use
 pub revoked_unread : (start : State) → IsBelow start.keys start.next_serial → StaysUnread start
@@ -151,8 +132,7 @@ revoked_unread start below before old legal revoking mid k step revokes later la
     let spent_late = spent_follows mid late k (legal_follows mid later late legal_later) swept in
     let spent_top = spent_follows late top k (raised_follows late reading.moment) spent_late in
     let got = accepted_came late end reading (Read reads.id) last reads.asked reads.accepted in
-    read_is_not_spent top got.serves.mid reading.lane reading.ask.context reads.id got.answer k reads.names
-    got.serves.meant spent_top
+    search read_is_not_spent depth 8
 
 -- each accepted REVOKE is of a key
 pub revoke_of_key : IsOfKey Revoke

@@ -1,12 +1,12 @@
 -- What a queue gives to its reader over a history is its stream.
-use Rattle.std.proofs.Common.{[], ⊎_elim, ◌++◌, ◌<◌, ◌∙◌, ◌≡◌, ◌≤◌, ap, append_assoc, arith, leb-true, List, map}
-use Rattle.std.proofs.Common.{nat_le, None, refl, Some, subst, sym, true, ℕ}
-use Rattle.std.proofs.lemmas.{Bool.cases_lt, Option.{none-some, same_Some}}
+use Rattle.std.proofs.Common.{[], ⊎_elim, ◌++◌, ◌<◌, ◌∙◌, ◌≡◌, ◌≤◌, append_assoc, arith, leb-true, List, map, nat_le}
+use Rattle.std.proofs.{Common.{None, refl, Some, subst, sym, true, ℕ}, lemmas.Bool.{cases_lt, Decides.nat_tests}}
+use Rattle.std.proofs.lemmas.Option.{none-some, same_Some}
 use Rattle.krs_types.specs.declared.{event.Event.Event, note.Record.Record}
 use Rattle.krs_types.proofs.Names.{and_left}
 use Rattle.krs_model.specs.{Asks.Watching.new_queue, Lists.Begins, Notes.Stream.{Move, Posted, stream, taken, Took}}
-use Rattle.krs_model.specs.Notes.Waiting.{greatest_capacity, is_capacity, MovesTo}
-use Rattle.krs_model.specs.Receiving.{called_for, FurtherMoves, GivesStreams, HasMoves, IsOpened, IsOpening, NoMoves}
+use Rattle.krs_model.specs.{Notes.Waiting.{greatest_capacity, is_capacity, MovesTo}, Receiving.called_for}
+use Rattle.krs_model.specs.Receiving.{FurtherMoves, GivesStreams, HasMoves, IsOpened, IsOpening, NoMoves}
 use Rattle.krs_model.specs.{Sound.IsSound, State.{Queue, State}, Table.at}
 use Rattle.krs_model.proofs.Notes.{QueueNumbers.{step_gone, step_next, step_opened}, Streams.gives_its_stream}
 use Rattle.krs_model.proofs.{Notes.Taken.{moves_append, Stays, step_after, step_nothing}, Sound.Steps.step_sound}
@@ -18,10 +18,7 @@ no_moves :
 no_moves rs took moves none nothing = rw (none, nothing) refl
 
 given_before : (s : State) (q : ℕ) (queue : Queue) → IsSound s → at s.queues q ≡ Some queue → q < s.next_queue
-given_before s q queue sound there =
-    ⊎_elim (λ (lt : q < s.next_queue). lt)
-    (λ (le : s.next_queue ≤ q). absurd (none-some queue (sym (sound.orderly.unused q le) ∙ there)))
-    (cases_lt q s.next_queue)
+given_before s q queue sound there = grind (arith, nat_tests, none-some, cases_lt)
 
 -- a queue that was closed
 closed_moves :
@@ -30,11 +27,17 @@ closed_moves :
     → q < s.next_queue → at s.queues q ≡ None → (moves ≡ []) × (at end.queues q ≡ None)
 closed_moves q _ _ _ _ (NoMoves s) sound lt none = (refl, none)
 closed_moves q _ _ _ _ (FurtherMoves s next end event events took moves step takes rest) sound lt none =
-    let nothing = step_nothing s next event q took sound step takes none in
-    let more : s.next_queue ≤ next.next_queue = step_next s next event step in
-    let later = closed_moves q next events moves end rest (step_sound s next event sound step) (omega arith)
-    (step_gone s next event q step lt none) in
-    (no_moves (called_for q s event next) took moves nothing.0 nothing.1 ∙ later.0, later.1)
+    grind (
+      arith,
+      nat_tests,
+      step_nothing,
+      step_next,
+      step_sound,
+      step_gone,
+      no_moves,
+      closed_moves q next events
+          moves end rest (step_sound s next event sound step),
+    )
 
 -- from a queue on: these moves lead to what waits in it, where it is still there
 record MovesReach (old : Queue) (moves : List Move) (q : ℕ) (end : State) : Type 0 where
@@ -70,11 +73,7 @@ gone_leads q queue end all none gone = record {
 open_moves :
     (q : ℕ) (s : State) (events : List Event) (moves : List Move) (end : State) (queue : Queue)
     → HasMoves q s events moves end → IsSound s → at s.queues q ≡ Some queue → MovesReach queue moves q end
-open_moves q _ _ _ _ queue (NoMoves s) sound there = record {
-  after = queue.waiting;
-  moves_to = refl;
-  waits = λ other is. ap (λ (x : Queue). x.waiting) (same_Some other queue (sym is ∙ there));
-}
+open_moves q _ _ _ _ queue (NoMoves s) sound there = grind (arith, nat_tests, same_Some)
 open_moves q _ _ _ _ queue (FurtherMoves s next end event events took moves step takes rest) sound there =
     let rs = called_for q s event next in
     let further = step_sound s next event sound step in
@@ -148,9 +147,7 @@ pub open_streams :
     → HasMoves q start events moves end → IsOpened q capacity events → at end.queues q ≡ Some queue
     → taken moves ++ queue.waiting ≡ stream capacity moves
 open_streams start end events moves q capacity queue sound has opened there =
-    let begun = opened_moves q capacity start events moves end has sound opened in
-    ap (λ (waiting : List Record). taken moves ++ waiting) (begun.leads.waits queue there)
-    ∙ gives_its_stream capacity moves begun.leads.after begun.some begun.leads.moves_to
+    grind (arith, nat_tests, opened_moves, gives_its_stream)
 
 -- of each queue, what was taken begins the stream
 pub begun_streams :
@@ -158,11 +155,7 @@ pub begun_streams :
     → HasMoves q start events moves end → IsOpened q capacity events
     → Begins (taken moves) (stream capacity moves)
 begun_streams start end events moves q capacity sound has opened =
-    let begun = opened_moves q capacity start events moves end has sound opened in
-    (begun.leads.after, (gives_its_stream capacity moves begun.leads.after begun.some begun.leads.moves_to))
+    grind (arith, nat_tests, opened_moves, gives_its_stream)
 
 pub gives_streams : (start : State) → IsSound start → GivesStreams start
-gives_streams start sound = record {
-  still_open = λ end events moves q capacity queue. open_streams start end events moves q capacity queue sound;
-  begun = λ end events moves q capacity. begun_streams start end events moves q capacity sound;
-}
+gives_streams start sound = search (open_streams, begun_streams) depth 8

@@ -1,9 +1,9 @@
 -- What changes of attachments leave a uid to itself.
-use Rattle.std.proofs.Common.{[], ⊎_elim, ◌++◌, ◌+◌, ◌==◌, ◌||◌, ◌∙◌, ◌∷◌, ◌≡◌, ◌≢◌, ◌⊎◌, ap, arith, Bool, cond, false}
-use Rattle.std.proofs.Common.{filter, inl, inr, IsSome, List, nat_cmp, None, not, Option, option_map, option_to_list}
-use Rattle.std.proofs.{Common.{refl, Some, subst, sym, true, true≢false, unwrap_or, ℕ}, lemmas.Bool.Decides.nat_tests}
+use Rattle.std.proofs.Common.{[], ⊎_elim, ◌++◌, ◌+◌, ◌==◌, ◌||◌, ◌∙◌, ◌∷◌, ◌≡◌, ◌≢◌, ◌⊎◌, ap, arith, Bool, cond}
+use Rattle.std.proofs.Common.{false, filter, inl, inr, List, None, not, Option, option_map, option_to_list, refl}
+use Rattle.std.proofs.{Common.{Some, subst, sym, true, true≢false, unwrap_or, ℕ}, lemmas.Bool.Decides.nat_tests}
 use Rattle.std.proofs.lemmas.Option.{none-some, same_Some}
-use Rattle.std.specs.{BTreeMap.is_at, List.list_any, Map.values_of}
+use Rattle.std.specs.{List.list_any, Map.values_of}
 use Rattle.krs_types.specs.declared.{caller.Caller.Caller, context.{Context.Context, UidRings.UidRings}}
 use Rattle.krs_model.specs.Asks.{Entering.{execed, without_thread}, Hello.{first_session, with_context, with_uid}}
 use Rattle.krs_model.specs.Asks.Invalidating.{context_without, detached, invalidated, rings_without}
@@ -12,45 +12,28 @@ use Rattle.krs_model.specs.{Asks.Leaving.{has_uid, left}, Confidentiality.{AreUn
 use Rattle.krs_model.specs.{Confidentiality.foreign_process, Levels.is_in, Making.{thread_to, with_process}}
 use Rattle.krs_model.specs.{Making.with_thread, Possession.process_ring, Sound.AllPlaced, State.State, Table.alter}
 use Rattle.krs_model.specs.Table.{at, put, Rises, Table, without}
-use Rattle.krs_model.proofs.{Isolation.Keys.AttachesNone, Reach.Levels.{in_left, in_one, in_right, only_in, same_is}}
-use Rattle.krs_model.proofs.Sound.Attached.{attached_alter, attached_at, attached_either, attached_fewer}
-use Rattle.krs_model.proofs.Sound.Attached.{attached_mapped, attached_without, attachments, context_keys, own_process}
-use Rattle.krs_model.proofs.Sound.{Attached.uid_keys, Changes.{at_change, at_put, IsChanged, IsPut}, KeyChanges.both_in}
-use Rattle.krs_model.proofs.{Sound.NewContexts.placed_in, Tables.Changes.{at_kept, at_map, at_or_apart}}
-use Rattle.krs_model.proofs.Tables.{Changes.at_without_other, Distinct.at_without_same, Entries.rises_distinct}
-
--- what a context of another uid attaches is a foreign key, and its process a foreign one
-pub apart_is : (a b : ℕ) → a ≢ b → (a == b) ≡ false
-apart_is a b h = grind (arith, nat_tests)
+use Rattle.krs_model.proofs.{Isolation.Keys.AttachesNone, Reach.Levels.{apart_is, in_left, in_one, in_right, only_in}}
+use Rattle.krs_model.proofs.{Reach.Levels.same_is, Sound.Attached.{attached_alter, attached_at, attached_either}}
+use Rattle.krs_model.proofs.Sound.Attached.{attached_fewer, attached_mapped, attached_without, attachments}
+use Rattle.krs_model.proofs.Sound.{Attached.{context_keys, own_process, uid_keys}, Changes.{at_change, at_put}}
+use Rattle.krs_model.proofs.Sound.{Changes.{IsChanged, IsPut, not_there}, KeyChanges.both_in, NewContexts.placed_in}
+use Rattle.krs_model.proofs.Tables.Changes.{at_kept, at_map, at_or_apart, at_without_other}
+use Rattle.krs_model.proofs.Tables.{Distinct.at_without_same, Each.kept_is, Entries.rises_distinct}
 
 pub is_foreign :
     (uid : ℕ) (c : Context) → c.caller.uid ≢ uid
     → (foreign_keys uid c ≡ context_keys c) × (foreign_process uid c ≡ c.process ∷ [])
-is_foreign uid c other =
-    let apart = apart_is c.caller.uid uid other in (
-      ap (λ (b : Bool). cond b [] (context_keys c)) apart,
-      ap (λ (b : Bool). cond b [] (c.process ∷ [])) apart,
-    )
+is_foreign uid c other = search apart_is depth 8
 
 -- foreign keys are those of a context of another uid
 pub of_foreign :
     (uid : ℕ) (c : Context) (k : ℕ) → is_in k (foreign_keys uid c) ≡ true
     → (c.caller.uid ≢ uid) × (is_in k (context_keys c) ≡ true)
-of_foreign uid c k i =
-    elim (c.caller.uid == uid) as (λ b. (c.caller.uid == uid) ≡ b → is_in k (cond b [] (context_keys c)) ≡ true
-    → (c.caller.uid ≢ uid) × (is_in k (context_keys c) ≡ true)) [
-      | true ↦ λ t h. absurd (true≢false (sym h))
-      | false ↦ λ t h. (λ e. true≢false (sym (same_is c.caller.uid uid e) ∙ t), h)
-    ] refl i
+of_foreign uid c k i = grind (arith, nat_tests, true≢false, same_is)
 
 pub of_foreign_process :
     (uid : ℕ) (c : Context) (p : ℕ) → is_in p (foreign_process uid c) ≡ true → (c.caller.uid ≢ uid) × (p ≡ c.process)
-of_foreign_process uid c p i =
-    elim (c.caller.uid == uid) as (λ b. (c.caller.uid == uid) ≡ b → is_in p (cond b [] (c.process ∷ [])) ≡ true
-    → (c.caller.uid ≢ uid) × (p ≡ c.process)) [
-      | true ↦ λ t h. absurd (true≢false (sym h))
-      | false ↦ λ t h. (λ e. true≢false (sym (same_is c.caller.uid uid e) ∙ t), only_in p c.process h)
-    ] refl i
+of_foreign_process uid c p i = grind (arith, nat_tests, true≢false, same_is, only_in)
 
 ring_is :
     (o : Option (Option ℕ)) (k : ℕ) → is_in k (option_to_list (unwrap_or o None)) ≡ true → o ≡ Some (Some k)
@@ -81,11 +64,7 @@ attaches_none uid private s number c alone there other = λ k m i.
 pub same_unattached :
     (uid : ℕ) (private : ℕ → Bool) (old new : State) → new.contexts ≡ old.contexts → new.processes ≡ old.processes
     → new.uids ≡ old.uids → AreUnattached uid private old → AreUnattached uid private new
-same_unattached uid private old new contexts processes uids alone = record {
-  contexts = rw contexts alone.contexts;
-  processes = rw (contexts, processes) alone.processes;
-  uids = rw uids alone.uids;
-}
+same_unattached uid private old new contexts processes uids alone = grind (arith, nat_tests)
 
 some_some : (a : Option ℕ) (k : ℕ) → Some a ≡ Some (Some k) → a ≡ Some k
 some_some a k h = cc
@@ -96,21 +75,13 @@ some_one n k h = cc
 abbrev AttachesTo : Option (Option ℕ) → ℕ → Type 0
 AttachesTo o k = o ≡ Some (Some k)
 
-none_some_there : (o : Option (Option ℕ)) → IsSome o → o ≡ None → ⊥
-none_some_there None h e = true≢false (sym h)
-none_some_there (Some v) h e = none-some v (sym e)
-
 foreign_own :
     (uid : ℕ) (es : Table Context) (p : ℕ) → is_in p (attachments (foreign_process uid) es) ≡ true
     → is_in p (attachments own_process es) ≡ true
 foreign_own uid [] p i = i
 foreign_own uid (e ∷ es) p i =
-    ⊎_elim
-    (λ h. let r = of_foreign_process uid e.1 p h in
-    in_left p (own_process e.1) (attachments own_process es)
-    (subst (λ (z : ℕ). is_in p (z ∷ []) ≡ true) r.1 (rw (same_is p p refl) refl)))
-    (λ h. in_right p (own_process e.1) (attachments own_process es) (foreign_own uid es p h))
-    (in_one p (foreign_process uid e.1) (attachments (foreign_process uid) es) i)
+    grind (arith, nat_tests, of_foreign_process, in_left, same_is, in_right, in_one, foreign_own uid es p) steps
+    600000
 
 -- a further context of a process of its own, whose session keyring is none of these, or which is of this uid
 pub entered_unattached :
@@ -121,7 +92,7 @@ pub entered_unattached :
 entered_unattached uid private s client c session none unused placed alone =
     let n = s.next_context in
     let no_context : (p : ℕ) → p ≡ n → is_in p (attachments own_process s.contexts) ≡ true → ⊥ = λ p e i.
-    none_some_there (at s.processes p) (placed_in s placed p i) (ap (at s.processes) e ∙ unused) in
+    not_there (at s.processes p) (placed_in s placed p i) (ap (at s.processes) e ∙ unused) in
     let new : Context = record { client = client; process = n; caller = c; thread = None; session = session } in
     record {
       contexts = λ k m i. ⊎_elim
@@ -186,24 +157,12 @@ altered_unattached uid private s number n f keys process fresh alone = record {
 foreign_joined :
     (uid : ℕ) (n : ℕ) (v : Context) (k : ℕ) → is_in k (foreign_keys uid (session_to n v)) ≡ true
     → (is_in k (foreign_keys uid v) ≡ true) ⊎ (k ≡ n)
-foreign_joined uid n v k i =
-    let r = of_foreign uid (session_to n v) k i in
-    let foreign = is_foreign uid v r.0 in
-    ⊎_elim
-    (λ h. inl (subst (λ (xs : List ℕ). is_in k xs ≡ true) (sym foreign.0)
-    (in_left k (option_to_list v.thread) (option_to_list v.session) h)))
-    (λ h. inr (only_in k n h)) (in_one k (option_to_list v.thread) (n ∷ []) r.1)
+foreign_joined uid n v k i = grind (arith, nat_tests, of_foreign, is_foreign, in_left, only_in, in_one)
 
 foreign_threaded :
     (uid : ℕ) (n : ℕ) (v : Context) (k : ℕ) → is_in k (foreign_keys uid (thread_to n v)) ≡ true
     → (is_in k (foreign_keys uid v) ≡ true) ⊎ (k ≡ n)
-foreign_threaded uid n v k i =
-    let r = of_foreign uid (thread_to n v) k i in
-    let foreign = is_foreign uid v r.0 in
-    ⊎_elim (λ h. inr (only_in k n h))
-    (λ h. inl (subst (λ (xs : List ℕ). is_in k xs ≡ true) (sym foreign.0)
-    (in_right k (option_to_list v.thread) (option_to_list v.session) h)))
-    (in_one k (n ∷ []) (option_to_list v.session) r.1)
+foreign_threaded uid n v k i = grind (arith, nat_tests, of_foreign, is_foreign, only_in, in_right, in_one)
 
 -- another session keyring, which is none of these
 pub joined_unattached :
@@ -217,13 +176,7 @@ pub alter_to :
     {X : Type 0} (es : Table X) (k : ℕ) (f : X → X) (v : X) → at es k ≡ Some v
     → alter es k f ≡ alter es k (λ any. f v)
 alter_to [] k f v h = refl
-alter_to (e ∷ es) k f v h =
-    elim (is_at (nat_cmp k) e.0) as (λ b. cond b (Some e.1) (at es k) ≡ Some v
-    → cond b ((e.0, f e.1) ∷ es) (e ∷ alter es k f)
-    ≡ cond b ((e.0, f v) ∷ es) (e ∷ alter es k (λ any. f v))) [
-      | true ↦ λ t. ap (λ z. (e.0, f z) ∷ es) (same_Some e.1 v t)
-      | false ↦ λ t. ap (λ zs. e ∷ zs) (alter_to es k f v t)
-    ] h
+alter_to (e ∷ es) k f v h = grind (arith, nat_tests, same_Some, alter_to es k f v)
 
 -- another session keyring of a context of this uid, whichever it is
 pub own_joined_unattached :
@@ -251,8 +204,7 @@ pub thread_unattached :
 thread_unattached uid private s number c fresh alone =
     let n = s.next_serial in
     let still = altered_unattached uid private s number n (thread_to n) (foreign_threaded uid n) (λ v p h. h) fresh alone in
-    same_unattached uid private (record s { contexts = alter s.contexts number (thread_to n) })
-    (with_thread s number c) refl refl refl still
+    search same_unattached depth 8
 
 ring_changed :
     (f : Option ℕ → Option ℕ) (o : Option (Option ℕ)) (k : ℕ) (P : Type 0)
@@ -284,8 +236,7 @@ with_process_unattached uid private s c fresh alone =
     let n = s.next_serial in
     let still = process_unattached uid private s c.process (λ none. Some n)
     (λ v k m e. absurd (fresh (subst (λ (z : ℕ). private z ≡ true) (sym (some_one n k e)) m))) alone in
-    same_unattached uid private (record s { processes = alter s.processes c.process (λ none. Some n) })
-    (with_process s c) refl refl refl still
+    search same_unattached depth 8
 
 -- fewer contexts
 pub fewer_unattached :
@@ -300,11 +251,7 @@ fewer_unattached uid private s keeps alone = record {
 foreign_unthreaded :
     (uid n : ℕ) (v : Context) (k : ℕ) → is_in k (foreign_keys uid (without_thread v)) ≡ true
     → (is_in k (foreign_keys uid v) ≡ true) ⊎ (k ≡ n)
-foreign_unthreaded uid n v k i =
-    let r = of_foreign uid (without_thread v) k i in
-    let foreign = is_foreign uid v r.0 in
-    inl (subst (λ (xs : List ℕ). is_in k xs ≡ true) (sym foreign.0)
-    (in_right k (option_to_list v.thread) (option_to_list v.session) r.1))
+foreign_unthreaded uid n v k i = grind (arith, nat_tests, of_foreign, is_foreign, in_right)
 
 pub execed_unattached :
     (uid : ℕ) (private : ℕ → Bool) (s : State) (number : ℕ) (c : Context) → (private s.next_serial ≡ true → ⊥)
@@ -327,21 +274,7 @@ pub with_uid_unattached :
     → AreUnattached uid private (with_uid s c rings)
 with_uid_unattached uid private s c (Some rings) first second alone = alone
 with_uid_unattached uid private s c None first second alone =
-    let n = s.next_serial in
-    let new : UidRings = record { user = Some n; session = Some (n + 1) } in
-    let fresh : (k : ℕ) → private k ≡ true → is_in k (uid_keys new) ≡ true → ⊥ = λ k m i.
-    ⊎_elim (λ h. first (subst (λ (z : ℕ). private z ≡ true) (only_in k n h) m))
-    (λ h. second (subst (λ (z : ℕ). private z ≡ true) (only_in k (n + 1) h) m))
-    (in_one k (n ∷ []) ((n + 1) ∷ []) i) in
-    record {
-      contexts = alone.contexts;
-      processes = alone.processes;
-      uids = λ v k rings m other there i. ⊎_elim
-          (λ (r : IsPut s.uids c.uid new v).
-          let same : new ≡ rings = same_Some new rings (sym r.1 ∙ there) in
-          fresh k m (subst (λ (z : UidRings). is_in k (uid_keys z) ≡ true) (sym same) i))
-          (λ same. alone.uids v k rings m other (sym same ∙ there) i) (at_put s.uids c.uid v new);
-    }
+    grind (arith, nat_tests, only_in, in_one, same_Some, at_put)
 
 -- the session keyring that HELLO of another uid takes is none of these
 pub first_session_apart :
@@ -356,19 +289,12 @@ first_session_apart uid private s c None k is fresh alone other m i =
 detached_some :
     (serial k : ℕ) (o : Option ℕ) → detached serial o ≡ Some k → o ≡ Some k
 detached_some serial k None h = cc
-detached_some serial k (Some j) h =
-    elim (j == serial) as (λ b. cond b None (Some j) ≡ Some k → Some j ≡ Some k) [
-      | true ↦ λ no. absurd (none-some k no)
-      | false ↦ λ is. is
-    ] h
+detached_some serial k (Some j) h = grind (arith, nat_tests, none-some)
 
 foreign_without :
     (uid serial : ℕ) (v : Context) (k : ℕ) → is_in k (foreign_keys uid (context_without serial v)) ≡ true
     → is_in k (foreign_keys uid v) ≡ true
-foreign_without uid serial v k i =
-    let r = of_foreign uid (context_without serial v) k i in
-    let foreign = is_foreign uid v r.0 in
-    subst (λ (xs : List ℕ). is_in k xs ≡ true) (sym foreign.0) (both_in serial k v.thread v.session r.1)
+foreign_without uid serial v k i = grind (arith, nat_tests, of_foreign, is_foreign, both_in)
 
 ring_detached :
     (serial : ℕ) (o : Option (Option ℕ)) (k : ℕ) → AttachesTo (option_map (detached serial) o) k → AttachesTo o k
@@ -381,10 +307,7 @@ rings_detached :
     → option_map (rings_without serial) o ≡ Some rings → is_in k (uid_keys rings) ≡ true
     → (was : UidRings) × (o ≡ Some was) × (is_in k (uid_keys was) ≡ true)
 rings_detached serial None rings k h i = absurd (none-some rings h)
-rings_detached serial (Some v) rings k h i =
-    let same : rings_without serial v ≡ rings = same_Some (rings_without serial v) rings h in
-    let here = subst (λ (z : UidRings). is_in k (uid_keys z) ≡ true) (sym same) i in
-    (v, refl, both_in serial k v.user v.session here)
+rings_detached serial (Some v) rings k h i = grind (arith, nat_tests, same_Some, both_in)
 
 -- a key out of every attachment
 pub invalidated_unattached :
@@ -397,14 +320,8 @@ invalidated_unattached uid private s serial alone = record {
   processes = λ p k m there i. alone.processes p k m
       (ring_detached serial (at s.processes p) k (sym (at_map (detached serial) s.processes p) ∙ there))
       (attached_mapped (foreign_process uid) (context_without serial) s.contexts p (λ v h. h) i);
-  uids = λ v k rings m other there i.
-      let r = rings_detached serial (at s.uids v) rings k (sym (at_map (rings_without serial) s.uids v) ∙ there) i in
-      alone.uids v k r.0 m other r.1 r.2;
+  uids = grind (arith, nat_tests, rings_detached, at_map);
 }
-
-cond_is : {X : Type 0} (b : Bool) (o : Option X) (x : X) → cond b o None ≡ Some x → o ≡ Some x
-cond_is true o x h = h
-cond_is false o x h = absurd (none-some x h)
 
 -- all that a client attaches is let go of
 pub left_unattached :
@@ -416,11 +333,11 @@ left_unattached uid private s client alone =
     record {
       contexts = λ k m i. alone.contexts k m (attached_fewer (foreign_keys uid) _ s.contexts k i);
       processes = λ p k m there i. alone.processes p k m
-          (cond_is (has_process contexts p) (at s.processes p) (Some k)
+          (kept_is (has_process contexts p) (at s.processes p) (Some k)
           (sym (at_kept (has_process contexts) s.processes p) ∙ there))
           (attached_fewer (foreign_process uid) _ s.contexts p i);
       uids = λ v k rings m other there i. alone.uids v k rings m other
-          (cond_is (has_uid contexts v) (at s.uids v) rings (sym (at_kept (has_uid contexts) s.uids v) ∙ there)) i;
+          (kept_is (has_uid contexts v) (at s.uids v) rings (sym (at_kept (has_uid contexts) s.uids v) ∙ there)) i;
     }
 
 -- where an entry goes whose test fails, the others stay as they were
@@ -428,9 +345,7 @@ was_unless :
     {X : Type 0} (es : Table X) (k q : ℕ) (stays : Bool) (x : X) → (stays ≡ false → q ≡ k → ⊥)
     → at (cond stays es (without es k)) q ≡ Some x → at es q ≡ Some x
 was_unless es k q true x apart h = h
-was_unless es k q false x apart h =
-    ⊎_elim (λ (same : q ≡ k). absurd (apart refl same)) (λ other. sym (at_without_other es k q other) ∙ h)
-    (at_or_apart q k)
+was_unless es k q false x apart h = grind (arith, nat_tests, at_without_other, at_or_apart)
 
 -- a process has a context
 pub process_of_one :
@@ -444,9 +359,8 @@ was_left :
     → at (cond stays es (without es k)) q ≡ Some x → at es q ≡ Some x
 was_left es k q true x rises h = h
 was_left es k q false x rises h =
-    ⊎_elim (λ (same : q ≡ k). absurd (none-some x (sym (at_without_same es k (rises_distinct es rises)) ∙ (ap (at (without es k)) (sym same) ∙ h))))
-    (λ other. sym (at_without_other es k q other) ∙ h)
-    (at_or_apart q k)
+    grind (arith, nat_tests, none-some, at_without_same, rises_distinct, at_without_other, at_or_apart) steps
+    600000
 
 -- one context less, and its process and its uid where they have none left
 pub exited_unattached :

@@ -1,55 +1,28 @@
 -- A new key is its maker's own, and linked from nowhere but where it was put.
-use Rattle.std.proofs.Common.{◌&&◌, ◌+◌, ◌==◌, [], ap, arith, Bool, codes, cond, Err, false, inr, IsSome, leb-true}
-use Rattle.std.proofs.Common.{length, List, nat_le, nat_lt, None, Ok, Option, refl, Result, Some, subst, sym, true}
-use Rattle.std.proofs.Common.{true≢false, ◌||◌, ℕ, ℤ, ◌∙◌, ◌∷◌, ◌≡◌, ◌≤◌, ⊎_elim}
-use Rattle.std.proofs.lemmas.Bool.Decides.{nat_tests}
-use Rattle.std.proofs.lemmas.Option.{same_Some}
-use Rattle.krs_types.specs.KeyId.{key_id_of}
-use Rattle.krs_types.specs.Perm.{group_byte, other_byte}
+use Rattle.std.proofs.Common.{◌+◌, ◌||◌, ◌∙◌, ◌≡◌, ap, arith, Bool, Err, false, inr, IsSome, leb-true, List, nat_le}
+use Rattle.std.proofs.Common.{None, Ok, Option, refl, Result, Some, subst, sym, true, true≢false, ℕ, ℤ}
+use Rattle.std.proofs.lemmas.{Bool.Decides.nat_tests, Option.same_Some}
+use Rattle.krs_types.specs.declared.ask.{Answer.Answer, Op.{Op, TheVariants.{Add, GetId, Hello, Join}}}
+use Rattle.krs_types.specs.declared.{caller.Caller.Caller, context.{Context.Context, UidRings.UidRings}}
+use Rattle.krs_types.specs.declared.{errno.Errno.Errno, event.Event.Event, key_id.KeyId.KeyId, name.Name.Name}
+use Rattle.krs_types.specs.{declared.rights.Want.TheVariants.Granted, KeyId.key_id_of, Perm.{group_byte, other_byte}}
 use Rattle.krs_types.specs.Rights.{WRITE}
-use Rattle.krs_types.specs.declared.ask.Answer.{Answer}
-use Rattle.krs_types.specs.declared.ask.Op.{Op}
-use Rattle.krs_types.specs.declared.ask.Op.TheVariants.{Add, GetId, Hello, Join}
-use Rattle.krs_types.specs.declared.caller.Caller.{Caller}
-use Rattle.krs_types.specs.declared.context.Context.{Context}
-use Rattle.krs_types.specs.declared.context.UidRings.{UidRings}
-use Rattle.krs_types.specs.declared.errno.Errno.{Errno}
-use Rattle.krs_types.specs.declared.event.Event.{Event}
-use Rattle.krs_types.specs.declared.key_id.KeyId.{KeyId}
-use Rattle.krs_types.specs.declared.name.Name.{Name}
-use Rattle.krs_types.specs.declared.rights.Want.TheVariants.{Granted}
 use Rattle.krs_types.proofs.KindRows.{has_row}
 use Rattle.krs_model.specs.Asks.Adding.{add, added, admitted, Made, new_key, Place, place_of, Updated}
-use Rattle.krs_model.specs.Asks.Changing.{updated}
-use Rattle.krs_model.specs.Asks.Finding.{get_id, made_where}
-use Rattle.krs_model.specs.Asks.Hello.{hello, uid_ring, with_uid}
-use Rattle.krs_model.specs.Asks.Joining.{join, session_joined, session_ring}
-use Rattle.krs_model.specs.Confidentiality.{ActsAs, AreEnclosed, HasToItself, is_own, IsFor, IsGivenAway, IsWithin}
-use Rattle.krs_model.specs.Confidentiality.{MakesForItself, may_make, with_made}
-use Rattle.krs_model.specs.Levels.{is_in}
-use Rattle.krs_model.specs.Linking.{is_named, link_named, ring_links}
-use Rattle.krs_model.specs.Lookup.{context_of, look_up, serial_of}
-use Rattle.krs_model.specs.Making.{made_for, own_ring, special_ring}
-use Rattle.krs_model.specs.Notes.Posting.{Post, posted_in}
-use Rattle.krs_model.specs.Reach.{links_of_key_at}
-use Rattle.krs_model.specs.Sound.{IsSound}
-use Rattle.krs_model.specs.State.{Key, raised, State}
-use Rattle.krs_model.specs.Step.{Ends, outcome_of, posts_by, Step}
-use Rattle.krs_model.specs.Sweep.{IsSweep}
-use Rattle.krs_model.specs.Table.{at, IsBelow, put, Table}
-use Rattle.krs_model.proofs.Asks.Later.{bind_ok, same_ok}
-use Rattle.krs_model.proofs.Asks.Outcomes.{Meets, meets_after, meets_ok, meets_within}
-use Rattle.krs_model.proofs.Isolation.Growth.{IsNew, of_made, same_owner, step_grows}
-use Rattle.krs_model.proofs.Isolation.Guarded.{lessens_keeps}
-use Rattle.krs_model.proofs.Isolation.Keys.{changed_enclosed, KeepsOwn, kept_enclosed}
-use Rattle.krs_model.proofs.Isolation.Steps.{raised_alone}
-use Rattle.krs_model.proofs.Lookups.Laws.{in_by_match}
-use Rattle.krs_model.proofs.Lookups.Serials.{found_serial}
-use Rattle.krs_model.proofs.MadeKeyring.Which.{IsMade, made_for_is, NoneMade, ProcessMade, ThreadMade}
-use Rattle.krs_model.proofs.Reach.Levels.{or_true, true_or}
-use Rattle.krs_model.proofs.Sound.Changes.{at_put, IsPut, LinksTo, not_there, Stands, with_linked}
-use Rattle.krs_model.proofs.Sound.KeyChanges.{updated_lessens}
-use Rattle.krs_model.proofs.Sound.Steps.{raised_sound, sound_stands, step_sound}
+use Rattle.krs_model.specs.Asks.{Finding.{get_id, made_where}, Hello.{hello, with_uid}, Joining.join}
+use Rattle.krs_model.specs.{Asks.Joining.{session_joined, session_ring}, Confidentiality.{ActsAs, AreEnclosed}}
+use Rattle.krs_model.specs.Confidentiality.{HasToItself, is_own, IsFor, IsGivenAway, MakesForItself, may_make}
+use Rattle.krs_model.specs.{Confidentiality.with_made, Linking.{is_named, link_named, ring_links}, Lookup.context_of}
+use Rattle.krs_model.specs.{Lookup.{look_up, serial_of}, Making.made_for, Notes.Posting.{Post, posted_in}}
+use Rattle.krs_model.specs.{Sound.IsSound, State.{Key, raised, State}, Step.{Ends, outcome_of, posts_by, Step}}
+use Rattle.krs_model.specs.{Sweep.IsSweep, Table.{at, IsBelow, put, Table}}
+use Rattle.krs_model.proofs.Asks.{Later.{bind_ok, same_ok}, Outcomes.{Meets, meets_after, meets_ok, meets_within}}
+use Rattle.krs_model.proofs.Isolation.{Growth.{of_made, same_owner, step_grows}, Guarded.lessens_keeps}
+use Rattle.krs_model.proofs.Isolation.{Keys.{changed_enclosed, KeepsOwn, kept_enclosed}, Steps.raised_alone}
+use Rattle.krs_model.proofs.{Lookups.{Laws.in_by_match, Serials.found_serial}, MadeKeyring.Which.IsMade}
+use Rattle.krs_model.proofs.{MadeKeyring.Which.{made_for_is, NoneMade, ProcessMade, ThreadMade}, Reach.Levels.or_true}
+use Rattle.krs_model.proofs.{Reach.Levels.true_or, Sound.Changes.{at_put, not_there, Stands, with_linked}}
+use Rattle.krs_model.proofs.Sound.{KeyChanges.updated_lessens, Steps.{raised_sound, sound_stands, step_sound}}
 use Rattle.krs_model.proofs.Sweep.Laws.{linking_is_there}
 
 -- these keys, and all serials that are not given yet
@@ -65,30 +38,12 @@ after_late private n = or_true (private (n + 1)) (nat_le n (n + 1)) (grind (arit
 late_enclosed :
     (uid : ℕ) (private : ℕ → Bool) (s : State) → Stands s → HasToItself uid private s
     → AreEnclosed uid (or_late private s.next_serial) s.keys
-late_enclosed uid private s stands alone =
-    let n = s.next_serial in
-    let none : (k : ℕ) → nat_le n k ≡ true → IsSome (at s.keys k) → ⊥ = λ k m there.
-    not_there (at s.keys k) there (stands.unused k (leb-true n k m)) in
-    record {
-      own = λ k key m is. ⊎_elim (λ (h : private k ≡ true). alone.enclosed.own k key h is)
-          (λ (h : nat_le n k ≡ true). absurd (none k h (rw is refl)))
-          (true_or (private k) (nat_le n k) m);
-      linked = λ j k m i. ⊎_elim
-          (λ (h : private k ≡ true). ap (λ (b : Bool). b || nat_le n j) (alone.enclosed.linked j k h i))
-          (λ (h : nat_le n k ≡ true). absurd (none k h (stands.linked j k i)))
-          (true_or (private k) (nat_le n k) m);
-    }
+late_enclosed uid private s stands alone = grind (arith, nat_tests, not_there, leb-true, true_or)
 
 put_own :
     (uid : ℕ) (set : ℕ → Bool) (es : Table Key) (n : ℕ) (key : Key) → set n ≡ true → is_own uid key ≡ true
     → AreEnclosed uid set es → AreEnclosed uid set (put es n key)
-put_own uid set es n key private own alone = record {
-  own = λ k v m is. ⊎_elim
-      (λ (r : IsPut es n key k). subst (λ (z : Key). is_own uid z ≡ true) (same_Some key v (sym r.1 ∙ is)) own)
-      (λ same. alone.own k v m (sym same ∙ is)) (at_put es n k key);
-  linked = λ j k m i. ⊎_elim (λ (r : IsPut es n key j). subst (λ (z : ℕ). set z ≡ true) (sym r.0) private)
-      (λ same. alone.linked j k m (subst (LinksTo k) same i)) (at_put es n j key);
-}
+put_own uid set es n key private own alone = grind (arith, nat_tests, same_Some, at_put)
 
 pub made_own :
     (uid : ℕ) (key : Key) → key.uid ≡ uid → group_byte key.perm ≡ 0 → other_byte key.perm ≡ 0 → is_own uid key ≡ true
@@ -103,12 +58,8 @@ is_made_own :
     → IsMade s number c id made → set s.next_serial ≡ true → c.caller.uid ≡ uid → AreEnclosed uid set s.keys
     → AreEnclosed uid set made.0.keys
 is_made_own uid set s number c id _ NoneMade next own alone = alone
-is_made_own uid set s number c id _ (ThreadMade is none) next own alone =
-    put_own uid set s.keys s.next_serial (special_ring (codes "_tid") c.caller) next
-    (made_own uid (special_ring (codes "_tid") c.caller) own refl refl) alone
-is_made_own uid set s number c id _ (ProcessMade is none) next own alone =
-    put_own uid set s.keys s.next_serial (special_ring (codes "_pid") c.caller) next
-    (made_own uid (special_ring (codes "_pid") c.caller) own refl refl) alone
+is_made_own uid set s number c id _ (ThreadMade is none) next own alone = search (put_own, made_own) depth 8
+is_made_own uid set s number c id _ (ProcessMade is none) next own alone = search (put_own, made_own) depth 8
 
 made_for_own :
     (uid : ℕ) (set : ℕ → Bool) (s : State) (number : ℕ) (c : Context) (id : ℤ) → set s.next_serial ≡ true
@@ -140,21 +91,14 @@ unfolding get_id
 get_id_keeps uid set s client context id create ask next alone = search (keeping, where_own) depth 12
 
 session_own : (uid : ℕ) (name : List ℕ) (c : Caller) → c.uid ≡ uid → is_own uid (session_ring name c) ≡ true
-session_own uid name c own =
-    elim (length name == 0) as (λ b. is_own uid (cond b (own_ring (codes "_ses") 1057161216 true c)
-    (own_ring name 1058209792 true c)) ≡ true) [
-      | true ↦ made_own uid (own_ring (codes "_ses") 1057161216 true c) own refl refl
-      | false ↦ made_own uid (own_ring name 1058209792 true c) own refl refl
-    ]
+session_own uid name c own = grind (arith, nat_tests, made_own)
 
 joined_keeps :
     (uid : ℕ) (set : ℕ → Bool) (s : State) (number : ℕ) (c : Context) (name : List ℕ) (answer : Option (ℕ × Key))
     → set s.next_serial ≡ true → c.caller.uid ≡ uid → AreEnclosed uid set s.keys
     → Meets (Encloses uid set) (session_joined s number c name answer)
 joined_keeps uid set s number c name (Some found) next own alone = meets_ok alone
-joined_keeps uid set s number c name None next own alone =
-    meets_ok (put_own uid set s.keys s.next_serial (session_ring name c.caller) next
-    (session_own uid name c.caller own) alone)
+joined_keeps uid set s number c name None next own alone = search (meets_ok, put_own, session_own) depth 8
 
 join_keeps :
     (uid : ℕ) (set : ℕ → Bool) (s : State) (client context : ℕ) (name : List ℕ) → ActsAs uid s client context
@@ -167,12 +111,7 @@ uid_keeps :
     → set (s.next_serial + 1) ≡ true → c.uid ≡ uid → AreEnclosed uid set s.keys
     → AreEnclosed uid set (with_uid s c rings).keys
 uid_keeps uid set s c (Some rings) here next own alone = alone
-uid_keeps uid set s c None here next own alone =
-    let n = s.next_serial in
-    let user = uid_ring (codes "_uid.") [] c in
-    let session = uid_ring (codes "_uid_ses.") (n ∷ []) c in
-    put_own uid set (put s.keys n user) (n + 1) session next (made_own uid session own refl refl)
-    (put_own uid set s.keys n user here (made_own uid user own refl refl) alone)
+uid_keeps uid set s c None here next own alone = search (put_own, made_own) depth 8
 
 hello_keeps :
     (uid : ℕ) (set : ℕ → Bool) (s : State) (client : ℕ) (c : Caller) → c.uid ≡ uid → set s.next_serial ≡ true
@@ -197,8 +136,7 @@ added_keeps :
     → set s.next_serial ≡ true → c.caller.uid ≡ uid → AreEnclosed uid set s.keys
     → AreEnclosed uid set (added s c name payload place).keys
 added_keeps uid set s c name payload id (Updated serial) is within next own alone =
-    changed_enclosed uid set s.keys serial (updated payload)
-    (lessens_keeps uid set serial (updated payload) (updated_lessens payload) (λ v m h. h)) alone
+    search (changed_enclosed, lessens_keeps, updated_lessens) depth 8
 added_keeps uid set s c name payload id (Made ring) is within next own alone =
     let n = s.next_serial in
     let key = new_key name payload c.caller.uid c.caller.gid in
@@ -208,9 +146,7 @@ added_keeps uid set s c name payload id (Made ring) is within next own alone =
       own = λ v m h. h;
       links = λ v k m i. inr private;
     } in
-    changed_enclosed uid set (put s.keys n key) ring (with_linked displaced n) keeps
-    (put_own uid set s.keys n key next (made_own uid key own (has_row name.kind).group (has_row name.kind).other)
-    alone)
+    grind (arith, nat_tests, changed_enclosed, put_own, made_own, has_row)
 
 add_keeps :
     (uid : ℕ) (set : ℕ → Bool) (s : State) (client context : ℕ) (type_name desc payload : List ℕ) (ring : ℤ)
@@ -235,21 +171,13 @@ outcome_keeps :
     → MakesForItself uid private s client context op
     → Meets (Encloses uid (or_late private s.next_serial)) (outcome_of s client context op)
 outcome_keeps uid private s client context (Hello caller) stands alone makes =
-    hello_keeps uid (or_late private s.next_serial) s client caller makes (in_late private s.next_serial)
-    (after_late private s.next_serial) (late_enclosed uid private s stands alone)
+    search (hello_keeps, in_late, after_late, late_enclosed) depth 8
 outcome_keeps uid private s client context (GetId id create) stands alone makes =
-    get_id_keeps uid (or_late private s.next_serial) s client context id create makes.1 (in_late private s.next_serial)
-    (late_enclosed uid private s stands alone)
+    search (get_id_keeps, in_late, late_enclosed) depth 8
 outcome_keeps uid private s client context (Join name) stands alone makes =
-    join_keeps uid (or_late private s.next_serial) s client context name makes (in_late private s.next_serial)
-    (late_enclosed uid private s stands alone)
+    search (join_keeps, in_late, late_enclosed) depth 8
 outcome_keeps uid private s client context (Add type_name desc payload ring) stands alone makes =
-    let acts = makes.0 in
-    let within : (c : Context) → context_of s client context ≡ Ok c → IsWithin private s context c ring = λ c own.
-    subst (λ (d : Context). IsWithin private s context d ring)
-    (same_ok (context_of s client context) acts.context c acts.there own) makes.1 in
-    add_keeps uid (or_late private s.next_serial) s client context type_name desc payload ring within acts (in_late private s.next_serial) (after_late private s.next_serial)
-    (late_enclosed uid private s stands alone)
+    grind (arith, nat_tests, same_ok, add_keeps, in_late, after_late, late_enclosed)
 outcome_keeps uid private s client context op stands alone makes = absurd makes
 
 same_acts :
@@ -290,42 +218,21 @@ ended_keeps uid private s new client context op (Ok answer) sound alone makes se
     serves.meant in
     let swept = swept_keeps uid set serves.mid serves.swept serves.sweep mid in
     let ps : List Post = posts_by s client context op answer serves.swept.keys in
-    subst (λ (z : State). AreEnclosed uid set z.keys) (sym serves.posted)
-    (subst (AreEnclosed uid set) (sym (posted_keys ps serves.swept)) swept)
+    grind (arith, nat_tests, posted_keys)
 ended_keeps uid private s new client context op (Err e) sound alone makes ends =
-    subst (λ (z : State). AreEnclosed uid (or_late private s.next_serial) z.keys) (sym ends.1)
-    (late_enclosed uid private s (sound_stands s sound) alone)
+    grind (arith, nat_tests, late_enclosed, sound_stands)
 
 late_is_made :
     (private : ℕ → Bool) (old new : State) (j : ℕ) → IsBelow new.keys new.next_serial → IsSome (at new.keys j)
     → or_late private old.next_serial j ≡ true → with_made private old new j ≡ true
-late_is_made private old new j unused there m =
-    ⊎_elim (λ (h : private j ≡ true). ap (λ (b : Bool). b || (nat_le old.next_serial j && nat_lt j new.next_serial)) h)
-    (λ (h : nat_le old.next_serial j ≡ true).
-    or_true (private j) (nat_le old.next_serial j && nat_lt j new.next_serial)
-    (elim (nat_lt j new.next_serial) as
-    (λ b. nat_lt j new.next_serial ≡ b → (nat_le old.next_serial j && b) ≡ true) [
-      | true ↦ λ t. ap (λ (b : Bool). b && true) h
-      | false ↦ λ t. let above : new.next_serial ≤ j = grind (arith, nat_tests) in
-          absurd (not_there (at new.keys j) there (unused j above))
-    ] refl))
-    (true_or (private j) (nat_le old.next_serial j) m)
+late_is_made private old new j unused there m = grind (arith, nat_tests, or_true, not_there, true_or)
 
 -- an ask that makes keys for its own uid gives none away
 none_given :
     (uid : ℕ) (private : ℕ → Bool) (old new : State) → IsBelow new.keys new.next_serial
     → AreEnclosed uid (or_late private old.next_serial) new.keys → IsGivenAway uid (with_made private old new) new.keys → ⊥
 none_given uid private old new unused alone given =
-    let k = given.serial in
-    let late_is : or_late private old.next_serial k ≡ true =
-    ⊎_elim (λ (h : private k ≡ true). ap (λ (b : Bool). b || nat_le old.next_serial k) h)
-    (λ (h : IsNew old new k). or_true (private k) (nat_le old.next_serial k) h.late) (of_made private old new k given.own) in
-    ⊎_elim
-    (λ (h : (key : Key) × (at new.keys k ≡ Some key) × (is_own uid key ≡ false)).
-    true≢false (sym (alone.own k h.0 late_is h.1) ∙ h.2))
-    (λ (h : (ring : ℕ) × (with_made private old new ring ≡ false) × (is_in k (links_of_key_at new.keys ring) ≡ true)).
-    let there = linking_is_there k (at new.keys h.0) h.2 in
-    true≢false (sym (late_is_made private old new h.0 unused there (alone.linked h.0 k late_is h.2)) ∙ h.1)) given.how
+    grind (arith, nat_tests, or_true, of_made, true≢false, linking_is_there, late_is_made)
 
 pub step_births :
     (uid : ℕ) (private : ℕ → Bool) (old new : State) (event : Event) → IsSound old → HasToItself uid private old

@@ -1,39 +1,26 @@
 -- Nothing of the payloads of keys that a uid has to itself is told to a client that asks nothing in a context of the uid.
-use Rattle.std.proofs.Common.{[], ⊎_elim, ◌++◌, ◌<◌, ◌∙◌, ◌∷◌, ◌≡◌, ◌≤◌, ◌⊎◌, arith, Bool, false, inl, leb-true, List}
-use Rattle.std.proofs.Common.{nat_le, refl, Some, subst, sym, true, ℕ}
-use Rattle.std.proofs.lemmas.{Bool.Decides.nat_tests, Option.none-some}
+use Rattle.std.proofs.Common.{[], ◌++◌, ◌<◌, ◌∙◌, ◌∷◌, ◌≡◌, ◌≤◌, ◌⊎◌, arith, Bool, false, inl, leb-true, List, refl}
+use Rattle.std.proofs.{Common.{Some, subst, sym, true, ℕ}, lemmas.{Bool.Decides.nat_tests, Option.none-some}}
 use Rattle.krs_types.specs.declared.event.Event.{Event}
-use Rattle.krs_model.specs.Confidentiality.{GivesAway, HasToItself, IsFor, IsGivenAway, IsStranger, KeepsPrivate}
-use Rattle.krs_model.specs.Confidentiality.{may_make, StaysPrivate, TellsNoStranger, with_made}
-use Rattle.krs_model.specs.{Hiding.Hiding, History.IsLegal, Secrecy.{IsShown, ReadsShown}, Sound.IsSound}
-use Rattle.krs_model.specs.{State.{Key, State}, Step.Step, Table.{at, IsBelow, Table}}
+use Rattle.krs_model.specs.Confidentiality.{HasToItself, IsStranger, KeepsPrivate, StaysPrivate, TellsNoStranger}
+use Rattle.krs_model.specs.{Hiding.Hiding, History.IsLegal, Secrecy.{IsShown, ReadsShown}, Sound.IsSound, State.Key}
+use Rattle.krs_model.specs.{State.State, Step.Step, Table.{at, IsBelow, Table}}
 use Rattle.krs_model.proofs.{Asks.LaterByStep.step_follows, Hiding.Clients.keeps_secrets, History.Determined.one_step}
-use Rattle.krs_model.proofs.Isolation.Growth.{IsNew, of_made}
-use Rattle.krs_model.proofs.Isolation.{Histories.withheld_alone, Steps.{reads_own, same_context}}
+use Rattle.krs_model.proofs.Isolation.{Growth.{IsNew, of_made}, Histories.withheld_alone, Steps.reads_own}
+use Rattle.krs_model.proofs.Isolation.Steps.{same_context}
 
 no_less : (a b : ℕ) → a ≤ b → b < a → ⊥
 no_less a b le less = omega arith
 
-given_below :
+pub given_below :
     (keys : Table Key) (n k : ℕ) (key : Key) → IsBelow keys n → at keys k ≡ Some key → k < n
-given_below keys n k key below there =
-    elim (nat_le n k) as (λ b. nat_le n k ≡ b → k < n) [
-      | true ↦ λ t. absurd (none-some key (sym (below k (leb-true n k t)) ∙ there))
-      | false ↦ λ t. grind (arith, nat_tests)
-    ] refl
+given_below keys n k key below there = grind (arith, nat_tests, none-some, leb-true)
 
 -- a key that stays private was so, or is new
 was_or_new :
     (uid : ℕ) (private after : ℕ → Bool) (old new : State) (event : Event) (k : ℕ)
     → StaysPrivate uid private old event new after → after k ≡ true → (private k ≡ true) ⊎ IsNew old new k
-was_or_new uid private after old new event k stays m =
-    ⊎_elim (λ (h : (after ≡ private) × (GivesAway uid private old event new → ⊥)).
-    inl (subst (λ (set : ℕ → Bool). set k ≡ true) h.0 m))
-    (λ rest. ⊎_elim
-    (λ (h : ((q : ℕ) → after q ≡ true → private q ≡ true) × (IsGivenAway uid after new.keys → ⊥)). inl (h.0 k m))
-    (λ (h : ((q : ℕ) → after q ≡ true → with_made private old new q ≡ true) × (may_make event.ask.op ≡ true)
-    × IsFor uid old event.lane event.ask.context event.ask.op × (IsGivenAway uid after new.keys → ⊥)).
-    of_made private old new k (h.0 k m)) rest) stays
+was_or_new uid private after old new event k stays m = grind (arith, nat_tests, of_made)
 
 -- what is private in the end, and had been made, was private
 was_private :
@@ -46,10 +33,7 @@ was_private uid private start (event ∷ events) end last k keeps m less =
     let next = keeps.0 in
     let rises : start.next_serial ≤ next.next_serial = (step_follows start next event keeps.2).next in
     let after = was_private uid keeps.1 next events end last k keeps.4 m (omega arith) in
-    ⊎_elim (λ (h : private k ≡ true). h)
-    (λ (h : IsNew start next k).
-    let from : start.next_serial ≤ k = leb-true start.next_serial k h.late in absurd (no_less start.next_serial k from less))
-    (was_or_new uid private keeps.1 start next event k keeps.3 after)
+    grind (arith, nat_tests, leb-true, no_less, was_or_new)
 
 -- what is private at a point of the history, and the step from there
 record IsAt (uid : ℕ) (private : ℕ → Bool) (start : State) (before : List Event) (old : State) (reading : Event)
@@ -76,10 +60,7 @@ at_point uid private start [] later reading old end last keeps legal =
       was = λ k m less. was_private uid private old (reading ∷ later) end last k here m less;
     }
 at_point uid private start (event ∷ before) later reading old end last keeps legal =
-    let same : legal.0 ≡ keeps.0 = one_step start legal.0 keeps.0 event legal.1 keeps.2 in
-    let r = at_point uid keeps.1 keeps.0 before later reading old end last keeps.4
-    (subst (λ (s : State). IsLegal s before old) same legal.2) in
-    record { set = r.set; keeps = (keeps.0, keeps.1, keeps.2, keeps.3, r.keeps); end = r.end; step = r.step; was = r.was }
+    grind (arith, nat_tests, one_step, at_point uid keeps.1 keeps.0 before later reading old end last keeps.4)
 
 -- a client that asks nothing in a context of the uid reads none of its private keys
 reads_shown :
@@ -114,5 +95,4 @@ pub tells_no_stranger :
     (uid : ℕ) (private : ℕ → Bool) (start : State) → IsSound start → HasToItself uid private start
     → TellsNoStranger uid private start
 tells_no_stranger uid private start sound alone events end last keeps hide client other others lawful shown alike stranger =
-    keeps_secrets start events hide client other others lawful alike
-    (reads_shown uid private start events end last hide client sound alone keeps shown stranger)
+    search (keeps_secrets, reads_shown) depth 8

@@ -1,7 +1,7 @@
 -- The keys that an ask for a uid makes, no context of another uid attaches.
-use Rattle.std.proofs.Common.{[], ⊎_elim, ◌&&◌, ◌+◌, ◌∙◌, ◌∷◌, ◌≡◌, ◌⊎◌, ap, arith, Bool, Err, false, inl, inr, IsSome}
-use Rattle.std.proofs.Common.{leb-true, List, nat_le, nat_lt, None, Ok, Option, option_to_list, refl, Result, Some}
-use Rattle.std.proofs.{Common.{subst, sym, true, true≢false, ℕ}, lemmas.Bool.Decides.nat_tests}
+use Rattle.std.proofs.Common.{[], ⊎_elim, ◌∙◌, ◌∷◌, ◌≡◌, ◌⊎◌, ap, arith, Bool, Err, false, inr, IsSome, leb-true}
+use Rattle.std.proofs.Common.{List, nat_le, nat_lt, None, Ok, Option, option_to_list, refl, Result, Some, subst, sym}
+use Rattle.std.proofs.{Common.{true, true≢false, ℕ}, lemmas.Bool.Decides.nat_tests}
 use Rattle.krs_types.specs.{Caller.caller_check, declared.ask.{Answer.Answer, Op.{Op, TheVariants.Hello}}}
 use Rattle.krs_types.specs.declared.{caller.Caller.Caller, context.{Context.Context, UidRings.UidRings}}
 use Rattle.krs_types.specs.declared.{errno.Errno.Errno, event.Event.Event}
@@ -9,19 +9,20 @@ use Rattle.krs_types.proofs.Names.{and_left, and_right}
 use Rattle.krs_model.specs.Asks.Hello.{first_session, has_context_left, has_numbers, hello, with_uid}
 use Rattle.krs_model.specs.Confidentiality.{ActsAs, AreUnattached, foreign_keys, foreign_process, GivesAway}
 use Rattle.krs_model.specs.Confidentiality.{HasToItself, IsFor, IsGivenAway, may_make, StaysPrivate, with_made}
-use Rattle.krs_model.specs.{Levels.is_in, Lookup.context_of, Notes.Posting.{Post, posted_in}, Search.found}
-use Rattle.krs_model.specs.{Sound.IsSound, State.{raised, State}, Step.{Ends, outcome_of, posts_by, Step}}
-use Rattle.krs_model.specs.{Sweep.{IsSweep, live_watches}, Table.{alter, at, Table}}
-use Rattle.krs_model.proofs.Asks.Houses.{Alters, Begins, Departs, Detaches, Enters, Execs, Exits, Forked, Houses, Named}
-use Rattle.krs_model.proofs.Asks.{Houses.{Rings, Same, Threads}, Later.same_ok, Laws.law_of, Outcomes.Meets}
+use Rattle.krs_model.specs.{Levels.is_in, Lookup.context_of, Notes.Posting.Post, Search.found, Sound.IsSound}
+use Rattle.krs_model.specs.{State.{raised, State}, Step.{Ends, outcome_of, posts_by, Step}, Sweep.IsSweep}
+use Rattle.krs_model.specs.Table.{alter, at, Table}
+use Rattle.krs_model.proofs.Asks.Houses.{Alters, Begins, Departs, Detaches, Enters, Execs, Exits, Forked, Houses}
+use Rattle.krs_model.proofs.Asks.{Houses.{Named, Rings, Same, Threads}, Later.same_ok, Laws.law_of, Outcomes.Meets}
 use Rattle.krs_model.proofs.{Asks.Outcomes.{meets_after, meets_ok}, Isolation.Attachments.alter_to}
-use Rattle.krs_model.proofs.Isolation.Attachments.{entered_unattached, of_foreign, of_foreign_process, same_unattached}
-use Rattle.krs_model.proofs.Isolation.{Guarded.{uid_placed, uid_processes}, Steps.{not_given, raised_alone, step_alone}}
-use Rattle.krs_model.proofs.{Isolation.Steps.step_guarded, Lookups.Serials.own_there, Reach.Levels.{in_left, in_one}}
-use Rattle.krs_model.proofs.{Reach.Levels.{in_right, same_is, true_or}, Sound.Attached.{attached_alter, attached_at}}
-use Rattle.krs_model.proofs.Sound.Attached.{attached_entry, attachments, context_keys, in_context, in_process, in_uid}
-use Rattle.krs_model.proofs.Sound.{Attached.uid_keys, Changes.{at_change, at_put, IsChanged, IsPut, not_there, Stands}}
-use Rattle.krs_model.proofs.{Sound.Steps.{raised_sound, sound_stands}, Tables.Entries.rises_distinct}
+use Rattle.krs_model.proofs.Isolation.Attachments.{entered_unattached, of_foreign, of_foreign_process}
+use Rattle.krs_model.proofs.Isolation.{Attachments.same_unattached, Guarded.{uid_placed, uid_processes}}
+use Rattle.krs_model.proofs.Isolation.Steps.{not_given, raised_alone, step_alone, step_guarded}
+use Rattle.krs_model.proofs.{Lookups.Serials.own_there, Reach.Levels.{in_left, in_one, in_right, same_is, true_or}}
+use Rattle.krs_model.proofs.Sound.Attached.{attached_alter, attached_at, attached_entry, attachments, context_keys}
+use Rattle.krs_model.proofs.Sound.{Attached.{in_context, in_process, in_uid, uid_keys}, Changes.{at_change, at_put}}
+use Rattle.krs_model.proofs.Sound.{Changes.{IsChanged, not_there, Stands}, Steps.{raised_sound, sound_stands}}
+use Rattle.krs_model.proofs.Tables.Entries.{rises_distinct}
 
 -- the serials from this one on
 abbrev pub late : ℕ → ℕ → Bool
@@ -31,11 +32,7 @@ foreign_in :
     (uid : ℕ) (es : Table Context) (k : ℕ) → is_in k (attachments (foreign_keys uid) es) ≡ true
     → is_in k (attachments context_keys es) ≡ true
 foreign_in uid [] k i = i
-foreign_in uid (e ∷ es) k i =
-    ⊎_elim
-    (λ h. in_left k (context_keys e.1) (attachments context_keys es) (of_foreign uid e.1 k h).1)
-    (λ h. in_right k (context_keys e.1) (attachments context_keys es) (foreign_in uid es k h))
-    (in_one k (foreign_keys uid e.1) (attachments (foreign_keys uid) es) i)
+foreign_in uid (e ∷ es) k i = grind (arith, nat_tests, in_left, of_foreign, in_right, in_one, foreign_in uid es k)
 
 -- a serial that is not given yet is attached nowhere
 late_unattached :
@@ -100,9 +97,7 @@ own_ring_unattached uid private s number n c sound there own alone = record {
 pub same_owner :
     (uid : ℕ) (s : State) (client context : ℕ) (c : Context) → ActsAs uid s client context
     → context_of s client context ≡ Ok c → c.caller.uid ≡ uid
-same_owner uid s client context c ask own =
-    let same : ask.context ≡ c = same_ok (context_of s client context) ask.context c ask.there own in
-    ap (λ (z : Context). z.caller.uid) (sym same) ∙ ask.own
+same_owner uid s client context c ask own = search same_ok depth 8
 
 abbrev is_hello : Op → Bool
 is_hello (Hello caller) = true
@@ -159,15 +154,7 @@ own_uid_unattached :
     (uid : ℕ) (private : ℕ → Bool) (s : State) (c : Caller) (rings : Option UidRings) → c.uid ≡ uid
     → AreUnattached uid private s → AreUnattached uid private (with_uid s c rings)
 own_uid_unattached uid private s c (Some rings) own alone = alone
-own_uid_unattached uid private s c None own alone =
-    let n = s.next_serial in
-    let new : UidRings = record { user = Some n; session = Some (n + 1) } in
-    record {
-      contexts = alone.contexts;
-      processes = alone.processes;
-      uids = λ v k rings m other there i. ⊎_elim (λ (r : IsPut s.uids c.uid new v). other (r.0 ∙ own))
-          (λ same. alone.uids v k rings m other (sym same ∙ there) i) (at_put s.uids c.uid v new);
-    }
+own_uid_unattached uid private s c None own alone = grind (arith, nat_tests, at_put)
 
 hello_leaves :
     (uid : ℕ) (private : ℕ → Bool) (s : State) (client : ℕ) (c : Caller) → Stands s → c.uid ≡ uid
@@ -195,9 +182,7 @@ outcome_leaves uid private s client context op sound may acts alone =
 swept_leaves :
     (uid : ℕ) (private : ℕ → Bool) (old new : State) → IsSweep old new → AreUnattached uid private old
     → AreUnattached uid private new
-swept_leaves uid private old new s alone =
-    let after : State = record old { keys = new.keys; watches = live_watches new.keys old.watches } in
-    subst (AreUnattached uid private) (sym s.rest) (same_unattached uid private old after refl refl refl alone)
+swept_leaves uid private old new s alone = grind (arith, nat_tests, same_unattached)
 
 ended_leaves :
     (uid : ℕ) (private : ℕ → Bool) (s new : State) (client context : ℕ) (op : Op) (reply : Result Answer Errno) → IsSound s
@@ -208,8 +193,7 @@ ended_leaves uid private s new client context op (Ok answer) sound may ask serve
     serves.meant in
     let swept = swept_leaves uid private serves.mid serves.swept serves.sweep mid in
     let ps : List Post = posts_by s client context op answer serves.swept.keys in
-    subst (AreUnattached uid private) (sym serves.posted)
-    (same_unattached uid private serves.swept (posted_in ps serves.swept) refl refl refl swept)
+    grind (arith, nat_tests, same_unattached)
 ended_leaves uid private s new client context op (Err e) sound may ask ends alone =
     subst (AreUnattached uid private) (sym ends.1) alone
 
@@ -246,38 +230,19 @@ pub record IsNew (old new : State) (k : ℕ) : Type 0 where
 pub of_made :
     (private : ℕ → Bool) (old new : State) (k : ℕ) → with_made private old new k ≡ true
     → (private k ≡ true) ⊎ IsNew old new k
-of_made private old new k m =
-    let from = nat_le old.next_serial k in
-    let below = nat_lt k new.next_serial in
-    ⊎_elim (λ (h : private k ≡ true). inl h)
-    (λ (h : (from && below) ≡ true). inr (record { late = and_left from below h; given = and_right from below h }))
-    (true_or (private k) (from && below) m)
+of_made private old new k m = grind (arith, nat_tests, and_left, and_right, true_or)
 
 -- some of these keys are as unattached as all
 some_unattached :
     (uid : ℕ) (private after : ℕ → Bool) (s : State) → ((k : ℕ) → after k ≡ true → private k ≡ true)
     → AreUnattached uid private s → AreUnattached uid after s
-some_unattached uid private after s part alone = record {
-  contexts = λ k m i. alone.contexts k (part k m) i;
-  processes = λ p k m is i. alone.processes p k (part k m) is i;
-  uids = λ v k rings m other is i. alone.uids v k rings (part k m) other is i;
-}
+some_unattached uid private after s part alone = grind (arith, nat_tests)
 
 -- what one or the other set is not attached to, both are not
 both_unattached :
     (uid : ℕ) (private : ℕ → Bool) (old new : State) → AreUnattached uid private new
     → AreUnattached uid (late old.next_serial) new → AreUnattached uid (with_made private old new) new
-both_unattached uid private old new was made = record {
-  contexts = λ k m i. ⊎_elim (λ (h : private k ≡ true). was.contexts k h i)
-      (λ (h : IsNew old new k). made.contexts k h.late i)
-      (of_made private old new k m);
-  processes = λ p k m is i. ⊎_elim (λ (h : private k ≡ true). was.processes p k h is i)
-      (λ (h : IsNew old new k). made.processes p k h.late is i)
-      (of_made private old new k m);
-  uids = λ v k rings m other is i. ⊎_elim (λ (h : private k ≡ true). was.uids v k rings h other is i)
-      (λ (h : IsNew old new k). made.uids v k rings h.late other is i)
-      (of_made private old new k m);
-}
+both_unattached uid private old new was made = grind (arith, nat_tests, of_made)
 
 -- some of the keys that the uid had to itself, and of those that an ask for it makes, it has so where none is given away
 pub some_grow :
@@ -289,9 +254,7 @@ some_grow uid private after old new event sound alone step part may ask none =
     let was = step_guarded uid private old new event sound alone step in
     let made = step_late uid private old new event sound alone step may ask in
     record {
-      made = λ k m. ⊎_elim (λ (h : private k ≡ true). was.made k h)
-          (λ (h : IsNew old new k). let less = h.given in grind (arith, nat_tests))
-          (of_made private old new k (part k m));
+      made = grind (arith, nat_tests, of_made);
       enclosed = not_given uid after new.keys none;
       unattached = some_unattached uid (with_made private old new) after new part
           (both_unattached uid private old new was.unattached made);
@@ -311,11 +274,7 @@ some_stay :
     → HasToItself uid after new
 some_stay uid private after old new event sound alone step part none =
     let was = step_guarded uid private old new event sound alone step in
-    record {
-      made = λ k m. was.made k (part k m);
-      enclosed = not_given uid after new.keys none;
-      unattached = some_unattached uid private after new part was.unattached;
-    }
+    grind (arith, nat_tests, not_given, some_unattached)
 
 -- so a uid goes on to have keys to itself
 pub goes_alone :

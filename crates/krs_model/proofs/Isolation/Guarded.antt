@@ -1,13 +1,14 @@
 -- What a uid has to itself once an ask was accepted: where one key changes, and what others find.
-use Rattle.std.proofs.Common.{◌<◌, ◌≡◌, ◌≢◌, arith, Bool, false, inl, None, Ok, Option, refl, Some, true, ℕ, ℤ}
-use Rattle.krs_types.specs.{Rights.allows, declared.{ask.Op.Op, caller.Caller.Caller, context.Context.Context}}
-use Rattle.krs_types.specs.declared.{context.UidRings.UidRings, rights.Want.Want}
-use Rattle.krs_model.specs.Asks.{Changing.changed, Hello.with_uid}
-use Rattle.krs_model.specs.Confidentiality.{AreEnclosed, AreUnattached, HasToItself, is_own, may_give}
-use Rattle.krs_model.specs.{Lookup.{context_of, look_up}, Sound.AllPlaced, State.{Key, State}, Table.at}
-use Rattle.krs_model.proofs.Isolation.Attachments.{attaches_none, same_unattached}
-use Rattle.krs_model.proofs.Isolation.Keys.{changed_enclosed, KeepsOwn, not_found}
-use Rattle.krs_model.proofs.{Lookups.Serials.own_there, Sound.Changes.Lessens, Tables.Counts.part_in}
+use Rattle.std.proofs.Common.{◌<◌, ◌≡◌, ◌≢◌, arith, Bool, false, None, Ok, Option, Some, true, ℕ, ℤ}
+use Rattle.std.proofs.lemmas.Bool.Decides.{nat_tests}
+use Rattle.krs_types.specs.declared.{ask.Op.Op, caller.Caller.Caller, context.{Context.Context, UidRings.UidRings}}
+use Rattle.krs_types.specs.{declared.rights.Want.Want, Rights.allows}
+use Rattle.krs_model.specs.{Asks.{Changing.changed, Hello.with_uid}, Confidentiality.{AreEnclosed, AreUnattached}}
+use Rattle.krs_model.specs.{Confidentiality.{HasToItself, is_own, may_give}, Lookup.{context_of, look_up}}
+use Rattle.krs_model.specs.{Sound.AllPlaced, State.{Key, State}, Table.at}
+use Rattle.krs_model.proofs.Isolation.{Attachments.{attaches_none, same_unattached}, Keys.changed_enclosed}
+use Rattle.krs_model.proofs.{Isolation.Keys.{KeepsOwn, not_found}, Lookups.Serials.own_there, Sound.Changes.Lessens}
+use Rattle.krs_model.proofs.Tables.Counts.{part_in}
 
 -- the uid has them to itself, but for the links and masks, which are so where this holds
 pub record Guarded (uid : ℕ) (private : ℕ → Bool) (P : Type 0) (s : State) : Type 0 where
@@ -16,11 +17,7 @@ pub record Guarded (uid : ℕ) (private : ℕ → Bool) (P : Type 0) (s : State)
   pub unattached : AreUnattached uid private s
 
 pub alone_guarded : (uid : ℕ) (private : ℕ → Bool) (P : Type 0) (s : State) → HasToItself uid private s → Guarded uid private P s
-alone_guarded uid private P s alone = record {
-  made = alone.made;
-  enclosed = λ p. alone.enclosed;
-  unattached = alone.unattached;
-}
+alone_guarded uid private P s alone = search depth 8
 
 -- a serial that is not given yet is of none of these keys
 pub next_apart : (uid : ℕ) (private : ℕ → Bool) (s : State) → HasToItself uid private s → private s.next_serial ≡ true → ⊥
@@ -38,20 +35,13 @@ Holds uid s client context op = (may_give op ≡ true) → NotBy uid s client co
 pub changed_guarded :
     (uid : ℕ) (private : ℕ → Bool) (P : Type 0) (s : State) (n : ℕ) (f : Key → Key) → (P → KeepsOwn uid private n f)
     → HasToItself uid private s → Guarded uid private P (changed s n f)
-changed_guarded uid private P s n f keeps alone = record {
-  made = alone.made;
-  enclosed = λ p. changed_enclosed uid private s.keys n f (keeps p) alone.enclosed;
-  unattached = same_unattached uid private s (changed s n f) refl refl refl alone.unattached;
-}
+changed_guarded uid private P s n f keeps alone = search (changed_enclosed, same_unattached) depth 8
 
 -- fewer links, or as many, and the same rights
 pub lessens_keeps :
     (uid : ℕ) (private : ℕ → Bool) (n : ℕ) (f : Key → Key) → Lessens f
     → ((v : Key) → private n ≡ true → is_own uid v ≡ true → is_own uid (f v) ≡ true) → KeepsOwn uid private n f
-lessens_keeps uid private n f less own = record {
-  own = own;
-  links = λ v k m i. inl (part_in _ _ k (less.links v) i);
-}
+lessens_keeps uid private n f less own = grind (arith, nat_tests, part_in)
 
 -- a context of another uid finds none of these keys
 pub none_found :
@@ -59,9 +49,7 @@ pub none_found :
     → HasToItself uid private s → context_of s client context ≡ Ok c → NotBy uid s client context
     → allows want 0 false ≡ false → look_up s c id want ≡ Ok found → private found.0 ≡ true → ⊥
 none_found uid private s client context c id want found alone own other wants is m =
-    let apart = other c own in
-    let none = attaches_none uid private s context c alone.unattached (own_there s client context c own) apart in
-    not_found uid private s c id want found alone.enclosed none apart wants is m
+    search (attaches_none, own_there, not_found) depth 8
 
 pub uid_processes :
     (s : State) (c : Caller) (rings : Option UidRings)

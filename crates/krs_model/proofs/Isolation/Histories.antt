@@ -1,8 +1,8 @@
 -- Over whole histories the keys that a uid keeps private it has to itself, reads alone, and nobody else changes.
-use Rattle.std.proofs.Common.{[], ◌∷◌, Bool, false, List, subst, ℕ}
+use Rattle.std.proofs.{Common.{[], ◌∷◌, arith, Bool, false, List, ℕ}, lemmas.Bool.Decides.nat_tests}
 use Rattle.krs_types.specs.declared.event.Event.{Event}
-use Rattle.krs_model.specs.Confidentiality.{HasToItself, KeepsPrivate, LeavesAlone, ReadsAlone}
-use Rattle.krs_model.specs.{History.IsLegal, Sound.IsSound, State.{starting_at, State}}
+use Rattle.krs_model.specs.{Confidentiality.{HasToItself, KeepsPrivate, LeavesAlone, ReadsAlone}, History.IsLegal}
+use Rattle.krs_model.specs.{Sound.IsSound, State.{starting_at, State}}
 use Rattle.krs_model.proofs.Isolation.{Growth.goes_alone, Stays.step_unchanged, Steps.{none_alone, reads_own}}
 use Rattle.krs_model.proofs.Sound.Steps.{start_sound, step_sound}
 
@@ -20,9 +20,7 @@ pub withheld_alone :
     (uid : ℕ) (private : ℕ → Bool) (start : State) (events : List Event) (end : State) (last : ℕ → Bool) → IsSound start
     → HasToItself uid private start → KeepsPrivate uid private start events end last → IsSound end × HasToItself uid last end
 unfolding KeepsPrivate
-withheld_alone uid private start [] end last sound alone held =
-    subst (λ (set : ℕ → Bool). IsSound end × HasToItself uid set end) held.1
-    (subst (λ (s : State). IsSound s × HasToItself uid private s) held.0 (sound, alone))
+withheld_alone uid private start [] end last sound alone held = grind (arith, nat_tests)
 withheld_alone uid private start (event ∷ events) end last sound alone held =
     let next = held.0 in
     let after = held.1 in

@@ -1,16 +1,16 @@
 -- What changes of keys leave a uid to itself, and that no context of another uid has a right on such a key.
-use Rattle.std.proofs.Common.{[], ⊎_elim, ◌∙◌, ◌≡◌, ◌≢◌, ◌⊎◌, ap, arith, Bool, cond, false, filter, inl, List, None, Ok}
+use Rattle.std.proofs.Common.{⊎_elim, ◌∙◌, ◌≡◌, ◌≢◌, ◌⊎◌, ap, arith, Bool, cond, false, filter, inl, List, None, Ok}
 use Rattle.std.proofs.Common.{Option, option_map, refl, Some, subst, suc, sym, true, true≢false, zero, ℕ, ℤ}
 use Rattle.std.proofs.lemmas.Bool.Decides.{nat_tests}
-use Rattle.krs_types.specs.{Caller.is_of_group, Perm.{group_byte, other_byte}, Rights.allows}
 use Rattle.krs_types.specs.declared.{caller.Caller.Caller, context.Context.Context, rights.Want.Want}
-use Rattle.krs_model.specs.Access.{rights_on}
-use Rattle.krs_model.specs.{Confidentiality.{AreEnclosed, is_own}, Levels.{is_in, level, search_depth}, Lookup.look_up}
-use Rattle.krs_model.specs.Possession.{attached, followed, followed_at, is_followed, links_of_content, possessed}
-use Rattle.krs_model.specs.{State.{Key, State}, Table.{alter, at, map_values, put, Table}}
+use Rattle.krs_types.specs.{Perm.{group_byte, other_byte}, Rights.allows}
+use Rattle.krs_model.specs.{Access.rights_on, Confidentiality.{AreEnclosed, is_own}, Levels.{is_in, level}}
+use Rattle.krs_model.specs.{Levels.search_depth, Lookup.look_up, Possession.{attached, followed, followed_at}}
+use Rattle.krs_model.specs.{Possession.{links_of_content, possessed}, State.{Key, State}, Table.{alter, at}}
+use Rattle.krs_model.specs.Table.{map_values, put, Table}
 use Rattle.krs_model.proofs.{Lookups.{Laws.look_up_usable, Rights.one_byte}, Reach.Levels.{in_flat, in_level}}
-use Rattle.krs_model.proofs.Sound.Changes.{at_change, at_put, IsChanged, IsPut, LinksTo}
-use Rattle.krs_model.proofs.Tables.Changes.{at_kept, at_map}
+use Rattle.krs_model.proofs.{Sound.Changes.{at_change, at_put, IsChanged, LinksTo}, Tables.Changes.{at_kept, at_map}}
+use Rattle.krs_model.proofs.Tables.Each.{kept_is}
 
 -- a change of a key of its own leaves it its own, where the key may be one of these
 pub record KeepsOwn (uid : ℕ) (private : ℕ → Bool) (n : ℕ) (f : Key → Key) : Type 0 where
@@ -38,11 +38,7 @@ pub changed_enclosed :
     (uid : ℕ) (private : ℕ → Bool) (es : Table Key) (n : ℕ) (f : Key → Key) → KeepsOwn uid private n f
     → AreEnclosed uid private es → AreEnclosed uid private (alter es n f)
 changed_enclosed uid private es n f keeps alone = record {
-  own = λ k key m there. ⊎_elim
-      (λ (r : IsChanged es n f k).
-      own_mapped uid f (at es k) key (λ v h. keeps.own v (subst (λ (z : ℕ). private z ≡ true) r.0 m) h)
-      (λ v h. alone.own k v m h) (sym r.1 ∙ there))
-      (λ same. alone.own k key m (sym same ∙ there)) (at_change es n k f);
+  own = grind (arith, nat_tests, own_mapped, at_change);
   linked = λ j k m i. ⊎_elim
       (λ (r : IsChanged es n f j). ⊎_elim (λ (was : LinksTo k (at es j)). alone.linked j k m was)
       (λ (here : private n ≡ true). subst (λ (z : ℕ). private z ≡ true) (sym r.0) here)
@@ -67,18 +63,9 @@ pub put_enclosed :
     (uid : ℕ) (private : ℕ → Bool) (es : Table Key) (n : ℕ) (key : Key) → (private n ≡ true → ⊥)
     → ((k : ℕ) → private k ≡ true → is_in k (links_of_content key.content) ≡ true → ⊥)
     → AreEnclosed uid private es → AreEnclosed uid private (put es n key)
-put_enclosed uid private es n key fresh none alone = record {
-  own = λ k v m there. ⊎_elim (λ (r : IsPut es n key k). absurd (fresh (subst (λ (z : ℕ). private z ≡ true) r.0 m)))
-      (λ same. alone.own k v m (sym same ∙ there)) (at_put es n k key);
-  linked = λ j k m i. ⊎_elim (λ (r : IsPut es n key j). absurd (none k m (subst (LinksTo k) r.1 i)))
-      (λ same. alone.linked j k m (subst (LinksTo k) same i)) (at_put es n j key);
-}
+put_enclosed uid private es n key fresh none alone = grind (arith, nat_tests, at_put)
 
-kept_is : (b : Bool) (o : Option Key) (key : Key) → cond b o None ≡ Some key → o ≡ Some key
-kept_is true o key h = h
-kept_is false o key h = cc
-
-kept_links : (b : Bool) (o : Option Key) (k : ℕ) → LinksTo k (cond b o None) → LinksTo k o
+pub kept_links : (b : Bool) (o : Option Key) (k : ℕ) → LinksTo k (cond b o None) → LinksTo k o
 kept_links true o k h = h
 kept_links false o k h = absurd (true≢false (sym h))
 
@@ -86,10 +73,7 @@ kept_links false o k h = absurd (true≢false (sym h))
 pub kept_enclosed :
     (uid : ℕ) (private : ℕ → Bool) (es : Table Key) (kept : ℕ → Bool) → AreEnclosed uid private es
     → AreEnclosed uid private (filter (λ e. kept e.0) es)
-kept_enclosed uid private es kept alone = record {
-  own = λ k key m there. alone.own k key m (kept_is (kept k) (at es k) key (sym (at_kept kept es k) ∙ there));
-  linked = λ j k m i. alone.linked j k m (kept_links (kept j) (at es j) k (subst (LinksTo k) (at_kept kept es j) i));
-}
+kept_enclosed uid private es kept alone = grind (arith, nat_tests, kept_is, at_kept, kept_links)
 
 -- none of these keys is attached by the context
 abbrev pub AttachesNone : (ℕ → Bool) → State → Context → Type 0
@@ -103,18 +87,12 @@ unreached :
 unfolding level
 unreached private links heads zero k start steps m i = start k m i
 unreached private links heads (suc n) k start steps m i =
-    let r = in_flat links (level links heads n) k i in
-    unreached private links heads n r.0 start steps (steps r.0 k m r.2) r.1
+    grind (arith, nat_tests, in_flat, unreached private links heads n)
 
 followed_links :
     (clock : ℕ) (caller : Caller) (o : Option Key) (k : ℕ) → is_in k (followed clock caller o) ≡ true → LinksTo k o
 followed_links clock caller None k i = i
-followed_links clock caller (Some key) k i =
-    elim (is_followed clock caller key) as (λ b. is_in k (cond b (links_of_content key.content) []) ≡ true
-    → is_in k (links_of_content key.content) ≡ true) [
-      | true ↦ λ h. h
-      | false ↦ λ no. absurd (true≢false (sym no))
-    ] i
+followed_links clock caller (Some key) k i = grind (arith, nat_tests, true≢false)
 
 -- nor is it possessed
 pub not_possessed :
@@ -133,14 +111,7 @@ own_parts uid key h = (grind (arith, nat_tests), grind (arith, nat_tests), grind
 
 pub no_class :
     (uid : ℕ) (key : Key) (caller : Caller) → is_own uid key ≡ true → caller.uid ≢ uid → rights_on key caller false ≡ 0
-no_class uid key caller own other =
-    let parts = own_parts uid key own in
-    let one = one_byte key.perm key.uid key.gid caller in
-    let apart : key.uid ≢ caller.uid = λ e. other (sym e ∙ parts.0) in
-    elim (is_of_group caller key.gid) as (λ b. is_of_group caller key.gid ≡ b → rights_on key caller false ≡ 0) [
-      | true ↦ λ is. one.group apart is ∙ parts.1
-      | false ↦ λ no. one.other apart no ∙ parts.2
-    ] refl
+no_class uid key caller own other = grind (arith, nat_tests, own_parts, one_byte)
 
 pub false_where : (b : Bool) → (b ≡ true → ⊥) → b ≡ false
 false_where true h = absurd (h refl)

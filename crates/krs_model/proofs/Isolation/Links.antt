@@ -1,12 +1,11 @@
 -- What a uid has to itself where a key is linked, or made.
-use Rattle.std.proofs.Common.{[], ⊎_elim, ◌++◌, ◌+◌, ◌<◌, ◌∙◌, ◌∷◌, ◌≡◌, ◌≢◌, ap, arith, Bool, codes, cond, Err, false}
-use Rattle.std.proofs.Common.{inl, List, Ok, refl, Result, Some, subst, sym, true, true≢false, ℕ, ℤ}
+use Rattle.std.proofs.Common.{[], ⊎_elim, ◌+◌, ◌<◌, ◌∙◌, ◌≡◌, ◌≢◌, ap, arith, Bool, inl, List, Ok, refl, Result, Some}
+use Rattle.std.proofs.{Common.{subst, sym, true, true≢false, ℕ, ℤ}, lemmas.Bool.Decides.nat_tests}
 use Rattle.krs_types.specs.declared.{caller.Caller.Caller, context.Context.Context, errno.Errno.Errno}
-use Rattle.krs_types.specs.{declared.{errno.Errno.TheVariants.EACCES, key_id.KeyId.KeyId}, KeyId.key_id_of}
-use Rattle.krs_types.specs.Rights.{has_all, LINK}
+use Rattle.krs_types.specs.{declared.key_id.KeyId.KeyId, KeyId.key_id_of, Rights.{has_all, LINK}}
 use Rattle.krs_model.specs.{Access.rights_on, Asks.{Adding.made, Finding.if_linkable, Linked.{linked, linked_into}}}
 use Rattle.krs_model.specs.{Asks.Linked.name_of, Confidentiality.{AreEnclosed, HasToItself}, Levels.is_in}
-use Rattle.krs_model.specs.{Linking.is_named, Lookup.context_of, Making.{made_for, special_ring, with_new}}
+use Rattle.krs_model.specs.{Linking.is_named, Lookup.context_of, Making.{made_for, with_new}}
 use Rattle.krs_model.specs.{Possession.{links_of_content, possessed}, Search.found, State.{Key, State}, Table.at}
 use Rattle.krs_model.proofs.{Asks.LaterByAsk.linked_into_is, Isolation.Attachments.{attaches_none, thread_unattached}}
 use Rattle.krs_model.proofs.Isolation.{Attachments.with_process_unattached, Guarded.{changed_guarded, Guarded}}
@@ -21,9 +20,7 @@ use Rattle.krs_model.proofs.Sound.{Changes.with_linked, Links.linkable_is, NewCo
 pub new_enclosed :
     (uid : ℕ) (private : ℕ → Bool) (s : State) (key : Key) → links_of_content key.content ≡ [] → HasToItself uid private s
     → AreEnclosed uid private (with_new s key).keys
-new_enclosed uid private s key empty alone =
-    put_enclosed uid private s.keys s.next_serial key (next_apart uid private s alone)
-    (λ k m i. true≢false (sym (ap (is_in k) (sym empty) ∙ i))) alone.enclosed
+new_enclosed uid private s key empty alone = grind (arith, nat_tests, put_enclosed, next_apart, true≢false)
 
 pub later_made : (uid : ℕ) (private : ℕ → Bool) (s : State) → HasToItself uid private s → (k : ℕ) → private k ≡ true → k < s.next_serial + 1
 later_made uid private s alone k m = let less : k < s.next_serial = alone.made k m in omega arith
@@ -32,16 +29,10 @@ is_made_alone :
     (uid : ℕ) (private : ℕ → Bool) (s : State) (number : ℕ) (c : Context) (id : Result KeyId Errno) (made : State × Context)
     → IsMade s number c id made → HasToItself uid private s → HasToItself uid private made.0
 is_made_alone uid private s number c id _ NoneMade alone = alone
-is_made_alone uid private s number c id _ (ThreadMade is none) alone = record {
-  made = later_made uid private s alone;
-  enclosed = new_enclosed uid private s (special_ring (codes "_tid") c.caller) refl alone;
-  unattached = thread_unattached uid private s number c (next_apart uid private s alone) alone.unattached;
-}
-is_made_alone uid private s number c id _ (ProcessMade is none) alone = record {
-  made = later_made uid private s alone;
-  enclosed = new_enclosed uid private s (special_ring (codes "_pid") c.caller) refl alone;
-  unattached = with_process_unattached uid private s c (next_apart uid private s alone) alone.unattached;
-}
+is_made_alone uid private s number c id _ (ThreadMade is none) alone =
+    search (later_made, new_enclosed, thread_unattached, next_apart) depth 8
+is_made_alone uid private s number c id _ (ProcessMade is none) alone =
+    search (later_made, new_enclosed, with_process_unattached, next_apart) depth 8
 
 -- a made thread or process keyring
 pub made_alone :
@@ -53,15 +44,8 @@ made_alone uid private s number c id alone =
 has_made_none :
     (private : ℕ → Bool) (s t : State) (c d : Context) (desc before after : List ℕ)
     → HasMade s c t d desc before after → (private s.next_serial ≡ true → ⊥) → AttachesNone private s c → AttachesNone private t d
-has_made_none private s t c d desc before after made fresh none = λ k m i.
-    let n = s.next_serial in
-    let now : is_in k (before ++ (n ∷ after)) ≡ true = subst (λ (xs : List ℕ). is_in k xs ≡ true) made.is i in
-    let was : is_in k (before ++ after) ≡ true → ⊥ = λ h.
-    none k m (subst (λ (xs : List ℕ). is_in k xs ≡ true) (sym made.was) h) in
-    ⊎_elim (λ h. was (in_left k before after h))
-    (λ h. ⊎_elim (λ (e : is_in k (n ∷ []) ≡ true). fresh (subst (λ (z : ℕ). private z ≡ true) (only_in k n e) m))
-    (λ later. was (in_right k before after later)) (in_one k (n ∷ []) after h))
-    (in_one k before (n ∷ after) now)
+has_made_none private s t c d desc before after made fresh none =
+    grind (arith, nat_tests, in_left, only_in, in_right, in_one)
 
 made_for_none :
     (private : ℕ → Bool) (s : State) (c : Context) (id : ℤ) (made : State × Context) → HasMadeFor s c id made
@@ -108,19 +92,11 @@ linked_guarded uid private P s into found new apart linked alone =
 pub linkable_grants :
     (s : State) (c : Context) (serial : ℕ) (key : Key) (found : ℕ × Key) → if_linkable s c serial key ≡ Ok found
     → has_all (rights_on key c.caller (possessed s c serial)) LINK ≡ true
-linkable_grants s c serial key found h =
-    elim (has_all (rights_on key c.caller (possessed s c serial)) LINK) as
-    (λ b. cond b (Ok (serial, key)) (Err EACCES) ≡ Ok found → b ≡ true) [
-      | true ↦ λ is. refl
-      | false ↦ λ no. cc
-    ] h
+linkable_grants s c serial key found h = grind (arith, nat_tests)
 
 pub other_linkable :
     (uid : ℕ) (private : ℕ → Bool) (s : State) (c : Context) (serial : ℕ) (key : Key) (found : ℕ × Key)
     → HasToItself uid private s → IsOther uid private s c → at s.keys serial ≡ Some key
     → if_linkable s c serial key ≡ Ok found → private found.0 ≡ true → ⊥
 other_linkable uid private s c serial key found alone other there is m =
-    let same : (serial, key) ≡ found = linkable_is s c serial key found is in
-    let here : private serial ≡ true = subst (λ (x : ℕ × Key). private x.0 ≡ true) (sym same) m in
-    let rights = no_rights uid private s c serial key alone.enclosed other.none other.apart here there in
-    true≢false (sym (linkable_grants s c serial key found is) ∙ ap (λ (n : ℕ). has_all n LINK) rights.1)
+    grind (arith, nat_tests, linkable_is, no_rights, true≢false, linkable_grants)

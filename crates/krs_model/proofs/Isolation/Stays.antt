@@ -1,28 +1,28 @@
 -- An ask in no context of a uid drops none of the keys that the uid has to itself: what holds them stays.
-use Rattle.std.proofs.Common.{[], ⊎_elim, ◌++◌, ◌==◌, ◌||◌, ◌∙◌, ◌∷◌, ◌≡◌, ◌≢◌, ◌⊎◌, ap, arith, Bool, cond, Err, false}
-use Rattle.std.proofs.Common.{filter, inl, inr, IsOk, IsSome, List, None, not, Ok, Option, option_map, option_to_list}
-use Rattle.std.proofs.{Common.{refl, Result, Some, subst, sym, true, true≢false, ℕ, ℤ}, lemmas.Bool.Decides.nat_tests}
-use Rattle.std.proofs.lemmas.Option.{none-some, same_Some}
+use Rattle.std.proofs.Common.{[], ⊎_elim, ◌++◌, ◌==◌, ◌||◌, ◌∙◌, ◌∷◌, ◌≡◌, ◌≢◌, ◌⊎◌, ap, arith, Bool, cond, Err}
+use Rattle.std.proofs.Common.{false, filter, inl, inr, IsOk, IsSome, List, None, not, Ok, Option, option_map}
+use Rattle.std.proofs.Common.{option_to_list, refl, Result, Some, subst, sym, true, true≢false, ℕ, ℤ}
+use Rattle.std.proofs.lemmas.{Bool.Decides.nat_tests, Option.{none-some, same_Some}}
 use Rattle.krs_types.specs.declared.ask.{Answer.Answer, Op.{Op, TheVariants.{Invalidate, Leave}}}
-use Rattle.krs_types.specs.declared.{context.{Context.Context, UidRings.UidRings}, errno.Errno.Errno, event.Event.Event}
-use Rattle.krs_types.specs.{declared.rights.Want.TheVariants.Granted, Rights.SEARCH}
+use Rattle.krs_types.specs.declared.{context.{Context.Context, UidRings.UidRings}, errno.Errno.Errno}
+use Rattle.krs_types.specs.{declared.{event.Event.Event, rights.Want.TheVariants.Granted}, Rights.SEARCH}
 use Rattle.krs_model.specs.Asks.{Invalidating.{context_without, detached, rings_without}, Leaving.contexts_without}
 use Rattle.krs_model.specs.Asks.{Leaving.{has_process, has_uid, left}, Linked.without_link}
 use Rattle.krs_model.specs.Confidentiality.{AreUnchanged, foreign_keys, foreign_process, HasToItself, IsAskedBy}
 use Rattle.krs_model.specs.{Levels.is_in, Lookup.{context_of, serial_of}, Possession.links_of_content}
-use Rattle.krs_model.specs.{Reach.links_of_key_at, Sound.IsSound, State.{Key, Links, Payload, raised, State}, Step.Ends}
-use Rattle.krs_model.specs.{Step.{Serves, Step}, Sweep.{Attached, context_roots, IsHeld, IsSweep, Linked, links_of_key}}
+use Rattle.krs_model.specs.{Reach.links_of_key_at, Sound.IsSound, State.{Key, raised, State}, Step.{Ends, Serves}}
+use Rattle.krs_model.specs.{Step.Step, Sweep.{Attached, context_roots, IsHeld, IsSweep, Linked, links_of_key}}
 use Rattle.krs_model.specs.{Sweep.{process_roots, roots, uid_roots}, Table.{alter, at, put, Table}}
 use Rattle.krs_model.proofs.Asks.Houses.{Alters, Begins, Departs, Detaches, Enters, Execs, Exits, Houses, Rings, Same}
-use Rattle.krs_model.proofs.{Asks.{Houses.Threads, Laws.law_of}, Isolation.{Attachments.is_foreign, Guarded.none_found}}
-use Rattle.krs_model.proofs.Isolation.{Guarded.NotBy, Keys.false_where, Steps.{raised_alone, same_context}}
-use Rattle.krs_model.proofs.{Isolation.Untouched.{AreSame, IsDetached, KeysAfter}, Lookups.Serials.found_serial}
-use Rattle.krs_model.proofs.{Lookups.Serials.own_there, Reach.Levels.{in_left, in_one, in_right, only_in, same_is}}
-use Rattle.krs_model.proofs.Sound.Attached.{attached_at, attached_by, attached_entry, context_keys, in_context}
-use Rattle.krs_model.proofs.Sound.{Attached.{in_process, in_uid, uid_keys}, Changes.{at_change, at_put, IsChanged}}
-use Rattle.krs_model.proofs.Sound.{Changes.IsPut, InUse.was_mapped, Steps.{raised_sound, sound_stands}}
-use Rattle.krs_model.proofs.Tables.{Changes.{at_kept, at_map}, Entries.{entry_passes, filter_still, IsEntry}}
-use Rattle.krs_model.proofs.Tables.Entries.{rises_distinct, still_unless}
+use Rattle.krs_model.proofs.{Asks.{Houses.Threads, Laws.law_of}, Isolation.Attachments.is_foreign}
+use Rattle.krs_model.proofs.Isolation.{Guarded.{none_found, NotBy}, Keys.false_where, Steps.raised_alone}
+use Rattle.krs_model.proofs.Isolation.{Steps.same_context, Untouched.{AreSame, KeysAfter}}
+use Rattle.krs_model.proofs.{Lookups.Serials.{found_serial, own_there}, Reach.Levels.{in_left, in_one, in_right}}
+use Rattle.krs_model.proofs.{Reach.Levels.{only_in, same_is}, Sound.Attached.{attached_at, attached_by}}
+use Rattle.krs_model.proofs.Sound.Attached.{attached_entry, context_keys, in_context, in_process, in_uid, uid_keys}
+use Rattle.krs_model.proofs.Sound.{Changes.{at_change, at_put, IsChanged, was_mapped}, Steps.raised_sound}
+use Rattle.krs_model.proofs.{Sound.Steps.sound_stands, Tables.{Changes.{at_kept, at_map}, Entries.entry_passes}}
+use Rattle.krs_model.proofs.Tables.Entries.{filter_still, IsEntry, rises_distinct, still_unless}
 
 -- no context of the uid asks, nor leaves
 pub record IsOutside (uid : ℕ) (s : State) (client context : ℕ) (op : Op) : Type 0 where
@@ -31,9 +31,7 @@ pub record IsOutside (uid : ℕ) (s : State) (client context : ℕ) (op : Op) : 
 
 put_stays :
     {X : Type 0} (es : Table X) (n k : ℕ) (x v : X) → at es n ≡ None → at es k ≡ Some v → at (put es n x) k ≡ Some v
-put_stays es n k x v none there =
-    ⊎_elim (λ (r : IsPut es n x k). absurd (none-some v (sym none ∙ (ap (at es) (sym r.0) ∙ there))))
-    (λ same. same ∙ there) (at_put es n k x)
+put_stays es n k x v none there = grind (arith, nat_tests, none-some, at_put)
 
 alter_stays :
     {X : Type 0} (es : Table X) (n k : ℕ) (f : X → X) (v : X) → (k ≡ n → ⊥) → at es k ≡ Some v
@@ -69,12 +67,7 @@ own_process uid private s n p k c alone m is there same =
 own_uid :
     (uid : ℕ) (private : ℕ → Bool) (s : State) (v k : ℕ) (rings : UidRings) → HasToItself uid private s
     → private k ≡ true → at s.uids v ≡ Some rings → is_in k (uid_keys rings) ≡ true → v ≡ uid
-own_uid uid private s v k rings alone m is i =
-    elim (v == uid) as (λ b. (v == uid) ≡ b → v ≡ uid) [
-      | true ↦ λ t. grind (arith, nat_tests)
-      | false ↦ λ t. absurd (alone.unattached.uids v k rings m
-          (λ e. true≢false (sym (same_is v uid e) ∙ t)) is i)
-    ] refl
+own_uid uid private s v k rings alone m is i = grind (arith, nat_tests, true≢false, same_is)
 
 -- what attaches one of these keys attaches it still
 record StaysAttached (private : ℕ → Bool) (s : State) (contexts : Table Context) (processes : Table (Option ℕ))
@@ -95,8 +88,7 @@ not_asking :
     → NotBy uid s client context → context_of s client context ≡ Ok c → private k ≡ true → at s.contexts n ≡ Some d
     → is_in k (context_keys d) ≡ true → n ≡ context → ⊥
 not_asking uid private s client context n k c d alone other own m there i same =
-    let asker : d ≡ c = same_Some d c (sym there ∙ (ap (at s.contexts) same ∙ own_there s client context c own)) in
-    other c own (ap (λ (z : Context). z.caller.uid) (sym asker) ∙ own_context uid private s n k d alone m there i)
+    grind (arith, nat_tests, same_Some, own_there, own_context)
 
 -- nor does its process
 not_its_process :
@@ -107,29 +99,18 @@ not_its_process uid private s client context p k c alone other own m there same 
     other c own (own_process uid private s context p k c alone m there (own_there s client context c own) (sym same))
 
 not_gone : (private : ℕ → Bool) (k gone : ℕ) → private k ≡ true → (private gone ≡ true → ⊥) → (k == gone) ≡ false
-not_gone private k gone m apart =
-    elim (k == gone) as (λ b. (k == gone) ≡ b → b ≡ false) [
-      | true ↦ λ t. let e : k ≡ gone = grind (arith, nat_tests) in
-          absurd (apart (subst (λ (z : ℕ). private z ≡ true) e m))
-      | false ↦ λ t. refl
-    ] refl
+not_gone private k gone m apart = grind (arith, nat_tests)
 
 still_attached :
     (gone k : ℕ) (o : Option ℕ) → (k == gone) ≡ false → is_in k (option_to_list o) ≡ true
     → is_in k (option_to_list (detached gone o)) ≡ true
 still_attached gone k None apart i = i
-still_attached gone k (Some n) apart i =
-    let same : k ≡ n = only_in k n i in
-    let here : (n == gone) ≡ false = ap (λ (z : ℕ). z == gone) (sym same) ∙ apart in
-    rw here i
+still_attached gone k (Some n) apart i = grind (arith, nat_tests, only_in)
 
 still_both :
     (gone k : ℕ) (a b : Option ℕ) → (k == gone) ≡ false → is_in k (option_to_list a ++ option_to_list b) ≡ true
     → is_in k (option_to_list (detached gone a) ++ option_to_list (detached gone b)) ≡ true
-still_both gone k a b apart i =
-    ⊎_elim (λ h. in_left k (option_to_list (detached gone a)) (option_to_list (detached gone b)) (still_attached gone k a apart h))
-    (λ h. in_right k (option_to_list (detached gone a)) (option_to_list (detached gone b)) (still_attached gone k b apart h))
-    (in_one k (option_to_list a) (option_to_list b) i)
+still_both gone k a b apart i = grind (arith, nat_tests, in_left, still_attached, in_right, in_one)
 
 left_stays :
     (uid : ℕ) (private : ℕ → Bool) (s : State) (client context : ℕ) (op : Op) → IsSound s → HasToItself uid private s
@@ -169,25 +150,19 @@ houses_stay :
     (processes : Table (Option ℕ)) (uids : Table UidRings) → IsSound s → HasToItself uid private s
     → IsOutside uid s client context op → Houses s client context op contexts processes uids
     → StaysAttached private s contexts processes uids
-houses_stay uid private s client context op _ _ _ sound alone outside Same = record {
-  by_context = λ n k c m there i. entry s.contexts _ n c there i;
-  by_process = λ p k m there. there;
-  by_uid = λ v k rings m there i. entry s.uids _ v rings there i;
-}
+houses_stay uid private s client context op _ _ _ sound alone outside Same = search entry depth 8
 houses_stay uid private s client context op _ _ _ sound alone outside (Begins c session rings room is none left) =
     let n = s.next_context in record {
       by_context = λ q k d m there i.
           entry _ _ q d (put_stays s.contexts n q _ d (sound.housed.unused n (omega arith)) there) i;
-      by_process = λ p k m there.
-          put_stays s.processes n p None (Some k) (sound.housed.no_process n (omega arith)) there;
+      by_process = grind (arith, nat_tests, put_stays);
       by_uid = λ v k were m there i. entry _ _ v were (put_stays s.uids c.uid v rings were none there) i;
     }
 houses_stay uid private s client context op _ _ _ sound alone outside (Enters c session room who left) =
     let n = s.next_context in record {
       by_context = λ q k d m there i.
           entry _ _ q d (put_stays s.contexts n q _ d (sound.housed.unused n (omega arith)) there) i;
-      by_process = λ p k m there.
-          put_stays s.processes n p None (Some k) (sound.housed.no_process n (omega arith)) there;
+      by_process = grind (arith, nat_tests, put_stays);
       by_uid = λ v k rings m there i. entry s.uids _ v rings there i;
     }
 houses_stay uid private s client context op _ _ _ sound alone outside (Threads c room is own left) = record {
@@ -202,12 +177,8 @@ houses_stay uid private s client context op _ _ _ sound alone outside (Alters c 
   by_process = λ p k m there. there;
   by_uid = λ v k rings m there i. entry s.uids _ v rings there i;
 }
-houses_stay uid private s client context op _ _ _ sound alone outside (Rings c n own) = record {
-  by_context = λ q k d m there i. entry s.contexts _ q d there i;
-  by_process = λ p k m there. alter_stays s.processes c.process p (λ none. Some n) (Some k)
-      (not_its_process uid private s client context p k c alone outside.other own m there) there;
-  by_uid = λ v k rings m there i. entry s.uids _ v rings there i;
-}
+houses_stay uid private s client context op _ _ _ sound alone outside (Rings c n own) =
+    search (entry, alter_stays, not_its_process) depth 8
 houses_stay uid private s client context op _ _ _ sound alone outside (Execs c is own) = record {
   by_context = λ n k d m there i. entry _ _ n d (filter_still _ _ n d
       (alter_stays s.contexts context n _ d
@@ -220,8 +191,7 @@ houses_stay uid private s client context op _ _ _ sound alone outside (Execs c i
             absurd (outside.other c own (sym alike ∙ own_context uid private s n k d alone m there i))
         | false ↦ λ t. refl
       ] refl))) i;
-  by_process = λ p k m there. alter_stays s.processes c.process p (λ ring. None) (Some k)
-      (not_its_process uid private s client context p k c alone outside.other own m there) there;
+  by_process = search (alter_stays, not_its_process) depth 8;
   by_uid = λ v k rings m there i. entry s.uids _ v rings there i;
 }
 houses_stay uid private s client context op _ _ _ sound alone outside (Detaches c id gone is own found) =
@@ -231,9 +201,7 @@ houses_stay uid private s client context op _ _ _ sound alone outside (Detaches 
       by_context = λ n k d m there i. entry _ _ n (context_without gone.0 d)
           (at_map (context_without gone.0) s.contexts n ∙ ap (option_map (context_without gone.0)) there)
           (still_both gone.0 k d.thread d.session (not_gone private k gone.0 m apart) i);
-      by_process = λ p k m there.
-          at_map (detached gone.0) s.processes p ∙ (ap (option_map (detached gone.0)) there
-          ∙ ap (λ (b : Bool). Some (cond b None (Some k))) (not_gone private k gone.0 m apart));
+      by_process = grind (arith, nat_tests, at_map, not_gone);
       by_uid = λ v k rings m there i. entry _ _ v (rings_without gone.0 rings)
           (at_map (rings_without gone.0) s.uids v ∙ ap (option_map (rings_without gone.0)) there)
           (still_both gone.0 k rings.user rings.session (not_gone private k gone.0 m apart) i);
@@ -241,8 +209,7 @@ houses_stay uid private s client context op _ _ _ sound alone outside (Detaches 
 houses_stay uid private s client context op _ _ _ sound alone outside (Exits c is own) = record {
   by_context = λ n k d m there i. entry _ _ n d (still_unless s.contexts context n false
       (not_asking uid private s client context n k c d alone outside.other own m there i) ∙ there) i;
-  by_process = λ p k m there. still_unless s.processes c.process p _
-      (not_its_process uid private s client context p k c alone outside.other own m there) ∙ there;
+  by_process = search (still_unless, not_its_process) depth 8;
   by_uid = λ v k rings m there i. entry _ _ v rings (still_unless s.uids c.caller.uid v _
       (λ e. outside.other c own (sym e ∙ own_uid uid private s v k rings alone m there i)) ∙ there) i;
 }
@@ -259,20 +226,16 @@ roots_stay :
     → StaysAttached private s new.contexts new.processes new.uids → private k ≡ true → is_in k (roots s) ≡ true
     → is_in k (roots new) ≡ true
 roots_stay private s new k sound stays m i =
-    attached_by (context_roots s.contexts) (process_roots s.processes) (uid_roots s.uids) k
-    (λ h.
-    let e = attached_entry context_keys s.contexts k (rises_distinct s.contexts sound.housed.contexts_rise) h in
-    let after = stays.by_context e.number k e.value m e.there e.holds in
-    in_context new k (attached_at context_keys new.contexts after.number after.value k after.there after.holds))
-    (λ h.
-    let e = attached_entry option_to_list s.processes k (rises_distinct s.processes sound.housed.processes_rise) h in
-    let there = stays.by_process e.number k m (e.there ∙ ap (λ (z : Option ℕ). Some z) (one_in k e.value e.holds)) in
-    in_process new k (attached_at option_to_list new.processes e.number (Some k) k there
-    (ap (λ (b : Bool). b || false) (same_is k k refl))))
-    (λ h.
-    let e = attached_entry uid_keys s.uids k (rises_distinct s.uids sound.housed.uids_rise) h in
-    let after = stays.by_uid e.number k e.value m e.there e.holds in
-    in_uid new k (attached_at uid_keys new.uids after.number after.value k after.there after.holds)) i
+    rw (attached_by (context_roots s.contexts) (process_roots s.processes) (uid_roots s.uids) k (λ h. let e =
+    attached_entry context_keys s.contexts k (rises_distinct s.contexts sound.housed.contexts_rise) h in let after
+    = stays.by_context e.number k e.value m e.there e.holds in in_context new k (attached_at context_keys
+    new.contexts after.number after.value k after.there after.holds)) (λ h. let e = attached_entry option_to_list
+    s.processes k (rises_distinct s.processes sound.housed.processes_rise) h in let there = stays.by_process
+    e.number k m (e.there ∙ ap (λ (z : Option ℕ). Some z) (one_in k e.value e.holds)) in in_process new k
+    (attached_at option_to_list new.processes e.number (Some k) k there (ap (λ (b : Bool). b || false) (same_is k k
+    refl)))) (λ h. let e = attached_entry uid_keys s.uids k (rises_distinct s.uids sound.housed.uids_rise) h in let
+    after = stays.by_uid e.number k e.value m e.there e.holds in in_uid new k (attached_at uid_keys new.uids
+    after.number after.value k after.there after.holds)) i)
 
 -- held keys are held still, where attachments and links of them stay
 held_stays :
@@ -291,27 +254,13 @@ still_linked :
     → is_in k (filter (λ q. not (q == gone)) links) ≡ true
 still_linked gone k [] apart i = i
 still_linked gone k (q ∷ links) apart i =
-    elim (q == gone) as (λ b. (q == gone) ≡ b
-    → is_in k (cond (not b) (q ∷ filter (λ r. not (r == gone)) links) (filter (λ r. not (r == gone)) links)) ≡ true) [
-      | true ↦ λ t. ⊎_elim
-          (λ (here : is_in k (q ∷ []) ≡ true).
-          let same : k ≡ q = only_in k q here in
-          absurd (true≢false (sym (ap (λ (z : ℕ). z == gone) same ∙ t) ∙ apart)))
-          (λ later. still_linked gone k links apart later) (in_one k (q ∷ []) links i)
-      | false ↦ λ t. ⊎_elim (λ here. in_left k (q ∷ []) (filter (λ r. not (r == gone)) links) here)
-          (λ later. in_right k (q ∷ []) (filter (λ r. not (r == gone)) links) (still_linked gone k links apart later))
-          (in_one k (q ∷ []) links i)
-    ] refl
+    grind (arith, nat_tests, only_in, true≢false, in_one, in_left, in_right, still_linked gone k links apart) steps
+    600000
 
 still_in_content :
     (gone k : ℕ) (key : Key) → (k == gone) ≡ false → is_in k (links_of_content key.content) ≡ true
     → is_in k (links_of_content (without_link gone key).content) ≡ true
-still_in_content gone k key apart i =
-    elim key.content as (λ content. is_in k (links_of_content content) ≡ true
-    → is_in k (links_of_content (without_link gone (record key { content = content })).content) ≡ true) [
-      | Payload bytes ↦ λ h. h
-      | Links links ↦ λ h. still_linked gone k links apart h
-    ] i
+still_in_content gone k key apart i = grind (arith, nat_tests, still_linked)
 
 still_in_key :
     (gone k : ℕ) (o : Option Key) → (k == gone) ≡ false → is_in k (links_of_key o) ≡ true
@@ -325,25 +274,13 @@ links_stay :
     → NotBy uid s client context → KeysAfter private s client context op new → private j ≡ true → private k ≡ true
     → is_in k (links_of_key_at s.keys j) ≡ true → is_in k (links_of_key_at new.keys j) ≡ true
 links_stay uid private s new client context j k op alone other after above m i =
-    ⊎_elim
-    (λ (same : AreSame private s.keys new.keys).
-    subst (λ (o : Option Key). is_in k (links_of_key o) ≡ true) (sym (same j above)) i)
-    (λ (d : IsDetached s client context op new.keys).
-    let apart : private d.gone.0 ≡ true → ⊥ =
-    λ h. none_found uid private s client context d.whose d.id (Granted SEARCH) d.gone alone d.own other refl d.found h in
-    subst (λ (o : Option Key). is_in k (links_of_key o) ≡ true)
-    (sym (ap (λ (es : Table Key). at es j) d.left ∙ at_map (without_link d.gone.0) s.keys j))
-    (still_in_key d.gone.0 k (at s.keys j) (not_gone private k d.gone.0 m apart) i)) after
+    grind (arith, nat_tests, none_found, at_map, still_in_key, not_gone)
 
 -- one of these keys is there where it was
 was_there :
     (private : ℕ → Bool) (s new : State) (client context k : ℕ) (op : Op) → KeysAfter private s client context op new
     → private k ≡ true → IsSome (at new.keys k) → IsSome (at s.keys k)
-was_there private s new client context k op after m there =
-    ⊎_elim (λ (same : AreSame private s.keys new.keys). subst (λ (o : Option Key). IsSome o) (same k m) there)
-    (λ (d : IsDetached s client context op new.keys). was_mapped (without_link d.gone.0) (at s.keys k)
-    (subst (λ (o : Option Key). IsSome o)
-    (ap (λ (es : Table Key). at es k) d.left ∙ at_map (without_link d.gone.0) s.keys k) there)) after
+was_there private s new client context k op after m there = grind (arith, nat_tests, was_mapped, at_map)
 
 kept_same : (b : Bool) (o : Option Key) → (IsSome o → b ≡ true) → cond b o None ≡ o
 kept_same true o h = refl
@@ -354,9 +291,7 @@ kept_same false (Some v) h = absurd (true≢false (sym (h refl)))
 swept_same :
     (old new : State) (k : ℕ) → IsSweep old new → (IsSome (at old.keys k) → IsHeld old.keys (roots old) k)
     → at new.keys k ≡ at old.keys k
-swept_same old new k sweep held =
-    ap (λ (es : Table Key). at es k) sweep.keys ∙ (at_kept sweep.kept old.keys k
-    ∙ kept_same (sweep.kept k) (at old.keys k) (λ there. sweep.picks.each k (held there) there))
+swept_same old new k sweep held = grind (arith, nat_tests, at_kept, kept_same)
 
 -- these keys, where the ask is an accepted INVALIDATE of another
 record IsTakenOut (private : ℕ → Bool) (s : State) (client context : ℕ) (op : Op) (new : Table Key) : Type 0 where
@@ -387,18 +322,7 @@ served_unchanged uid private s new client context op answer sound alone outside 
     (sound.swept.keys k (was_there private s mid client context k op after m there)) m in
     let same : AreSame private mid.keys new.keys = λ k m.
     ap (λ (z : State). at z.keys k) serves.posted ∙ swept_same mid serves.swept k serves.sweep (held k m) in
-    ⊎_elim (λ (was : AreSame private s.keys mid.keys). inl (λ k m. same k m ∙ was k m))
-    (λ (d : IsDetached s client context op mid.keys). inr (record {
-      id = d.id;
-      whose = d.whose;
-      gone = d.gone.0;
-      asked = d.asked;
-      own = d.own;
-      named = found_serial s d.whose d.id (Granted SEARCH) d.gone d.found;
-      other = false_where (private d.gone.0) (λ h. none_found uid private s client context d.whose d.id (Granted SEARCH)
-          d.gone alone d.own outside.other refl d.found h);
-      rest = λ k m. same k m ∙ (ap (λ (es : Table Key). at es k) d.left ∙ at_map (without_link d.gone.0) s.keys k);
-    })) after
+    grind (arith, nat_tests, found_serial, false_where, none_found, at_map)
 
 -- so does any ask, whether it is accepted or not
 ended_unchanged :
@@ -424,15 +348,7 @@ outside_of :
     (uid : ℕ) (s : State) (event : Event) → (IsAskedBy uid s event → ⊥)
     → IsOutside uid (raised s event.moment) event.lane event.ask.context event.ask.op
 outside_of uid s event none = record {
-  other = λ c own e. none (record {
-    number = event.ask.context;
-    acts = record {
-      context = c;
-      there = sym (same_context s event.moment event.lane event.ask.context) ∙ own;
-      own = e;
-    };
-    asks = inl refl;
-  });
+  other = grind (arith, nat_tests, same_context);
   stays = λ is n c there client e. none (record {
     number = n;
     acts = record { context = c; there = context_is s event.lane n c there client; own = e };

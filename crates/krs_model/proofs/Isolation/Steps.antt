@@ -1,51 +1,32 @@
 -- Each step leaves a uid its keys to itself, but where a context of it gives one away.
-use Rattle.std.proofs.Common.{[], ⊎_elim, ◌==◌, ◌∙◌, ◌≡◌, ◌≢◌, ◌⊎◌, ap, arith, Bool, Err, false, filter, inl, inr, List}
-use Rattle.std.proofs.{Common.{Ok, refl, Result, Some, subst, sym, true, true≢false, ℕ}, lemmas.Bool.Decides.nat_tests}
-use Rattle.krs_types.specs.Rights.{has_all, READ, SEARCH}
+use Rattle.std.proofs.Common.{[], ⊎_elim, ◌==◌, ◌∙◌, ◌≡◌, ◌≢◌, ◌⊎◌, ap, arith, Bool, Err, false, inl, inr, List, Ok}
+use Rattle.std.proofs.{Common.{refl, Result, Some, sym, true, true≢false, ℕ}, lemmas.Bool.Decides.nat_tests}
 use Rattle.krs_types.specs.declared.{ask.{Answer.Answer, Op.Op}, context.Context.Context, errno.Errno.Errno}
-use Rattle.krs_types.specs.declared.{event.Event.Event, rights.Rights.Rights}
-use Rattle.krs_model.specs.Access.{rights_on}
-use Rattle.krs_model.specs.Confidentiality.{ActsAs, AreEnclosed, GivesAway, HasToItself, is_own, IsGivenAway, may_give}
-use Rattle.krs_model.specs.{History.IsLegal, Levels.is_in, Lookup.context_of, Notes.Posting.{Post, posted_in}}
-use Rattle.krs_model.specs.{Possession.possessed, Reach.links_of_key_at, Revocation.Reads, Secrecy.{Grants, MayBeRead}}
-use Rattle.krs_model.specs.{Sound.IsSound, State.{Key, raised, State}, Step.{Ends, posts_by, Serves, Step}}
-use Rattle.krs_model.specs.{Sweep.{IsSweep, live_watches}, Table.{at, Table}}
-use Rattle.krs_model.proofs.Asks.{Later.same_ok, Laws.law_of}
-use Rattle.krs_model.proofs.{Hiding.Readers.reads_by_right, Isolation.Attachments.{attaches_none, same_unattached}}
-use Rattle.krs_model.proofs.Isolation.{Guarded.{alone_guarded, Guarded, Holds, NotBy}, Keys.{kept_enclosed, no_rights}}
+use Rattle.krs_types.specs.declared.event.Event.{Event}
+use Rattle.krs_model.specs.{Access.rights_on, Confidentiality.{ActsAs, AreEnclosed, GivesAway, HasToItself}}
+use Rattle.krs_model.specs.{Confidentiality.{IsGivenAway, may_give}, History.IsLegal, Lookup.context_of}
+use Rattle.krs_model.specs.{Notes.Posting.{Post, posted_in}, Possession.possessed, Revocation.Reads}
+use Rattle.krs_model.specs.{Secrecy.MayBeRead, Sound.IsSound, State.{Key, raised, State}, Step.{Ends, Serves, Step}}
+use Rattle.krs_model.specs.{Sweep.IsSweep, Table.{at, Table}}
+use Rattle.krs_model.proofs.{Asks.{Later.same_ok, Laws.law_of}, Hiding.Readers.reads_by_right}
+use Rattle.krs_model.proofs.Isolation.{Attachments.{attaches_none, same_unattached}, Guarded.{alone_guarded, Guarded}}
+use Rattle.krs_model.proofs.Isolation.{Guarded.{Holds, NotBy}, Keys.{kept_enclosed, no_rights}}
 use Rattle.krs_model.proofs.{Lookups.Serials.own_there, Sound.Steps.{raised_sound, sound_stands}}
 
 sweep_guarded :
     (uid : ℕ) (private : ℕ → Bool) (P : Type 0) (old new : State) → IsSweep old new → Guarded uid private P old
     → Guarded uid private P new
-sweep_guarded uid private P old new s g =
-    let watches = live_watches new.keys old.watches in
-    let after : State = record old { keys = filter (λ e. s.kept e.0) old.keys; watches = watches } in
-    let is : new ≡ after = s.rest ∙ ap (λ (ks : Table Key). record old { keys = ks; watches = watches }) s.keys in
-    let guarded : Guarded uid private P after = record {
-      made = g.made;
-      enclosed = λ p. kept_enclosed uid private old.keys s.kept (g.enclosed p);
-      unattached = same_unattached uid private old after refl refl refl g.unattached;
-    } in
-    subst (Guarded uid private P) (sym is) guarded
+sweep_guarded uid private P old new s g = grind (arith, nat_tests, kept_enclosed, same_unattached)
 
 posted_guarded :
     (uid : ℕ) (private : ℕ → Bool) (P : Type 0) (ps : List Post) (s : State) → Guarded uid private P s
     → Guarded uid private P (posted_in ps s)
-posted_guarded uid private P ps s g = record {
-  made = g.made;
-  enclosed = g.enclosed;
-  unattached = same_unattached uid private s (posted_in ps s) refl refl refl g.unattached;
-}
+posted_guarded uid private P ps s g = search same_unattached depth 8
 
 -- the clock alone
 pub raised_alone :
     (uid : ℕ) (private : ℕ → Bool) (s : State) (moment : ℕ) → HasToItself uid private s → HasToItself uid private (raised s moment)
-raised_alone uid private s moment alone = record {
-  made = alone.made;
-  enclosed = alone.enclosed;
-  unattached = same_unattached uid private s (raised s moment) refl refl refl alone.unattached;
-}
+raised_alone uid private s moment alone = search same_unattached depth 8
 
 served_guarded :
     (uid : ℕ) (private : ℕ → Bool) (s new : State) (client context : ℕ) (op : Op) (answer : Answer) → IsSound s
@@ -55,17 +36,14 @@ served_guarded uid private s new client context op answer sound alone serves =
     let P = Holds uid s client context op in
     let mid = ((law_of s client context op).fares.meets serves.mid answer serves.meant).guards uid private (sound_stands s sound) alone in
     let swept = sweep_guarded uid private P serves.mid serves.swept serves.sweep mid in
-    subst (Guarded uid private P) (sym serves.posted)
-    (posted_guarded uid private P (posts_by s client context op answer serves.swept.keys) serves.swept swept)
+    grind (arith, nat_tests, posted_guarded)
 
 ended_guarded :
     (uid : ℕ) (private : ℕ → Bool) (s new : State) (client context : ℕ) (op : Op) (reply : Result Answer Errno) → IsSound s
     → HasToItself uid private s → Ends s client context op reply new → Guarded uid private (Holds uid s client context op) new
 ended_guarded uid private s new client context op (Ok answer) sound alone serves =
     served_guarded uid private s new client context op answer sound alone serves
-ended_guarded uid private s new client context op (Err e) sound alone ends =
-    let P = Holds uid s client context op in
-    subst (Guarded uid private P) (sym ends.1) (alone_guarded uid private P s alone)
+ended_guarded uid private s new client context op (Err e) sound alone ends = grind (arith, nat_tests, alone_guarded)
 
 pub same_context :
     (s : State) (moment client number : ℕ) → context_of (raised s moment) client number ≡ context_of s client number
@@ -80,21 +58,13 @@ step_guarded uid private old new event sound alone step =
     let up = raised old event.moment in
     let g = ended_guarded uid private up new event.lane event.ask.context event.ask.op event.reply
     (raised_sound old event.moment sound) (raised_alone uid private old event.moment alone) step in
-    record {
-      made = g.made;
-      enclosed = λ holds. g.enclosed
-          (λ may c own. holds may c (sym (same_context old event.moment event.lane event.ask.context) ∙ own));
-      unattached = g.unattached;
-    }
+    grind (arith, nat_tests, same_context)
 
 -- where none of these keys is given away, they are the uid's own, and linked among themselves
 pub not_given :
     (uid : ℕ) (private : ℕ → Bool) (keys : Table Key) → (IsGivenAway uid private keys → ⊥) → AreEnclosed uid private keys
 not_given uid private keys none = record {
-  own = λ k key m there. elim (is_own uid key) as (λ b. is_own uid key ≡ b → b ≡ true) [
-    | true ↦ λ t. refl
-    | false ↦ λ t. absurd (none (record { serial = k; own = m; how = inl (key, there, t) }))
-  ] refl;
+  own = grind (arith, nat_tests);
   linked = λ j k m i. elim (private j) as (λ b. private j ≡ b → b ≡ true) [
     | true ↦ λ t. refl
     | false ↦ λ t. absurd (none (record { serial = k; own = m; how = inr (j, t, i) }))
@@ -104,12 +74,7 @@ not_given uid private keys none = record {
 -- and keys that are so are not given away
 pub alone_not_given :
     (uid : ℕ) (private : ℕ → Bool) (s : State) → HasToItself uid private s → IsGivenAway uid private s.keys → ⊥
-alone_not_given uid private s alone given =
-    ⊎_elim
-    (λ (h : (key : Key) × (at s.keys given.serial ≡ Some key) × (is_own uid key ≡ false)).
-    true≢false (sym (alone.enclosed.own given.serial h.0 given.own h.1) ∙ h.2))
-    (λ (h : (ring : ℕ) × (private ring ≡ false) × (is_in given.serial (links_of_key_at s.keys ring) ≡ true)).
-    true≢false (sym (alone.enclosed.linked h.0 given.serial given.own h.2) ∙ h.1)) given.how
+alone_not_given uid private s alone given = grind (arith, nat_tests, true≢false)
 
 -- a context of the client is of the uid, or none is under this number
 acts_or_not :
@@ -159,12 +124,7 @@ others_read_none :
     (uid : ℕ) (private : ℕ → Bool) (s : State) (number : ℕ) (c : Context) (k : ℕ) → HasToItself uid private s
     → at s.contexts number ≡ Some c → private k ≡ true → MayBeRead s c k → c.caller.uid ≢ uid → ⊥
 others_read_none uid private s number c k alone there m may other =
-    let none = attaches_none uid private s number c alone.unattached there other in
-    let rights = no_rights uid private s c k may.key alone.enclosed none other m may.there in
-    let refused : (wanted : Rights) → has_all 0 wanted ≡ false → Grants s c k may.key wanted → ⊥ = λ wanted no grants.
-    true≢false (sym grants ∙ (ap (λ (n : ℕ). has_all n wanted) rights.1 ∙ no)) in
-    ⊎_elim (λ (g : Grants s c k may.key READ). refused READ refl g)
-    (λ (g : (possessed s c k ≡ true) × Grants s c k may.key SEARCH). refused SEARCH refl g.1) may.granted
+    grind (arith, nat_tests, attaches_none, no_rights, true≢false)
 
 -- an accepted READ of one of these keys is in a context of their uid
 pub reads_own :
@@ -179,25 +139,11 @@ reads_own uid private old end reading serial alone m step reads =
     let there = own_there up reading.lane reading.ask.context c reads.names.own in
     let apart = others_read_none uid private up reading.ask.context c serial (raised_alone uid private old reading.moment alone)
     there m may in
-    elim (c.caller.uid == uid) as (λ b. (c.caller.uid == uid) ≡ b → c.caller.uid ≡ uid) [
-      | true ↦ λ t. grind (arith, nat_tests)
-      | false ↦ λ t. absurd (apart (λ e. grind (arith, nat_tests)))
-    ] refl
+    grind (arith, nat_tests)
 
 -- none of the keys
 pub none_alone : (uid : ℕ) (s : State) → HasToItself uid (λ k. false) s
-none_alone uid s = record {
-  made = λ k m. absurd (true≢false (sym m));
-  enclosed = record {
-    own = λ k key m there. absurd (true≢false (sym m));
-    linked = λ j k m i. absurd (true≢false (sym m));
-  };
-  unattached = record {
-    contexts = λ k m i. true≢false (sym m);
-    processes = λ p k m there i. true≢false (sym m);
-    uids = λ v k rings m other there i. true≢false (sym m);
-  };
-}
+none_alone uid s = grind (arith, nat_tests, true≢false)
 
 -- a context of another uid has no right on a key that the uid has to itself
 pub others_rights :

@@ -1,16 +1,17 @@
 -- An ask in no context of a uid leaves each key that the uid has to itself as it is, but that an invalidated key goes out
 -- of its links.
-use Rattle.std.proofs.Common.{⊎_elim, ◌∙◌, ◌≡◌, ◌⊎◌, Bool, codes, Ok, refl, Result, subst, true, ℕ, ℤ}
-use Rattle.krs_types.specs.{KeyId.key_id_of, Rights.{SEARCH, WRITE}, declared.ask.Op.Op}
-use Rattle.krs_types.specs.declared.{ask.Op.TheVariants.Invalidate, context.Context.Context, errno.Errno.Errno}
-use Rattle.krs_types.specs.declared.{key_id.KeyId.KeyId, rights.Want.TheVariants.Granted}
+use Rattle.std.proofs.Common.{◌∙◌, ◌≡◌, ◌⊎◌, arith, Bool, codes, Ok, refl, Result, subst, true, ℕ, ℤ}
+use Rattle.std.proofs.lemmas.Bool.Decides.{nat_tests}
+use Rattle.krs_types.specs.declared.{ask.Op.{Op, TheVariants.Invalidate}, context.Context.Context, errno.Errno.Errno}
+use Rattle.krs_types.specs.{declared.{key_id.KeyId.KeyId, rights.Want.TheVariants.Granted}, KeyId.key_id_of}
+use Rattle.krs_types.specs.Rights.{SEARCH, WRITE}
 use Rattle.krs_model.specs.{Asks.Linked.{linked_into, name_of, without_link}, Confidentiality.HasToItself}
 use Rattle.krs_model.specs.{Linking.is_named, Lookup.{context_of, look_up}, Making.{made_for, special_ring}}
 use Rattle.krs_model.specs.{Search.found, State.{Key, State}, Table.{alter, at, map_values, put, Table}}
-use Rattle.krs_model.proofs.Asks.LaterByAsk.{linked_into_is}
-use Rattle.krs_model.proofs.Isolation.{Guarded.{next_apart, NotBy}, Keys.not_found, Links.{made_alone, other_made}}
-use Rattle.krs_model.proofs.MadeKeyring.Which.{IsMade, made_for_is, NoneMade, ProcessMade, ThreadMade}
-use Rattle.krs_model.proofs.Sound.Changes.{at_change, at_put, IsChanged, IsPut, Stands, with_linked}
+use Rattle.krs_model.proofs.{Asks.LaterByAsk.linked_into_is, Isolation.{Guarded.{next_apart, NotBy}, Keys.not_found}}
+use Rattle.krs_model.proofs.{Isolation.Links.{made_alone, other_made}, MadeKeyring.Which.{IsMade, made_for_is}}
+use Rattle.krs_model.proofs.{MadeKeyring.Which.{NoneMade, ProcessMade, ThreadMade}, Sound.Changes.{at_change, at_put}}
+use Rattle.krs_model.proofs.Sound.Changes.{Stands, with_linked}
 
 abbrev pub AreSame : (ℕ → Bool) → Table Key → Table Key → Type 0
 AreSame private old new = (k : ℕ) → private k ≡ true → at new k ≡ at old k
@@ -22,15 +23,11 @@ same_trans private a b c f g = λ k m. g k m ∙ f k m
 pub other_same :
     (private : ℕ → Bool) (es : Table Key) (n : ℕ) (f : Key → Key) → (private n ≡ true → ⊥)
     → AreSame private es (alter es n f)
-other_same private es n f apart = λ k m.
-    ⊎_elim (λ (r : IsChanged es n f k). absurd (apart (subst (λ (z : ℕ). private z ≡ true) r.0 m))) (λ stays. stays)
-    (at_change es n k f)
+other_same private es n f apart = grind (arith, nat_tests, at_change)
 
 pub put_same :
     (private : ℕ → Bool) (es : Table Key) (n : ℕ) (v : Key) → (private n ≡ true → ⊥) → AreSame private es (put es n v)
-put_same private es n v apart = λ k m.
-    ⊎_elim (λ (r : IsPut es n v k). absurd (apart (subst (λ (z : ℕ). private z ≡ true) r.0 m))) (λ stays. stays)
-    (at_put es n k v)
+put_same private es n v apart = grind (arith, nat_tests, at_put)
 
 is_made_same :
     (private : ℕ → Bool) (s : State) (number : ℕ) (c : Context) (id : Result KeyId Errno) (made : State × Context)

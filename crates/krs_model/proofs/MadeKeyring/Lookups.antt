@@ -1,19 +1,18 @@
 -- What is possessed and what a look-up meets where a thread or process keyring is made.
-use Rattle.std.proofs.Common.{[], ⊎_elim, ◌&&◌, ◌++◌, ◌==◌, ◌||◌, ◌∙◌, ◌∷◌, ◌≡◌, ◌≢◌, ◌⊎◌, ap, arith, bit_or, Bool}
-use Rattle.std.proofs.Common.{cond, Err, false, flat_map, inl, inr, List, None, Ok, Option, refl, Result, Some, suc}
-use Rattle.std.proofs.Common.{sym, true, zero, ℕ, ℤ}
-use Rattle.std.proofs.lemmas.{Bool.Decides.nat_tests, Grind.flat_map-append, List.Folds.list_any-append}
-use Rattle.krs_types.specs.Caller.{is_of_group}
-use Rattle.krs_types.specs.{KeyId.key_id_of, Perm.{group_byte, other_byte}, Refusing.{◌>>=◌, or_refuse}}
-use Rattle.krs_types.specs.{Rights.{allows, has_all, SEARCH}, declared.{caller.Caller.Caller, context.Context.Context}}
-use Rattle.krs_types.specs.declared.errno.Errno.{Errno, TheVariants.{EACCES, EKEYEXPIRED, EKEYREVOKED, ENOKEY}}
-use Rattle.krs_types.specs.declared.{key_id.KeyId.KeyId, rights.{Rights.Rights, Want.{Want, TheVariants.Granted}}}
-use Rattle.krs_model.specs.{Access.{is_alive, is_over, rights_on}, Levels.{is_in, level, levels, search_depth}}
+use Rattle.std.proofs.Common.{[], ⊎_elim, ◌&&◌, ◌++◌, ◌==◌, ◌∙◌, ◌∷◌, ◌≡◌, ◌≢◌, ◌⊎◌, ap, arith, Bool, cond, Err}
+use Rattle.std.proofs.Common.{false, flat_map, inl, inr, List, None, Ok, Option, refl, Result, Some, suc, sym, true}
+use Rattle.std.proofs.{Common.{zero, ℕ, ℤ}, lemmas.{Bool.Decides.nat_tests, Grind.flat_map-append}}
+use Rattle.std.proofs.lemmas.List.Folds.{list_any-append}
+use Rattle.krs_types.specs.declared.{caller.Caller.Caller, context.Context.Context, errno.Errno.Errno}
+use Rattle.krs_types.specs.declared.{errno.Errno.TheVariants.ENOKEY, key_id.KeyId.KeyId, rights.Rights.Rights}
+use Rattle.krs_types.specs.{declared.rights.Want.{Want, TheVariants.Granted}, KeyId.key_id_of, Refusing.◌>>=◌}
+use Rattle.krs_types.specs.{Refusing.or_refuse, Rights.{has_all, SEARCH}}
+use Rattle.krs_model.specs.{Access.{is_alive, rights_on}, Levels.{is_in, level, levels, search_depth}}
 use Rattle.krs_model.specs.{Lookup.{attachment, if_usable, look_up, serial_of}, Making.special_ring}
-use Rattle.krs_model.specs.Possession.{attached, followed, followed_in, links_of_content, possessed}
-use Rattle.krs_model.specs.{State.{Key, State}, Table.{at, put, Table}}
-use Rattle.krs_model.proofs.MadeKeyring.State.{at_other, either_at, HasMade, StandsFor}
-use Rattle.krs_model.proofs.{Reach.{Acyclic.heads_first, Levels.{in_right, same_is}}, Tables.Changes.at_put_same}
+use Rattle.krs_model.specs.{Possession.{followed, followed_in, links_of_content, possessed}, State.{Key, State}}
+use Rattle.krs_model.specs.Table.{at, put, Table}
+use Rattle.krs_model.proofs.{MadeKeyring.State.{at_other, either_at, HasMade, StandsFor}, Reach.Acyclic.heads_first}
+use Rattle.krs_model.proofs.{Reach.Levels.{in_right, same_is}, Tables.Changes.at_put_same}
 
 pub none_followed : (b : Bool) (links : List ℕ) → links ≡ [] → cond b links [] ≡ []
 none_followed true links empty = empty
@@ -32,32 +31,19 @@ followed_put clock caller es n k v none empty =
 pub same_followed :
     (s t : State) (c d : Context) (desc before after : List ℕ) → HasMade s c t d desc before after
     → at s.keys s.next_serial ≡ None → followed_in t d ≡ followed_in s c
-same_followed s t c d desc before after made none =
-    let ring = special_ring desc c.caller in
-    let each : (k : ℕ) → followed_in t d k ≡ followed_in s c k = λ k.
-    ap (λ (clock : ℕ). followed clock d.caller (at t.keys k)) made.clock
-    ∙ (ap (λ (caller : Caller). followed s.clock caller (at t.keys k)) made.caller
-    ∙ (ap (λ (es : Table Key). followed s.clock c.caller (at es k)) made.keys
-    ∙ followed_put s.clock c.caller s.keys s.next_serial k ring none refl)) in
-    λ i k. each k i
+same_followed s t c d desc before after made none = grind (arith, nat_tests, followed_put)
 
 -- a further head that links nothing is in the first level alone
 level_further :
     (links : ℕ → List ℕ) (before after : List ℕ) (n m : ℕ) → links n ≡ []
     → level links (before ++ (n ∷ after)) (suc m) ≡ level links (before ++ after) (suc m)
 unfolding level
-level_further links before after n zero empty =
-    flat_map-append links before (n ∷ after)
-    ∙ (ap (λ (xs : List ℕ). flat_map links before ++ (xs ++ flat_map links after)) empty
-    ∙ sym (flat_map-append links before after))
+level_further links before after n zero empty = grind (arith, nat_tests, flat_map-append)
 level_further links before after n (suc m) empty = ap (flat_map links) (level_further links before after n m empty)
 
 in_further :
     (before after : List ℕ) (n k : ℕ) → (n == k) ≡ false → is_in k (before ++ (n ∷ after)) ≡ is_in k (before ++ after)
-in_further before after n k apart =
-    list_any-append (λ q. q == k) before (n ∷ after)
-    ∙ (ap (λ (b : Bool). is_in k before || (b || is_in k after)) apart
-    ∙ sym (list_any-append (λ q. q == k) before after))
+in_further before after n k apart = grind (arith, nat_tests, list_any-append)
 
 levels_further :
     (links : ℕ → List ℕ) (before after : List ℕ) (n k m : ℕ) → links n ≡ [] → (n == k) ≡ false
@@ -66,14 +52,14 @@ unfolding level levels
 levels_further links before after n k zero empty apart = refl
 levels_further links before after n k (suc zero) empty apart = in_further before after n k apart
 levels_further links before after n k (suc (suc m)) empty apart =
-    let heads = before ++ (n ∷ after) in
-    let was = before ++ after in
-    list_any-append (λ q. q == k) (levels links heads (suc m)) (level links heads (suc m))
-    ∙ (ap (λ (b : Bool). b || is_in k (level links heads (suc m)))
-    (levels_further links before after n k (suc m) empty apart)
-    ∙ (ap (λ (xs : List ℕ). is_in k (levels links was (suc m)) || is_in k xs)
-    (level_further links before after n m empty)
-    ∙ sym (list_any-append (λ q. q == k) (levels links was (suc m)) (level links was (suc m)))))
+    grind (
+      arith,
+      nat_tests,
+      list_any-append,
+      level_further,
+      levels_further links before after n k (suc m) empty
+          apart,
+    )
 
 not_equal : (n k : ℕ) → k ≢ n → (n == k) ≡ false
 not_equal n k other = let turned : n ≢ k = λ e. other (sym e) in grind (arith, nat_tests)
@@ -86,23 +72,20 @@ unfolding possessed
 possessed_other s t c d desc before after k made none other =
     let n = s.next_serial in
     let empty : followed_in s c n ≡ [] = ap (followed s.clock c.caller) none in
-    ap (λ (links : ℕ → List ℕ). is_in k (levels links (attached t d) (suc search_depth)))
-    (same_followed s t c d desc before after made none)
-    ∙ (ap (λ (heads : List ℕ). is_in k (levels (followed_in s c) heads (suc search_depth))) made.is
-    ∙ (levels_further (followed_in s c) before after n k (suc search_depth) empty (not_equal n k other)
-    ∙ ap (λ (heads : List ℕ). is_in k (levels (followed_in s c) heads (suc search_depth))) (sym made.was)))
+    rw (
+      same_followed s t c d desc before after made none,
+      made.is,
+      levels_further (followed_in s c) before after n
+          k (suc search_depth) empty (not_equal n k other),
+      ← made.was,
+    )
 
 -- the new keyring is possessed
 pub possessed_new :
     (s t : State) (c d : Context) (desc before after : List ℕ) → HasMade s c t d desc before after
     → possessed t d s.next_serial ≡ true
 unfolding possessed
-possessed_new s t c d desc before after made =
-    let n = s.next_serial in
-    let new : is_in n (n ∷ after) ≡ true = rw (same_is n n refl) refl in
-    let head : is_in n (attached t d) ≡ true =
-    ap (is_in n) made.is ∙ in_right n before (n ∷ after) new in
-    heads_first (followed_in t d) (attached t d) search_depth n head
+possessed_new s t c d desc before after made = grind (arith, nat_tests, same_is, in_right, heads_first)
 
 serial_by :
     (s t : State) (c d : Context) (named : Result KeyId Errno) → ((id : KeyId) → StandsFor s c t d id)
@@ -119,12 +102,6 @@ pub serial_either :
 unfolding serial_of
 serial_either s t c d desc before after id made = serial_by s t c d (key_id_of id) made.stands_for
 
-abbrev usable_by : Want → ℕ → Key → ℕ → Caller → Bool → Result (ℕ × Key) Errno
-usable_by want serial key clock caller mine =
-    cond key.revoked (Err EKEYREVOKED)
-    (cond (is_over clock key.expiry) (Err EKEYEXPIRED)
-    (cond (allows want (rights_on key caller mine) mine) (Ok (serial, key)) (Err EACCES)))
-
 abbrev looked_at : State → Context → Want → ℕ → Result (ℕ × Key) Errno
 looked_at s c want serial = or_refuse ENOKEY (at s.keys serial) >>= (λ key. if_usable s c want serial key)
 
@@ -132,17 +109,7 @@ looked_at_other :
     (s t : State) (c d : Context) (desc before after : List ℕ) (want : Want) (k : ℕ)
     → HasMade s c t d desc before after → at s.keys s.next_serial ≡ None → k ≢ s.next_serial
     → looked_at t d want k ≡ looked_at s c want k
-looked_at_other s t c d desc before after want k made none other =
-    let ring = special_ring desc c.caller in
-    let mine = possessed_other s t c d desc before after k made none other in
-    let usable : (key : Key) → if_usable t d want k key ≡ if_usable s c want k key = λ key.
-    ap (λ (clock : ℕ). usable_by want k key clock d.caller (possessed t d k)) made.clock
-    ∙ (ap (λ (caller : Caller). usable_by want k key s.clock caller (possessed t d k)) made.caller
-    ∙ ap (usable_by want k key s.clock c.caller) mine) in
-    let there : at t.keys k ≡ at s.keys k =
-    ap (λ (es : Table Key). at es k) made.keys ∙ at_other s.keys s.next_serial k ring other in
-    ap (λ (o : Option Key). or_refuse ENOKEY o >>= (λ key. if_usable t d want k key)) there
-    ∙ ap (λ (f : Key → Result (ℕ × Key) Errno). or_refuse ENOKEY (at s.keys k) >>= f) (λ i key. usable key i)
+looked_at_other s t c d desc before after want k made none other = grind (arith, nat_tests, possessed_other, at_other)
 
 look_up_by :
     (s t : State) (c d : Context) (want : Want) (n : ℕ) (serial : Result ℕ Errno)
@@ -169,26 +136,18 @@ look_up_other s t c d desc before after id want made none other =
 
 -- its maker possesses a thread or process keyring with all rights
 pub own_rights : (desc : List ℕ) (c : Caller) → rights_on (special_ring desc c) c true ≡ 63
-own_rights desc c =
-    let own : (c.uid == c.uid) ≡ true = same_is c.uid c.uid refl in
-    let others = cond (is_of_group c c.gid) (group_byte 1057030144) (other_byte 1057030144) in
-    ap (λ (b : Bool). bit_or 63 (cond b 1 others)) own
+own_rights desc c = search same_is depth 8
 
 -- the new keyring is there, and its maker has all rights on it
 pub there_new :
     (s t : State) (c d : Context) (desc before after : List ℕ) → HasMade s c t d desc before after
     → at t.keys s.next_serial ≡ Some (special_ring desc c.caller)
-there_new s t c d desc before after made =
-    let n = s.next_serial in
-    ap (λ (es : Table Key). at es n) made.keys ∙ at_put_same s.keys n (special_ring desc c.caller)
+there_new s t c d desc before after made = grind (arith, nat_tests, at_put_same)
 
 pub rights_new :
     (s t : State) (c d : Context) (desc before after : List ℕ) → HasMade s c t d desc before after
     → rights_on (special_ring desc c.caller) d.caller (possessed t d s.next_serial) ≡ 63
-rights_new s t c d desc before after made =
-    let ring = special_ring desc c.caller in
-    ap (rights_on ring d.caller) (possessed_new s t c d desc before after made)
-    ∙ (ap (λ (caller : Caller). rights_on ring caller true) made.caller ∙ own_rights desc c.caller)
+rights_new s t c d desc before after made = grind (arith, nat_tests, possessed_new, own_rights)
 
 -- the new keyring is looked up for any right
 pub look_up_new :
@@ -196,12 +155,4 @@ pub look_up_new :
     → HasMade s c t d desc before after → serial_of t d id ≡ Ok s.next_serial → has_all 63 wanted ≡ true
     → look_up t d id (Granted wanted) ≡ Ok (s.next_serial, special_ring desc c.caller)
 unfolding look_up
-look_up_new s t c d desc before after id wanted made named all =
-    let n = s.next_serial in
-    let ring = special_ring desc c.caller in
-    let there = there_new s t c d desc before after made in
-    let rights = rights_new s t c d desc before after made in
-    ap (λ (serial : Result ℕ Errno). serial >>= looked_at t d (Granted wanted)) named
-    ∙ (ap (λ (o : Option Key). or_refuse ENOKEY o >>= (λ key. if_usable t d (Granted wanted) n key)) there
-    ∙ (ap (λ (r : ℕ). cond (has_all r wanted) (Ok (n, ring)) (Err EACCES)) rights
-    ∙ ap (λ (b : Bool). cond b (Ok (n, ring)) (Err EACCES)) all))
+look_up_new s t c d desc before after id wanted made named all = grind (arith, nat_tests, there_new, rights_new)

@@ -1,15 +1,15 @@
 -- Which keyrings nest and which links close a cycle where a thread or process keyring is made.
-use Rattle.std.proofs.Common.{[], ⊎_elim, ◌∙◌, ◌∷◌, ◌≡◌, ◌≢◌, ap, Bool, Err, false, filter, length, List, nat_cmp, None}
-use Rattle.std.proofs.Common.{Option, refl, Result, subst, suc, sym, true, ℕ}
-use Rattle.std.specs.{Ordering.match_ordering, declared.cmp.Ordering.TheVariants.{Equal, Greater, Less}}
-use Rattle.krs_types.specs.{Refusing.◌>>=◌, declared.errno.Errno.{Errno, TheVariants.{EDEADLK, ELOOP}}}
-use Rattle.krs_model.specs.Asks.Linked.{linked, nestable, unless}
-use Rattle.krs_model.specs.{Levels.{is_in, level, levels}, Possession.links_of_content}
-use Rattle.krs_model.specs.Reach.{closes, has_chain, is_ring, is_some_in, links_of_key_at, nested_in, nesting_depth}
-use Rattle.krs_model.specs.{Sound.AllLinked, State.Key, Sweep.links_of_key, Table.{at, put, Table}}
-use Rattle.krs_model.proofs.MadeKeyring.State.{at_other, either_at}
-use Rattle.krs_model.proofs.Reach.{Acyclic.heads_first, Levels.{levels_linked, only_in, same_is}}
-use Rattle.krs_model.proofs.{Sound.Changes.not_there, Tables.Tests.{AgreeOn, filter_agree}}
+use Rattle.std.proofs.Common.{[], ⊎_elim, ◌∙◌, ◌∷◌, ◌≡◌, ◌≢◌, ap, arith, Bool, Err, false, filter, length, List}
+use Rattle.std.proofs.{Common.{nat_cmp, None, Option, refl, subst, suc, sym, true, ℕ}, lemmas.Bool.Decides.nat_tests}
+use Rattle.std.specs.{declared.cmp.Ordering.TheVariants.{Equal, Greater, Less}, Ordering.match_ordering}
+use Rattle.krs_types.specs.declared.errno.Errno.TheVariants.{EDEADLK, ELOOP}
+use Rattle.krs_model.specs.{Asks.Linked.{linked, nestable, unless}, Levels.{is_in, level, levels}}
+use Rattle.krs_model.specs.{Possession.links_of_content, Reach.{closes, has_chain, is_ring, is_some_in}}
+use Rattle.krs_model.specs.{Reach.{links_of_key_at, nested_in, nesting_depth}, Sound.AllLinked, State.Key}
+use Rattle.krs_model.specs.{Sweep.links_of_key, Table.{at, put, Table}}
+use Rattle.krs_model.proofs.{MadeKeyring.State.{at_other, either_at}, Reach.Acyclic.heads_first}
+use Rattle.krs_model.proofs.{Reach.Levels.{levels_linked, only_in, same_is}, Sound.Changes.not_there}
+use Rattle.krs_model.proofs.Tables.Tests.{AgreeOn, filter_agree}
 
 -- what is linked is not the new keyring
 pub linked_other :
@@ -63,10 +63,7 @@ closes_other es n k v linked none empty other =
     subst (λ (links : ℕ → List ℕ). is_in n (links r.0) ≡ true) (same_links es n v none empty) r.2 in
     linked_other es n r.0 n linked none was refl)
     (levels_linked (links_of_key_at keys) (k ∷ []) (length keys) n h) in
-    elim (is_in n all) as (λ b. (b ≡ true → ⊥) → b ≡ false) [
-      | true ↦ λ no. absurd (no refl)
-      | false ↦ λ no. refl
-    ] never
+    grind (arith, nat_tests)
 
 put_more : (es : Table Key) (n : ℕ) (v : Key) → (m : ℕ) × (length (put es n v) ≡ suc m)
 put_more [] n v = (0, refl)
@@ -84,22 +81,16 @@ unfolding closes
 closes_self es n v =
     let keys = put es n v in
     let more = put_more es n v in
-    ap (λ (m : ℕ). is_in n (levels (links_of_key_at keys) (n ∷ []) m)) more.1
-    ∙ heads_first (links_of_key_at keys) (n ∷ []) more.0 n (rw (same_is n n refl) refl)
+    rw (more.1, heads_first (links_of_key_at keys) (n ∷ []) more.0 n (rw (same_is n n refl) refl))
 
 -- another key is nested in the new keyring where no chain is too long
 pub nestable_other :
     (es : Table Key) (n k : ℕ) (v : Key) → AllLinked es → at es n ≡ None → links_of_content v.content ≡ [] → k ≢ n
     → nestable (put es n v) n k ≡ unless (has_chain es k nesting_depth) ELOOP
 unfolding nestable
-nestable_other es n k v linked none empty other =
-    let chain : Result (Unit {0}) Errno = unless (has_chain (put es n v) k nesting_depth) ELOOP in
-    ap (λ (b : Bool). unless b EDEADLK >>= (λ acyclic. chain)) (closes_other es n k v linked none empty other)
-    ∙ ap (λ (b : Bool). unless b ELOOP) (same_chain es n k nesting_depth v linked none empty)
+nestable_other es n k v linked none empty other = search (closes_other, same_chain) depth 8
 
 -- the new keyring is not nested in itself
 pub nestable_self : (es : Table Key) (n : ℕ) (v : Key) → nestable (put es n v) n n ≡ Err EDEADLK
 unfolding nestable
-nestable_self es n v =
-    let chain : Result (Unit {0}) Errno = unless (has_chain (put es n v) n nesting_depth) ELOOP in
-    ap (λ (b : Bool). unless b EDEADLK >>= (λ acyclic. chain)) (closes_self es n v)
+nestable_self es n v = search closes_self depth 8

@@ -1,52 +1,43 @@
 -- What a search and a request meet where a thread or process keyring is made.
-use Rattle.std.proofs.Common.{[], ⊎_elim, ◌&&◌, ◌++◌, ◌==◌, ◌||◌, ◌∙◌, ◌∷◌, ◌≡◌, ◌≢◌, ap, Bool, cond, Err, false, find}
-use Rattle.std.proofs.Common.{flat_map, IsSome, List, None, not, Ok, Option, option_to_list, refl, Result, Some, subst}
-use Rattle.std.proofs.Common.{suc, sym, true, true≢false, unwrap_or, zero, ℕ}
+use Rattle.std.proofs.Common.{[], ⊎_elim, ◌&&◌, ◌++◌, ◌==◌, ◌||◌, ◌∙◌, ◌∷◌, ◌≡◌, ◌≢◌, ap, arith, Bool, cond, Err}
+use Rattle.std.proofs.Common.{false, flat_map, IsSome, List, None, not, Ok, Option, option_to_list, refl, Result}
+use Rattle.std.proofs.Common.{Some, subst, suc, sym, true, true≢false, unwrap_or, zero, ℕ}
+use Rattle.std.proofs.lemmas.{Bool.Decides.nat_tests, Grind.flat_map-append}
 use Rattle.std.specs.List.{list_any}
-use Rattle.std.proofs.lemmas.Grind.{flat_map-append}
-use Rattle.krs_types.specs.{Refusing.or_refuse, Rights.{has_all, SEARCH}, declared.caller.Caller.Caller}
 use Rattle.krs_types.specs.declared.{context.Context.Context, errno.Errno.{Errno, TheVariants.ENOKEY}, name.Name.Name}
-use Rattle.krs_model.specs.{Access.{is_alive, is_over, rights_on}, Asks.Linked.linked, Laws.in_turn}
-use Rattle.krs_model.specs.{Levels.{is_in, level, levels, search_depth}, Linking.is_named, Making.special_ring}
-use Rattle.krs_model.specs.Possession.{attached, links_of_content, possessed, process_ring}
-use Rattle.krs_model.specs.Search.{entered, fault, found, grants_search, is_answer, is_denied, is_expired, is_match}
-use Rattle.krs_model.specs.Search.{is_open, is_revoked, open_links, or_next, requested, searched, Searcher, searcher_of}
-use Rattle.krs_model.specs.{Search.sought, Sound.{AllAttached, AllLinked}, State.{Key, State}}
-use Rattle.krs_model.specs.{Sweep.{links_of_key, process_roots}, Table.{at, Table}}
+use Rattle.krs_types.specs.Refusing.{or_refuse}
+use Rattle.krs_model.specs.{Access.is_over, Asks.Linked.linked, Laws.in_turn, Levels.{is_in, level, levels}}
+use Rattle.krs_model.specs.{Levels.search_depth, Linking.is_named, Making.special_ring, Possession.attached}
+use Rattle.krs_model.specs.{Possession.{links_of_content, possessed, process_ring}, Search.{entered, fault, found}}
+use Rattle.krs_model.specs.Search.{grants_search, is_answer, is_denied, is_expired, is_match, is_open, is_revoked}
+use Rattle.krs_model.specs.Search.{open_links, or_next, requested, searched, Searcher, searcher_of, sought}
+use Rattle.krs_model.specs.{Sound.{AllAttached, AllLinked}, State.{Key, State}, Sweep.{links_of_key, process_roots}}
+use Rattle.krs_model.specs.Table.{at, Table}
 use Rattle.krs_model.proofs.MadeKeyring.Lookups.{none_followed, possessed_other, rights_new, there_new}
 use Rattle.krs_model.proofs.{MadeKeyring.{Nesting.linked_other, State.{at_other, HasMade}}, Reach.Acyclic.is_or_not}
 use Rattle.krs_model.proofs.Reach.Levels.{in_flat, in_left, in_one, in_right, levels_linked, only_in, same_is}
-use Rattle.krs_model.proofs.Reach.Searches.{in_turn_flat, sought_append}
-use Rattle.krs_model.proofs.Sound.{Attached.{attached_at, context_keys, in_context, in_process}, Changes.not_there}
-use Rattle.krs_model.proofs.Tables.{Changes.at_put_same, Tests.{AgreeOn, any_agree, find_agree}}
-
-abbrev grants_by : Key → Caller → Bool → Bool
-grants_by key caller mine = has_all (rights_on key caller mine) SEARCH
+use Rattle.krs_model.proofs.{Reach.Searches.{in_turn_flat, sought_append}, Sound.Attached.{attached_at, context_keys}}
+use Rattle.krs_model.proofs.{Sound.{Attached.{in_context, in_process}, Changes.not_there}, Tables.Changes.at_put_same}
+use Rattle.krs_model.proofs.Tables.Tests.{AgreeOn, any_agree, find_agree}
 
 -- another key grants SEARCH as it did
 grants_other :
     (s t : State) (c d : Context) (desc before after : List ℕ) (k : ℕ) (key : Key) → HasMade s c t d desc before after
     → at s.keys s.next_serial ≡ None → k ≢ s.next_serial
     → grants_search (searcher_of t d) k key ≡ grants_search (searcher_of s c) k key
-grants_other s t c d desc before after k key made none other =
-    ap (λ (caller : Caller). grants_by key caller (possessed t d k)) made.caller
-    ∙ ap (grants_by key c.caller) (possessed_other s t c d desc before after k made none other)
+grants_other s t c d desc before after k key made none other = grind (arith, nat_tests, possessed_other)
 
 -- and is open as it was
 open_other :
     (s t : State) (c d : Context) (desc before after : List ℕ) (k : ℕ) (key : Key) → HasMade s c t d desc before after
     → at s.keys s.next_serial ≡ None → k ≢ s.next_serial
     → is_open (searcher_of t d) k key ≡ is_open (searcher_of s c) k key
-open_other s t c d desc before after k key made none other =
-    ap (λ (clock : ℕ). is_alive clock key && grants_search (searcher_of t d) k key) made.clock
-    ∙ ap (λ (b : Bool). is_alive s.clock key && b) (grants_other s t c d desc before after k key made none other)
+open_other s t c d desc before after k key made none other = grind (arith, nat_tests, grants_other)
 
 pub there_is :
     (s t : State) (c d : Context) (desc before after : List ℕ) (k : ℕ) → HasMade s c t d desc before after
     → k ≢ s.next_serial → at t.keys k ≡ at s.keys k
-there_is s t c d desc before after k made other =
-    ap (λ (es : Table Key). at es k) made.keys
-    ∙ at_other s.keys s.next_serial k (special_ring desc c.caller) other
+there_is s t c d desc before after k made other = grind (arith, nat_tests, at_other)
 
 links_other :
     (by was : Searcher) (k : ℕ) (o : Option Key) → ((key : Key) → is_open by k key ≡ is_open was k key)
@@ -108,14 +99,13 @@ sought_other s t c d desc before after name serials made none others =
     ap (λ (holds : Key → Bool). is_match name holds (at t.keys k)) (λ j key. each key j)
     ∙ ap (is_match name (is_open was k)) (there k i) in
     let any : (Name → ℕ → Bool) → Bool = λ p. list_any (p name) serials in
-    ap (λ (b : Bool). sought_by b (any (is_expired by)) (any (is_denied by)) (find (is_answer by name) serials))
-    (any_agree (is_revoked by name) (is_revoked was name) serials revoked)
-    ∙ (ap (λ (b : Bool). sought_by (any (is_revoked was)) b (any (is_denied by)) (find (is_answer by name) serials))
-    (any_agree (is_expired by name) (is_expired was name) serials expired)
-    ∙ (ap (λ (b : Bool). sought_by (any (is_revoked was)) (any (is_expired was)) b (find (is_answer by name) serials))
-    (any_agree (is_denied by name) (is_denied was name) serials denied)
-    ∙ ap (sought_by (any (is_revoked was)) (any (is_expired was)) (any (is_denied was)))
-    (find_agree (is_answer by name) (is_answer was name) serials answers)))
+    rw (
+      any_agree (is_revoked by name) (is_revoked was name) serials revoked,
+      any_agree (is_expired by name)
+          (is_expired was name) serials expired,
+      any_agree (is_denied by name) (is_denied was name) serials denied,
+      find_agree (is_answer by name) (is_answer was name) serials answers,
+    )
 
 entered_in : (b : Bool) (links : List ℕ) (k : ℕ) → is_in k (cond b links []) ≡ true → is_in k links ≡ true
 entered_in true links k h = h
@@ -131,19 +121,13 @@ pub searched_others :
     (by : Searcher) (n head : ℕ) → AllLinked by.keys → at by.keys n ≡ None → head ≢ n → AreOthers n (searched by head)
 unfolding searched
 searched_others by n head linked none other k h =
-    ⊎_elim (λ (i : is_in k (head ∷ []) ≡ true). λ e. other (sym (only_in k head i) ∙ e))
-    (λ (r : (j : ℕ) × (is_in j (levels (entered by) (head ∷ []) (suc search_depth)) ≡ true)
-    × (is_in k (entered by j) ≡ true)).
-    linked_other by.keys n r.0 k linked none (entered_linked by r.0 k (at by.keys r.0) r.2))
-    (levels_linked (entered by) (head ∷ []) (suc search_depth) k h)
+    grind (arith, nat_tests, only_in, linked_other, entered_linked, levels_linked)
 
 same_searched :
     (s t : State) (c d : Context) (desc before after : List ℕ) → HasMade s c t d desc before after
     → at s.keys s.next_serial ≡ None → searched (searcher_of t d) ≡ searched (searcher_of s c)
 unfolding searched
-same_searched s t c d desc before after made none =
-    let from : (ℕ → List ℕ) → ℕ → List ℕ = λ links head. levels links (head ∷ []) (suc search_depth) in
-    ap from (same_entered s t c d desc before after made none)
+same_searched s t c d desc before after made none = grind (arith, nat_tests, same_entered)
 
 -- a search from another key finds what it did
 pub found_other :
@@ -153,10 +137,11 @@ pub found_other :
 unfolding found possessed
 found_other s t c d desc before after head name made linked none other =
     let was = searcher_of s c in
-    ap (λ (search_from : ℕ → List ℕ). sought (searcher_of t d) name (search_from head))
-    (same_searched s t c d desc before after made none)
-    ∙ sought_other s t c d desc before after name (searched was head) made none
-    (searched_others was s.next_serial head linked none other)
+    rw (
+      same_searched s t c d desc before after made none,
+      sought_other s t c d desc before after name (searched
+          was head) made none (searched_others was s.next_serial head linked none other),
+    )
 
 -- the attached keyrings of a context are there
 abbrev pub AreThere : State → Context → Type 0
@@ -180,17 +165,12 @@ attached_there s number c is attached k h =
     attached k (in_context s k (attached_at context_keys s.contexts number c k is i)) in
     let of_process : is_in k (option_to_list (process_ring s c.process)) ≡ true → IsSome (at s.keys k) = λ i.
     attached k (in_process s k (process_root s.processes c.process k i)) in
-    ⊎_elim (λ i. of_context (in_left k (option_to_list c.thread) (option_to_list c.session) i))
-    (λ i. ⊎_elim of_process (λ j. of_context (in_right k (option_to_list c.thread) (option_to_list c.session) j))
-    (in_one k (option_to_list (process_ring s c.process)) (option_to_list c.session) i))
-    (in_one k (option_to_list c.thread) (option_to_list (process_ring s c.process) ++ option_to_list c.session) h)
+    grind (arith, nat_tests, in_left, in_right, in_one)
 
 heads_others :
     (by : Searcher) (n : ℕ) (heads : List ℕ) → AllLinked by.keys → at by.keys n ≡ None → AreOthers n heads
     → AreOthers n (flat_map (searched by) heads)
-heads_others by n heads linked none others k h =
-    let from = in_flat (searched by) heads k h in
-    searched_others by n from.0 linked none (others from.0 from.1) k from.2
+heads_others by n heads linked none others k h = grind (arith, nat_tests, in_flat, searched_others)
 
 -- from a keyring that links nothing, a search comes to it alone
 level_alone : (links : ℕ → List ℕ) (n m : ℕ) → links n ≡ [] → level links (n ∷ []) (suc m) ≡ []
@@ -201,9 +181,7 @@ level_alone links n (suc m) empty = ap (flat_map links) (level_alone links n m e
 levels_alone : (links : ℕ → List ℕ) (n m : ℕ) → links n ≡ [] → levels links (n ∷ []) (suc m) ≡ n ∷ []
 unfolding level levels
 levels_alone links n zero empty = refl
-levels_alone links n (suc m) empty =
-    ap (λ (xs : List ℕ). xs ++ level links (n ∷ []) (suc m)) (levels_alone links n m empty)
-    ∙ ap (λ (xs : List ℕ). n ∷ xs) (level_alone links n m empty)
+levels_alone links n (suc m) empty = search (level_alone, levels_alone links n m empty) depth 8
 
 searched_new : (by : Searcher) (n : ℕ) → at by.keys n ≡ None → searched by n ≡ n ∷ []
 unfolding searched
@@ -221,21 +199,7 @@ sought_new :
     (s t : State) (c d : Context) (desc before after : List ℕ) (name : Name) → HasMade s c t d desc before after
     → sought (searcher_of t d) name (s.next_serial ∷ [])
     ≡ cond (is_named name (Some (special_ring desc c.caller))) (Ok s.next_serial) (Err ENOKEY)
-sought_new s t c d desc before after name made =
-    let n = s.next_serial in
-    let ring = special_ring desc c.caller in
-    let by = searcher_of t d in
-    let named = is_named name (Some ring) in
-    let there = there_new s t c d desc before after made in
-    let rights = rights_new s t c d desc before after made in
-    let grants : grants_search by n ring ≡ true = ap (λ (r : ℕ). has_all r SEARCH) rights in
-    ap (λ (o : Option Key). sought_by (is_match name (λ key. key.revoked) o || false)
-    (is_match name (λ key. is_over t.clock key.expiry) o || false)
-    (is_match name (λ key. not (grants_search by n key)) o || false)
-    (cond (is_match name (is_open by n) o) (Some n) None)) there
-    ∙ (ap (λ (b : Bool). sought_by ((named && false) || false) ((named && false) || false) ((named && not b) || false)
-    (cond (named && b) (Some n) None)) grants
-    ∙ one_sought named n)
+sought_new s t c d desc before after name made = grind (arith, nat_tests, there_new, rights_new, one_sought)
 
 -- the new keyring's place in a request is between the keyrings before it and those after it
 between :
@@ -243,9 +207,7 @@ between :
     → or_next (sought by name before) (or_next (cond named (Ok n) (Err ENOKEY)) (sought by name after))
     ≡ cond named (or_next (sought by name before) (Ok n)) (sought by name (before ++ after))
 between by name true n before after = refl
-between by name false n before after =
-    ap (or_next (sought by name before)) (sym (sought_append by name [] after))
-    ∙ sym (sought_append by name before after)
+between by name false n before after = rw (← (sought_append by name [] after), ← (sought_append by name before after))
 
 -- a request finds the new keyring where it is of that name and no keyring that is attached before it has an answer;
 -- for another name it finds what it did
@@ -271,21 +233,19 @@ requested_with s t c d desc before after name made linked none there =
     let parts : flat_map (searched was) (before ++ (n ∷ after)) ≡ from before ++ ((n ∷ []) ++ from after) =
     flat_map-append (searched was) before (n ∷ after)
     ∙ ap (λ (xs : List ℕ). from before ++ (xs ++ from after)) (searched_new was n none) in
-    ap (λ (f : ℕ → List ℕ). sought by name (flat_map f (attached t d)))
-    (same_searched s t c d desc before after made none)
-    ∙ (ap (λ (heads : List ℕ). sought by name (flat_map (searched was) heads)) made.is
-    ∙ (ap (sought by name) parts
-    ∙ (sought_append by name (from before) ((n ∷ []) ++ from after)
-    ∙ (ap (or_next (sought by name (from before))) (sought_append by name (n ∷ []) (from after))
-    ∙ (ap (λ (r : Result ℕ Errno). or_next r (or_next (sought by name (n ∷ [])) (sought by name (from after))))
-    (sought_other s t c d desc before after name (from before) made none first)
-    ∙ (ap (λ (r : Result ℕ Errno). or_next (sought was name (from before)) (or_next (sought by name (n ∷ [])) r))
-    (sought_other s t c d desc before after name (from after) made none last)
-    ∙ (ap (λ (r : Result ℕ Errno). or_next (sought was name (from before)) (or_next r (sought was name (from after))))
-    (sought_new s t c d desc before after name made)
-    ∙ (between was name named n (from before) (from after)
-    ∙ (ap (λ (r : Result ℕ Errno). cond named (or_next r (Ok n)) (sought was name (from before ++ from after)))
-    (in_turn_flat was name before)
-    ∙ ap (λ (xs : List ℕ). cond named (or_next (in_turn (λ head. found s c head name) before) (Ok n))
-    (sought was name xs))
-    (sym (flat_map-append (searched was) before after) ∙ ap from (sym made.was)))))))))))
+    rw (
+      same_searched s t c d desc before after made none,
+      made.is,
+      parts,
+      sought_append by name (from before) ((n
+          ∷ []) ++ from after),
+      sought_append by name (n ∷ []) (from after),
+      sought_other s t c d desc before after name
+          (from before) made none first,
+      sought_other s t c d desc before after name (from after) made none last,
+      sought_new s t c d desc before after name made,
+      between was name named n (from before) (from after),
+      in_turn_flat was name before,
+      ← (flat_map-append (searched was) before after),
+      ← made.was,
+    )

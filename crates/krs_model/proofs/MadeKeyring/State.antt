@@ -1,13 +1,13 @@
 -- A thread or process keyring that is made: what its store is, told by the state before.
-use Rattle.std.proofs.Common.{[], ⊎_elim, ◌++◌, ◌+◌, ◌∙◌, ◌∷◌, ◌≡◌, ◌≢◌, ◌⊎◌, ap, codes, inl, inr, IsSome, List, None}
-use Rattle.std.proofs.Common.{Ok, Option, option_map, option_to_list, refl, Result, Some, subst, sym, true≢false}
-use Rattle.std.proofs.Common.{unwrap_or, ℕ, ℤ}
-use Rattle.krs_types.specs.{KeyId.key_id_of, Refusing.{◌>>=◌, or_refuse}, declared.context.Context.Context}
-use Rattle.krs_types.specs.declared.{errno.Errno.{Errno, TheVariants.ENOKEY}, key_id.KeyId.KeyId}
+use Rattle.std.proofs.Common.{[], ⊎_elim, ◌++◌, ◌+◌, ◌∙◌, ◌∷◌, ◌≡◌, ◌≢◌, ◌⊎◌, arith, codes, inl, inr, IsSome, List}
+use Rattle.std.proofs.Common.{None, Ok, Option, option_map, option_to_list, refl, Result, Some, sym, true≢false}
+use Rattle.std.proofs.{Common.{unwrap_or, ℕ, ℤ}, lemmas.Bool.Decides.nat_tests}
+use Rattle.krs_types.specs.declared.{context.Context.Context, errno.Errno.Errno, key_id.KeyId.KeyId}
 use Rattle.krs_types.specs.declared.key_id.KeyId.TheVariants.{Process, Serial, Session, Thread, User, UserSession}
-use Rattle.krs_model.specs.Lookup.{attachment, serial_of}
-use Rattle.krs_model.specs.Making.{made_for, special_ring, thread_to, with_process, with_thread}
-use Rattle.krs_model.specs.{Possession.{attached, process_ring}, State.{Key, State}, Table.{at, put, Table}}
+use Rattle.krs_types.specs.KeyId.{key_id_of}
+use Rattle.krs_model.specs.{Lookup.{attachment, serial_of}, Making.{made_for, special_ring, thread_to, with_process}}
+use Rattle.krs_model.specs.{Making.with_thread, Possession.{attached, process_ring}, State.{Key, State}, Table.at}
+use Rattle.krs_model.specs.Table.{put, Table}
 use Rattle.krs_model.proofs.MadeKeyring.Which.{IsMade, made_for_is, NoneMade, ProcessMade, ThreadMade}
 use Rattle.krs_model.proofs.{Sound.Changes.{at_put, IsPut}, Tables.Changes.at_alter_same}
 
@@ -40,18 +40,7 @@ thread_for s number c UserSession = inr refl
 pub thread_has :
     (s : State) (number : ℕ) (c : Context) → c.thread ≡ None
     → HasMade s c (with_thread s number c) (thread_to s.next_serial c) (codes "_tid") [] (attached s c)
-thread_has s number c none =
-    let n = s.next_serial in
-    let others = option_to_list (process_ring s c.process) ++ option_to_list c.session in
-    record {
-      keys = refl;
-      next = refl;
-      clock = refl;
-      caller = refl;
-      was = refl;
-      is = ap (λ (o : Option ℕ). n ∷ (option_to_list o ++ others)) (sym none);
-      stands_for = thread_for s number c;
-    }
+thread_has s number c none = grind (arith, nat_tests, thread_for)
 
 renewed : (n : ℕ) (o : Option (Option ℕ)) → IsSome o → unwrap_or (option_map (λ ring. Some n) o) None ≡ Some n
 renewed n None there = absurd (true≢false (sym there))
@@ -61,10 +50,7 @@ renewed n (Some ring) there = refl
 process_is_new :
     (s : State) (c : Context) → IsSome (at s.processes c.process)
     → process_ring (with_process s c) c.process ≡ Some s.next_serial
-process_is_new s c there =
-    let n = s.next_serial in
-    ap (λ (o : Option (Option ℕ)). unwrap_or o None) (at_alter_same s.processes c.process (λ none. Some n))
-    ∙ renewed n (at s.processes c.process) there
+process_is_new s c there = search (at_alter_same, renewed) depth 8
 
 process_for :
     (s : State) (c : Context) (id : KeyId) → IsSome (at s.processes c.process) → StandsFor s c (with_process s c) c id
@@ -79,18 +65,7 @@ process_for s c UserSession there = inr refl
 pub process_has :
     (s : State) (c : Context) → process_ring s c.process ≡ None → IsSome (at s.processes c.process)
     → HasMade s c (with_process s c) c (codes "_pid") (option_to_list c.thread) (option_to_list c.session)
-process_has s c none there =
-    let attaches : Option ℕ → List ℕ = λ o.
-    option_to_list c.thread ++ (option_to_list o ++ option_to_list c.session) in
-    record {
-      keys = refl;
-      next = refl;
-      clock = refl;
-      caller = refl;
-      was = ap attaches none;
-      is = ap attaches (process_is_new s c there);
-      stands_for = λ id. process_for s c id there;
-    }
+process_has s c none there = grind (arith, nat_tests, process_is_new, process_for)
 
 -- nothing was made, or a keyring that the id stands for
 pub data HasMadeFor (s : State) (c : Context) (id : ℤ) : State × Context → Type 0 where
@@ -103,9 +78,7 @@ named_new :
     (t : State) (d : Context) (id : ℤ) (named : KeyId) (n : ℕ) → key_id_of id ≡ Ok named
     → attachment t d named ≡ Some n → serial_of t d id ≡ Ok n
 unfolding serial_of
-named_new t d id named n is stands =
-    ap (λ (r : Result KeyId Errno). r >>= (λ (x : KeyId). or_refuse ENOKEY (attachment t d x))) is
-    ∙ ap (or_refuse ENOKEY) stands
+named_new t d id named n is stands = search depth 8
 
 is_made_has :
     (s : State) (number : ℕ) (c : Context) (id : ℤ) (named : Result KeyId Errno) (made : State × Context)
@@ -131,12 +104,7 @@ made_for_has s number c id there =
 pub either_at :
     (P : Option Key → Option Key → Type 0) (es : Table Key) (n k : ℕ) (v : Key) → at es n ≡ None
     → (k ≡ n → P (Some v) None) → ((o : Option Key) → P o o) → P (at (put es n v) k) (at es k)
-either_at P es n k v none new old =
-    ⊎_elim (λ (r : IsPut es n v k).
-    let was : at es k ≡ None = ap (λ (z : ℕ). at es z) r.0 ∙ none in
-    subst (λ (o : Option Key). P o (at es k)) (sym r.1)
-    (subst (λ (o : Option Key). P (Some v) o) (sym was) (new r.0)))
-    (λ e. subst (λ (o : Option Key). P o (at es k)) (sym e) (old (at es k))) (at_put es n k v)
+either_at P es n k v none new old = grind (arith, nat_tests, at_put)
 
 -- what is at another number
 pub at_other : (es : Table Key) (n k : ℕ) (v : Key) → k ≢ n → at (put es n v) k ≡ at es k

@@ -1,12 +1,12 @@
 -- What is made for an id: nothing, a thread keyring or a process keyring.
-use Rattle.std.proofs.Common.{◌∙◌, ◌≡◌, ap, Err, None, Ok, Option, refl, Result, Some, sym, ℕ, ℤ}
-use Rattle.std.proofs.lemmas.Option.{none-some}
-use Rattle.krs_types.specs.{KeyId.key_id_of, Refusing.{◌>>=◌, or_refuse}, declared.context.Context.Context}
-use Rattle.krs_types.specs.declared.{errno.Errno.{Errno, TheVariants.ENOKEY}, key_id.KeyId.KeyId}
-use Rattle.krs_types.specs.declared.key_id.KeyId.TheVariants.{Process, Serial, Session, Thread, User, UserSession}
-use Rattle.krs_model.specs.Lookup.{attachment, serial_of}
-use Rattle.krs_model.specs.Making.{made_at, made_for, process_made, thread_made, thread_to, with_process, with_thread}
-use Rattle.krs_model.specs.{Possession.process_ring, State.State}
+use Rattle.std.proofs.Common.{◌∙◌, ◌≡◌, ap, arith, Err, None, Ok, Option, refl, Result, Some, sym, ℕ, ℤ}
+use Rattle.std.proofs.lemmas.{Bool.Decides.nat_tests, Option.none-some}
+use Rattle.krs_types.specs.declared.{context.Context.Context, errno.Errno.{Errno, TheVariants.ENOKEY}}
+use Rattle.krs_types.specs.declared.key_id.KeyId.{KeyId, TheVariants.{Process, Serial, Session, Thread, User}}
+use Rattle.krs_types.specs.{declared.key_id.KeyId.TheVariants.UserSession, KeyId.key_id_of, Refusing.◌>>=◌}
+use Rattle.krs_types.specs.Refusing.{or_refuse}
+use Rattle.krs_model.specs.{Lookup.{attachment, serial_of}, Making.{made_at, made_for, process_made, thread_made}}
+use Rattle.krs_model.specs.{Making.{thread_to, with_process, with_thread}, Possession.process_ring, State.State}
 
 -- nothing is made, or a thread keyring where the context has none, or a process keyring where its process has none
 pub data IsMade (s : State) (number : ℕ) (c : Context) (id : Result KeyId Errno) : State × Context → Type 0 where
@@ -95,8 +95,7 @@ is_made_stands :
 unfolding serial_of
 is_made_stands s number c id ring _ k NoneMade h = h
 is_made_stands s number c id ring _ k (ThreadMade is none) h =
-    named_still s (with_thread s number c) c (thread_to s.next_serial c) (key_id_of id) k
-    (λ named. with_thread_stands s number c named k none) h
+    grind (arith, nat_tests, named_still, with_thread_stands)
 is_made_stands s number c id ring _ k (ProcessMade is none) h =
     named_still s (with_process s c) c c (key_id_of id) k (λ named. with_process_stands s c named k none) h
 

@@ -1,27 +1,18 @@
 -- The bytes of records are those of no other records: each number of a record stands at its place in the bytes.
-use Rattle.std.proofs.Common.{[], ◌%◌, ◌*◌, ◌++◌, ◌+◌, ◌/◌, ◌<◌, ◌∙◌, ◌∷◌, ◌≡◌, ap, arith, List, refl, slice_index, sym}
-use Rattle.std.proofs.Common.{w32, w64, ℕ}
+use Rattle.std.proofs.Common.{[], ◌*◌, ◌++◌, ◌+◌, ◌<◌, ◌∷◌, ◌≡◌, arith, List, refl, slice_index, sym, w32, w64, ℕ}
+use Rattle.std.proofs.lemmas.{Bool.Decides.nat_tests, List.append_cancel_left, Nat.from_le_bytes-to_le_bytes_4}
+use Rattle.std.proofs.lemmas.Nat.{from_le_bytes-to_le_bytes_8}
 use Rattle.std.specs.Int.{from_le_bytes, to_le_bytes}
-use Rattle.std.proofs.lemmas.{List.append_cancel_left, Nat.{from_le_bytes-to_le_bytes_4, from_le_bytes-to_le_bytes_8}}
 use Rattle.krs_types.specs.declared.note.KeyEvent.{KeyEvent, TheVariants.{Cleared, Instantiated, Invalidated, Linked}}
-use Rattle.krs_types.specs.declared.note.KeyEvent.TheVariants.{Revoked, Setattr, Unlinked, Updated}
-use Rattle.krs_types.specs.declared.note.Record.{Record, TheVariants.{Key, Loss, Removal}}
+use Rattle.krs_types.specs.declared.note.{KeyEvent.TheVariants.{Revoked, Setattr, Unlinked, Updated}, Record.Record}
+use Rattle.krs_types.specs.declared.note.Record.TheVariants.{Key, Loss, Removal}
 use Rattle.krs_model.specs.Notes.Bytes.{AllFit, bytes_of, bytes_of_all, event_number, Fits}
 
 -- the two words in front of every record
 header_is : (t n s w : ℕ) (tail : List ℕ) → t < 256 → n < 256 → s < 256 → w < 256 →
     to_le_bytes w32 (t + 16777216 * n) ++ (to_le_bytes w32 (s + 256 * w) ++ tail)
     ≡ t ∷ 0 ∷ 0 ∷ n ∷ s ∷ w ∷ 0 ∷ 0 ∷ tail
-header_is t n s w tail ht hn hs hw =
-    let a : (t + 16777216 * n) % 256 ≡ t = omega arith in
-    let b : (t + 16777216 * n) / 256 % 256 ≡ 0 = omega arith in
-    let c : (t + 16777216 * n) / 65536 % 256 ≡ 0 = omega arith in
-    let d : (t + 16777216 * n) / 16777216 % 256 ≡ n = omega arith in
-    let e : (s + 256 * w) % 256 ≡ s = omega arith in
-    let f : (s + 256 * w) / 256 % 256 ≡ w = omega arith in
-    let g : (s + 256 * w) / 65536 % 256 ≡ 0 = omega arith in
-    let h : (s + 256 * w) / 16777216 % 256 ≡ 0 = omega arith in
-    rw (a, b, c, d, e, f, g, h) refl
+header_is t n s w tail ht hn hs hw = grind (arith, nat_tests)
 
 pub event_small : (e : KeyEvent) → event_number e < 256
 event_small Instantiated = omega arith
@@ -79,67 +70,23 @@ same_event e f h = absurd (omega arith)
 key_one :
     (e f : KeyEvent) (w v k l a b : ℕ) (x y : List ℕ) → Fits (Key e w k a) → Fits (Key f v l b)
     → key_bytes e w k a ++ x ≡ key_bytes f v l b ++ y → Key e w k a ≡ Key f v l b
-key_one e f w v k l a b x y hr hs h =
-    let event : e ≡ f = same_event e f (ap (λ (xs : List ℕ). slice_index xs 3) h) in
-    let watch : w ≡ v = ap (λ (xs : List ℕ). slice_index xs 5) h in
-    let key : k ≡ l =
-    sym (from_le_bytes-to_le_bytes_4 k hr.1)
-    ∙ (ap (λ (xs : List ℕ). four xs 8) h ∙ from_le_bytes-to_le_bytes_4 l hs.1) in
-    let aux : a ≡ b =
-    sym (from_le_bytes-to_le_bytes_4 a hr.2)
-    ∙ (ap (λ (xs : List ℕ). four xs 12) h ∙ from_le_bytes-to_le_bytes_4 b hs.2) in
-    cc
+key_one e f w v k l a b x y hr hs h = grind (arith, nat_tests, same_event, from_le_bytes-to_le_bytes_4)
 
 removal_one :
     (w v k l : ℕ) (x y : List ℕ) → Fits (Removal w k) → Fits (Removal v l)
     → removal_bytes w k ++ x ≡ removal_bytes v l ++ y → Removal w k ≡ Removal v l
-removal_one w v k l x y hr hs h =
-    let watch : w ≡ v = ap (λ (xs : List ℕ). slice_index xs 5) h in
-    let key : k ≡ l =
-    sym (from_le_bytes-to_le_bytes_8 k hr.1)
-    ∙ (ap (λ (xs : List ℕ). eight xs 8) h ∙ from_le_bytes-to_le_bytes_8 l hs.1) in
-    cc
+removal_one w v k l x y hr hs h = grind (arith, nat_tests, from_le_bytes-to_le_bytes_8)
 
 -- the type, the subtype and the numbers of what comes first are at their places in the bytes
 first_one : (r s : Record) (x y : List ℕ) → Fits r → Fits s → bytes_of r ++ x ≡ bytes_of s ++ y → r ≡ s
-first_one (Key e w k a) (Key f v l b) x y hr hs h =
-    key_one e f w v k l a b x y hr hs (ap (λ (xs : List ℕ). xs ++ x) (sym (bytes_of-Key e w k a hr.0))
-    ∙ (h ∙ ap (λ (xs : List ℕ). xs ++ y) (bytes_of-Key f v l b hs.0)))
-first_one (Key e w k a) (Removal v l) x y hr hs h =
-    let same : key_bytes e w k a ++ x ≡ removal_bytes v l ++ y =
-    ap (λ (xs : List ℕ). xs ++ x) (sym (bytes_of-Key e w k a hr.0))
-    ∙ (h ∙ ap (λ (xs : List ℕ). xs ++ y) (bytes_of-Removal v l hs.0)) in
-    let first : ◌≡◌ {A = ℕ} 1 0 = ap (λ (xs : List ℕ). slice_index xs 0) same in
-    absurd (omega arith)
-first_one (Key e w k a) Loss x y hr hs h =
-    let same : key_bytes e w k a ++ x ≡ bytes_of Loss ++ y =
-    ap (λ (xs : List ℕ). xs ++ x) (sym (bytes_of-Key e w k a hr.0)) ∙ h in
-    let first : ◌≡◌ {A = ℕ} 1 0 = ap (λ (xs : List ℕ). slice_index xs 0) same in
-    absurd (omega arith)
-first_one (Removal w k) (Key f v l b) x y hr hs h =
-    let same : removal_bytes w k ++ x ≡ key_bytes f v l b ++ y =
-    ap (λ (xs : List ℕ). xs ++ x) (sym (bytes_of-Removal w k hr.0))
-    ∙ (h ∙ ap (λ (xs : List ℕ). xs ++ y) (bytes_of-Key f v l b hs.0)) in
-    let first : ◌≡◌ {A = ℕ} 0 1 = ap (λ (xs : List ℕ). slice_index xs 0) same in
-    absurd (omega arith)
-first_one (Removal w k) (Removal v l) x y hr hs h =
-    removal_one w v k l x y hr hs (ap (λ (xs : List ℕ). xs ++ x) (sym (bytes_of-Removal w k hr.0))
-    ∙ (h ∙ ap (λ (xs : List ℕ). xs ++ y) (bytes_of-Removal v l hs.0)))
-first_one (Removal w k) Loss x y hr hs h =
-    let same : removal_bytes w k ++ x ≡ bytes_of Loss ++ y =
-    ap (λ (xs : List ℕ). xs ++ x) (sym (bytes_of-Removal w k hr.0)) ∙ h in
-    let subtype : ◌≡◌ {A = ℕ} 0 1 = ap (λ (xs : List ℕ). slice_index xs 3) same in
-    absurd (omega arith)
-first_one Loss (Key f v l b) x y hr hs h =
-    let same : bytes_of Loss ++ x ≡ key_bytes f v l b ++ y =
-    h ∙ ap (λ (xs : List ℕ). xs ++ y) (bytes_of-Key f v l b hs.0) in
-    let first : ◌≡◌ {A = ℕ} 0 1 = ap (λ (xs : List ℕ). slice_index xs 0) same in
-    absurd (omega arith)
-first_one Loss (Removal v l) x y hr hs h =
-    let same : bytes_of Loss ++ x ≡ removal_bytes v l ++ y =
-    h ∙ ap (λ (xs : List ℕ). xs ++ y) (bytes_of-Removal v l hs.0) in
-    let subtype : ◌≡◌ {A = ℕ} 1 0 = ap (λ (xs : List ℕ). slice_index xs 3) same in
-    absurd (omega arith)
+first_one (Key e w k a) (Key f v l b) x y hr hs h = grind (arith, nat_tests, key_one, bytes_of-Key)
+first_one (Key e w k a) (Removal v l) x y hr hs h = grind (arith, nat_tests, bytes_of-Key, bytes_of-Removal)
+first_one (Key e w k a) Loss x y hr hs h = grind (arith, nat_tests, bytes_of-Key)
+first_one (Removal w k) (Key f v l b) x y hr hs h = grind (arith, nat_tests, bytes_of-Removal, bytes_of-Key)
+first_one (Removal w k) (Removal v l) x y hr hs h = grind (arith, nat_tests, removal_one, bytes_of-Removal)
+first_one (Removal w k) Loss x y hr hs h = search bytes_of-Removal depth 8
+first_one Loss (Key f v l b) x y hr hs h = grind (arith, nat_tests, bytes_of-Key)
+first_one Loss (Removal v l) x y hr hs h = search bytes_of-Removal depth 8
 first_one Loss Loss x y hr hs h = refl
 
 -- bytes spell no more than one list of records
@@ -148,8 +95,4 @@ spelled_once [] [] hr hs e = refl
 spelled_once [] (s ∷ ss) hr hs e = absurd (no_bytes s (bytes_of_all ss) e)
 spelled_once (r ∷ rs) [] hr hs e = absurd (no_bytes r (bytes_of_all rs) (sym e))
 spelled_once (r ∷ rs) (s ∷ ss) hr hs e =
-    let same = first_one r s (bytes_of_all rs) (bytes_of_all ss) hr.0 hs.0 e in
-    let rest : bytes_of_all rs ≡ bytes_of_all ss =
-    append_cancel_left (bytes_of r) (bytes_of_all rs) (bytes_of_all ss)
-    (e ∙ ap (λ (x : Record). bytes_of x ++ bytes_of_all ss) (sym same)) in
-    ap (λ (x : Record). x ∷ rs) same ∙ ap (λ (xs : List Record). s ∷ xs) (spelled_once rs ss hr.1 hs.1 rest)
+    grind (arith, nat_tests, first_one, append_cancel_left, spelled_once rs ss hr.1 hs.1)

@@ -1,38 +1,24 @@
 -- What a step calls for of a queue.
-use Rattle.std.proofs.Common.{[], ◌++◌, ◌==◌, ◌∙◌, ◌∷◌, ◌≡◌, ap, arith, Bool, cond, eqb-true, false, filter, flat_map}
-use Rattle.std.proofs.Common.{is_some, IsSome, length, List, map, None, not, Ok, Option, option_map, refl, Result}
-use Rattle.std.proofs.{Common.{subst, sym, true, true≢false, ℕ}, lemmas.List.Filters.length-filter_both}
+use Rattle.std.proofs.Common.{[], ◌++◌, ◌∙◌, ◌∷◌, ◌≡◌, ap, arith, Bool, eqb-true, filter, flat_map, is_some, IsSome}
+use Rattle.std.proofs.Common.{length, List, map, None, not, Ok, option_map, refl, Result, subst, sym, true≢false, ℕ}
+use Rattle.std.proofs.lemmas.{Bool.Decides.nat_tests, List.Filters.length-filter_both}
 use Rattle.krs_types.specs.declared.{ask.{Answer.Answer, Op.Op}, errno.Errno.Errno, note.Record.Record}
-use Rattle.krs_model.specs.{Asks.Leaving.left, Notes.Posting.{after_notes, dropped_watches, Note, note_for, passes_at}}
-use Rattle.krs_model.specs.Notes.Posting.{Post, post_all, posts_of, records_for, removal_for, watches_at}
-use Rattle.krs_model.specs.Notes.Telling.{ended_by, notes_of}
-use Rattle.krs_model.specs.{Orderly.{AreOrderly, Each, IsWatch}, Queues.{Queues, queues_of, Watch}, Sound.IsSound}
-use Rattle.krs_model.specs.{State.{Key, Queue, State}, Step.{outcome_of, posts_by, Serves, watches_left}}
-use Rattle.krs_model.specs.{Sweep.{IsSweep, IsSwept}, Table.{at, Table}}
+use Rattle.krs_model.specs.{Asks.Leaving.left, Notes.Posting.{after_notes, dropped_watches, Note, note_for}}
+use Rattle.krs_model.specs.Notes.Posting.{passes_at, Post, post_all, posts_of, records_for, removal_for, watches_at}
+use Rattle.krs_model.specs.{Notes.Telling.{ended_by, notes_of}, Orderly.{AreOrderly, Each, IsWatch}, Queues.Queues}
+use Rattle.krs_model.specs.{Queues.{queues_of, Watch}, Sound.IsSound, State.{Key, Queue, State}, Step.outcome_of}
+use Rattle.krs_model.specs.{Step.{posts_by, Serves, watches_left}, Sweep.{IsSweep, IsSwept}, Table.{at, Table}}
 use Rattle.krs_model.proofs.Asks.Effects.{Closes, Effect, effect_of, Filters, Leaves, OfKeys, Opens, Reads, Unwatches}
-use Rattle.krs_model.proofs.{Asks.Effects.Watches, Notes.Fitting.{each_filter, each_on}}
-use Rattle.krs_model.proofs.{Notes.Posts.{at_post_all, records_for-append}, Sound.Queues.ended_watch}
-use Rattle.krs_model.proofs.{Sound.Watches.{each_with, each_without}, Sweep.Laws.{one_sweep, swept_sweep}}
+use Rattle.krs_model.proofs.{Asks.Effects.Watches, Notes.{Fitting.{each_filter, each_on}, Posts.at_post_all}}
+use Rattle.krs_model.proofs.{Notes.Posts.records_for-append, Sound.{Queues.ended_watch, Watches.each_with}}
+use Rattle.krs_model.proofs.{Sound.Watches.each_without, Sweep.Laws.{one_sweep, swept_sweep}}
 
 -- nothing is posted to a queue that is not there
 none_of_note :
     (queues : Table Queue) (q : ℕ) (ps : List Post) → at queues q ≡ None
     → records_for q (filter (λ p. passes_at (at queues p.0) p.1) ps) ≡ []
 none_of_note queues q [] none = refl
-none_of_note queues q (p ∷ ps) none =
-    let more = none_of_note queues q ps none in
-    let rest = filter (λ d. passes_at (at queues d.0) d.1) ps in
-    elim (p.0 == q) as (λ b. (p.0 == q) ≡ b
-    → records_for q (cond (passes_at (at queues p.0) p.1) (p ∷ rest) rest) ≡ []) [
-      | true ↦ λ t.
-          let here : at queues p.0 ≡ None = ap (λ (n : ℕ). at queues n) (eqb-true p.0 q t) ∙ none in
-          ap (λ (o : Option Queue). records_for q (cond (passes_at o p.1) (p ∷ rest) rest)) here ∙ more
-      | false ↦ λ t.
-          elim (passes_at (at queues p.0) p.1) as (λ b. records_for q (cond b (p ∷ rest) rest) ≡ []) [
-            | true ↦ rw t more
-            | false ↦ more
-          ]
-    ] refl
+none_of_note queues q (p ∷ ps) none = grind (arith, nat_tests, eqb-true, none_of_note queues q ps none)
 
 none_of_notes :
     (s : Queues) (q : ℕ) (notes : List Note) → at s.queues q ≡ None
@@ -53,14 +39,7 @@ none_of_ended :
     → records_for q (map removal_for ws) ≡ []
 none_of_ended queues q [] h none = refl
 none_of_ended queues q (w ∷ ws) h none =
-    let more = none_of_ended queues q ws h.1 none in
-    elim (w.0.1 == q) as (λ b. (w.0.1 == q) ≡ b
-    → map (λ d. d.1) (cond b (removal_for w ∷ filter (λ d. d.0 == q) (map removal_for ws))
-    (filter (λ d. d.0 == q) (map removal_for ws))) ≡ []) [
-      | true ↦ λ t. absurd (true≢false (sym (sym (ap is_some
-          (ap (λ (n : ℕ). at queues n) (eqb-true w.0.1 q t) ∙ none)) ∙ h.0)))
-      | false ↦ λ t. more
-    ] refl
+    grind (arith, nat_tests, true≢false, eqb-true, none_of_ended queues q ws h.1 none)
 
 known_append :
     (queues : Table Queue) (vs ws : List Watch) → Each (IsKnown queues) vs → Each (IsKnown queues) ws
@@ -116,21 +95,13 @@ none_called s mid client context op answer keys q sound meant none =
     (left_known s client context op mid answer effect sound.orderly) in
     let dropped_known : Each (IsKnown s.queues) dropped = subst (Each (IsKnown s.queues))
     (sym (dropped_is (outcome_of s client context op) mid answer keys meant)) left in
-    records_for-append q (flat_map (posts_of (queues_of s)) notes) (map removal_for (ended ++ dropped))
-    ∙ (ap (λ (rs : List Record). rs ++ records_for q (map removal_for (ended ++ dropped)))
-    (none_of_notes (queues_of s) q notes none)
-    ∙ none_of_ended s.queues q (ended ++ dropped) (known_append s.queues ended dropped ended_known dropped_known) none)
+    search (records_for-append, none_of_notes, none_of_ended, known_append) depth 8
 
 -- what a queue is after a step, by what it was before the sweep
 served_queues :
     {s new : State} {client context : ℕ} {op : Op} {answer : Answer} (serves : Serves s client context op answer new)
     → new.queues ≡ post_all (posts_by s client context op answer new.keys) serves.mid.queues
-served_queues {s} {new} {client} {context} {op} {answer} serves =
-    let swept = serves.swept in
-    let keys : swept.keys ≡ new.keys = sym (ap (λ (t : State). t.keys) serves.posted) in
-    ap (λ (t : State). t.queues) serves.posted
-    ∙ (ap (post_all (posts_by s client context op answer swept.keys)) (ap (λ (t : State). t.queues) serves.sweep.rest)
-    ∙ ap (λ (ks : Table Key). post_all (posts_by s client context op answer ks) serves.mid.queues) keys)
+served_queues {s} {new} {client} {context} {op} {answer} serves = grind (arith, nat_tests)
 
 pub served_at :
     {s new : State} {client context : ℕ} {op : Op} {answer : Answer} (serves : Serves s client context op answer new)
@@ -163,8 +134,7 @@ pub swept_drops_none :
     (mid swept : State) → IsSwept mid → IsSweep mid swept → dropped_watches swept.keys mid.watches ≡ []
 swept_drops_none mid swept is sweep =
     let same : swept ≡ mid = one_sweep mid swept mid sweep (swept_sweep mid is) in
-    ap (λ (t : State). dropped_watches t.keys mid.watches) same
-    ∙ dropped_none (λ w. is_some (at mid.keys w.0.0)) mid.watches is.watches
+    rw (same, dropped_none (λ w. is_some (at mid.keys w.0.0)) mid.watches is.watches)
 
 -- what an accepted ask posts that has no notes, ends no watch and leaves a swept state
 pub posts_none :
@@ -172,13 +142,7 @@ pub posts_none :
     → notes_of s client context op answer ≡ [] → ended_by s client context op ≡ [] → IsSwept serves.mid
     → posts_by s client context op answer new.keys ≡ []
 posts_none {s} {new} {client} {context} {op} {answer} serves no_notes none_ended is =
-    let meant = outcome_of s client context op in
-    let keys : new.keys ≡ serves.swept.keys = ap (λ (t : State). t.keys) serves.posted in
-    let dropped : dropped_watches new.keys (watches_left meant) ≡ [] =
-    dropped_is meant serves.mid answer new.keys serves.meant
-    ∙ (ap (λ (ks : Table Key). dropped_watches ks serves.mid.watches) keys
-    ∙ swept_drops_none serves.mid serves.swept is serves.sweep) in
-    rw (no_notes, none_ended, dropped) refl
+    grind (arith, nat_tests, dropped_is, swept_drops_none)
 
 -- of a queue that the sweep leaves none, where the ask has no notes and ends no watch
 pub gone_called :
@@ -190,7 +154,6 @@ gone_called {s} {new} {client} {context} {op} {answer} serves q no_notes none_en
     let mid = serves.mid in
     let meant = outcome_of s client context op in
     let dropped = dropped_watches new.keys mid.watches in
-    let known : Each (IsKnown mid.queues) dropped =
-    each_filter (IsKnown mid.queues) _ mid.watches (known_watches (queues_of mid) orderly) in
+    let known : Each (IsKnown mid.queues) dropped = search (each_filter, known_watches) depth 8 in
     rw (no_notes, none_ended) (ap (λ (ws : List Watch). records_for q (map removal_for ws))
     (dropped_is meant mid answer new.keys serves.meant) ∙ none_of_ended mid.queues q dropped known none)

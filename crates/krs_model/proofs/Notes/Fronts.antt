@@ -1,14 +1,13 @@
 -- READ_QUEUE takes the longest front that fits its room.
-use Rattle.std.proofs.Common.{[], ⊎_elim, ◌++◌, ◌+◌, ◌-◌, ◌∙◌, ◌∷◌, ◌≡◌, ◌≢◌, ◌≤◌, ap, arith, cond, Err, false, leb}
-use Rattle.std.proofs.Common.{leb-false, leb-true, length, length-append, List, nat_le, Ok, option_map, refl, Some, sym}
-use Rattle.std.proofs.Common.{true, ℕ}
-use Rattle.krs_types.specs.declared.ask.Answer.{Answer, TheVariants.Bytes}
-use Rattle.krs_types.specs.declared.{errno.Errno.TheVariants.ENOBUFS, note.Record.Record}
-use Rattle.krs_model.specs.{Asks.Watching.{after_read, read_out, read_queue}, Laws.ReadsFront}
-use Rattle.krs_model.specs.Notes.{Bytes.{bytes_of, bytes_of_all}, Front.{behind, front, IsLongestFront, readable}}
+use Rattle.std.proofs.Common.{[], ◌++◌, ◌+◌, ◌-◌, ◌∙◌, ◌∷◌, ◌≡◌, ◌≢◌, ◌≤◌, ap, arith, cond, false, leb, leb-false}
+use Rattle.std.proofs.Common.{leb-true, length, length-append, List, Ok, option_map, refl, Some, sym, true, ℕ}
+use Rattle.std.proofs.lemmas.Bool.Decides.{nat_tests}
+use Rattle.krs_types.specs.declared.{ask.Answer.{Answer, TheVariants.Bytes}, note.Record.Record}
+use Rattle.krs_model.specs.{Asks.Watching.{after_read, read_out, read_queue}, Laws.ReadsFront, Notes.Bytes.bytes_of}
+use Rattle.krs_model.specs.Notes.{Bytes.bytes_of_all, Front.{behind, front, IsLongestFront, readable}}
 use Rattle.krs_model.specs.{Queues.{queue_of, Queues, queues_of, with_queues}, State.State, Table.{alter, at}}
-use Rattle.krs_model.proofs.Asks.Effects.{queue_there, readable_is}
-use Rattle.krs_model.proofs.{Asks.Later.{bind_ok, same_ok}, Tables.Changes.{at_alter_other, at_alter_same, at_or_apart}}
+use Rattle.krs_model.proofs.Asks.{Effects.{queue_there, readable_is}, Later.{bind_ok, same_ok}}
+use Rattle.krs_model.proofs.Tables.Changes.{at_alter_other, at_alter_same, at_or_apart}
 
 -- a front fits its room
 pub front_size : (room : ℕ) (rs : List Record) → length (bytes_of_all (front room rs)) ≤ room
@@ -64,13 +63,7 @@ not_empty note notes = λ e. absurd cc
 -- what is read is some record
 some_read : (room : ℕ) (waiting notes : List Record) → readable room waiting ≡ Ok notes → front room waiting ≢ []
 some_read room [] notes h = cc
-some_read room (note ∷ waiting) notes h =
-    let left = front (room - length (bytes_of note)) waiting in
-    elim (nat_le (length (bytes_of note)) room) as
-    (λ b. cond b (Ok (cond b (note ∷ left) [])) (Err ENOBUFS) ≡ Ok notes → cond b (note ∷ left) [] ≢ []) [
-      | true ↦ λ is. not_empty note left
-      | false ↦ λ no. cc
-    ] h
+some_read room (note ∷ waiting) notes h = grind (arith, nat_tests, not_empty)
 
 pub read_front :
     (s new : State) (client number room : ℕ) (answer : Answer) → read_queue s client number room ≡ Ok (new, answer)
@@ -102,9 +95,6 @@ read_front s new client number room answer h =
       some = some_read room b.0.waiting c.0 c.1;
       gave = sym (ap (λ (x : State × Answer). x.1) both);
       leaves = ap (λ (t : State). at t.queues number) (sym state) ∙ here;
-      others = λ n other.
-          ap (λ (t : State). at t.queues n) (sym state)
-          ∙ ⊎_elim (λ (same : n ≡ number). absurd (other same))
-          (λ apart. at_alter_other s.queues number n (after_read room) apart) (at_or_apart n number);
+      others = grind (arith, nat_tests, at_alter_other, at_or_apart);
       rest = sym state ∙ ap (λ (t : State). record s { queues = t.queues }) state;
     }

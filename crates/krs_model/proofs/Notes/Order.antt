@@ -1,14 +1,15 @@
 -- Records go out by rising queue, and the removal records of an ask by rising key, then queue.
-use Rattle.std.proofs.Common.{[], ⊎_elim, ◌++◌, ◌<◌, ◌==◌, ◌∙◌, ◌∷◌, ◌≡◌, ap, Bool, cond, eqb-true, false, filter, List}
-use Rattle.std.proofs.Common.{map, nat_cmp, refl, subst, sym, true, ℕ}
-use Rattle.std.specs.{Cmp.{nat_cmp_is, ranked}, Ordering.ordering_then, declared.cmp.Ordering.TheVariants.{Equal, Less}}
+use Rattle.std.proofs.Common.{[], ◌++◌, ◌<◌, ◌==◌, ◌∙◌, ◌∷◌, ◌≡◌, ap, arith, Bool, cond, eqb-true, false, filter}
+use Rattle.std.proofs.{Common.{List, map, nat_cmp, refl, subst, sym, true, ℕ}, lemmas.Bool.Decides.nat_tests}
+use Rattle.std.specs.{Cmp.{nat_cmp_is, ranked}, declared.cmp.Ordering.TheVariants.{Equal, Less}}
+use Rattle.std.specs.Ordering.{ordering_then}
 use Rattle.krs_types.specs.declared.ask.{Answer.Answer, Op.Op}
-use Rattle.krs_model.specs.Notes.Posting.{dropped_watches, Note, note_for, passes_at, Post, posts_of, watches_at}
-use Rattle.krs_model.specs.Notes.Telling.{ended_by}
-use Rattle.krs_model.specs.{Ordering.{AreAbove, GoByQueue}, Orderly.{AreOrderly, AreRising, Each}}
-use Rattle.krs_model.specs.{Queues.{place_cmp, Queues, Watch}, Sound.IsSound, State.State, Sweep.IsSweep, Table.at}
+use Rattle.krs_model.specs.Notes.Posting.{dropped_watches, Note, note_for, Post, posts_of, watches_at}
+use Rattle.krs_model.specs.{Notes.Telling.ended_by, Ordering.{AreAbove, GoByQueue}, Orderly.{AreOrderly, AreRising}}
+use Rattle.krs_model.specs.{Orderly.Each, Queues.{place_cmp, Queues, Watch}, Sound.IsSound, State.State}
+use Rattle.krs_model.specs.Sweep.{IsSweep}
 use Rattle.krs_model.proofs.{Asks.Effects.Effect, Notes.Called.swept_drops_none, Sound.Queues.effect_orderly}
-use Rattle.krs_model.proofs.{Sound.Watches.filter_rising, Sweep.QueueAsks.{effect_ends, EndsOne}}
+use Rattle.krs_model.proofs.{Sound.Watches.filter_rising, Sweep.QueueAsks.effect_ends}
 
 -- posts of watches of a key behind one of that key
 abbrev IsOf : ℕ → ℕ → Watch → Type 0
@@ -27,13 +28,7 @@ above_watch :
     (note : Note) (number : ℕ) (ws : List Watch) → Each (IsOf note.key number) ws
     → AreAbove number (map (note_for note) (watches_at note.key ws))
 above_watch note number [] h = tt
-above_watch note number (w ∷ ws) h =
-    let more = above_watch note number ws h.1 in
-    elim (w.0.0 == note.key) as (λ b. (w.0.0 == note.key) ≡ b
-    → AreAbove number (map (note_for note) (cond b (w ∷ watches_at note.key ws) (watches_at note.key ws)))) [
-      | true ↦ λ t. (second_of note.key w.0.0 number w.0.1 (sym (eqb-true w.0.0 note.key t)) h.0, more)
-      | false ↦ λ t. more
-    ] refl
+above_watch note number (w ∷ ws) h = grind (arith, nat_tests, second_of, eqb-true, above_watch note number ws h.1)
 
 told_by_queue :
     (note : Note) (ws : List Watch) → AreRising ws → GoByQueue (map (note_for note) (watches_at note.key ws))
@@ -51,25 +46,15 @@ told_by_queue note (w ∷ ws) h =
 
 above_filter : (number : ℕ) (p : Post → Bool) (ps : List Post) → AreAbove number ps → AreAbove number (filter p ps)
 above_filter number p [] h = tt
-above_filter number p (x ∷ ps) h =
-    elim (p x) as (λ b. AreAbove number (cond b (x ∷ filter p ps) (filter p ps))) [
-      | true ↦ (h.0, above_filter number p ps h.1)
-      | false ↦ above_filter number p ps h.1
-    ]
+above_filter number p (x ∷ ps) h = grind (arith, nat_tests, above_filter number p ps h.1)
 
 filter_by_queue : (p : Post → Bool) (ps : List Post) → GoByQueue ps → GoByQueue (filter p ps)
 filter_by_queue p [] h = tt
-filter_by_queue p (x ∷ ps) h =
-    elim (p x) as (λ b. GoByQueue (cond b (x ∷ filter p ps) (filter p ps))) [
-      | true ↦ (above_filter x.0 p ps h.0, filter_by_queue p ps h.1)
-      | false ↦ filter_by_queue p ps h.1
-    ]
+filter_by_queue p (x ∷ ps) h = grind (arith, nat_tests, above_filter, filter_by_queue p ps h.1)
 
 -- one note goes to its queues by rising number
 pub notes_by_queue : (q : Queues) (note : Note) → AreOrderly q → GoByQueue (posts_of q note)
-notes_by_queue q note orderly =
-    filter_by_queue (λ p. passes_at (at q.queues p.0) p.1) (map (note_for note) (watches_at note.key q.watches))
-    (told_by_queue note q.watches orderly.rising)
+notes_by_queue q note orderly = search (filter_by_queue, told_by_queue) depth 8
 
 -- the removal records of an accepted ask go out by rising key, then queue
 pub ended_rising :
@@ -77,9 +62,4 @@ pub ended_rising :
     → Effect s client context op mid answer → IsSweep mid swept
     → AreRising (ended_by s client context op ++ dropped_watches swept.keys mid.watches)
 ended_rising s client context op mid answer swept sound effect sweep =
-    let orderly = effect_orderly s client context op mid answer effect sound.few sound.orderly in
-    let dropped = dropped_watches swept.keys mid.watches in
-    let rising : AreRising dropped = filter_rising _ mid.watches orderly.rising in
-    ⊎_elim (λ (none : ended_by s client context op ≡ []). rw none rising)
-    (λ (one : EndsOne s client context op mid). rw (one.is, swept_drops_none mid swept one.swept sweep) (tt, tt))
-    (effect_ends s client context op mid answer sound effect)
+    grind (arith, nat_tests, effect_orderly, filter_rising, swept_drops_none, effect_ends)

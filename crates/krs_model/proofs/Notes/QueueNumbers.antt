@@ -1,16 +1,16 @@
 -- Queues that are opened: a number is given once.
-use Rattle.std.proofs.Common.{⊎_elim, ◌<◌, ◌∙◌, ◌≡◌, ◌≤◌, ap, arith, Err, List, None, Ok, option_map, refl, Result}
-use Rattle.std.proofs.Common.{Some, subst, sym, true≢false, ℕ}
+use Rattle.std.proofs.Common.{◌<◌, ◌∙◌, ◌≡◌, ◌≤◌, ap, arith, Err, List, None, Ok, option_map, refl, Result, Some, sym}
+use Rattle.std.proofs.{Common.{true≢false, ℕ}, lemmas.Bool.Decides.nat_tests}
 use Rattle.krs_types.specs.declared.ask.{Answer.{Answer, TheVariants.Number}, Op.{Op, TheVariants.OpenQueue}}
 use Rattle.krs_types.specs.declared.{errno.Errno.Errno, event.Event.Event, note.Record.Record}
 use Rattle.krs_model.specs.Asks.{Leaving.left, Watching.{after_read, new_queue, with_filter}}
-use Rattle.krs_model.specs.{Notes.Posting.{after_notes, records_for}, Queues.Queues, Receiving.IsOpening, Sound.IsSound}
-use Rattle.krs_model.specs.{State.{raised, State}, Step.{Ends, posts_by, Step}, Table.{at, put}}
+use Rattle.krs_model.specs.{Notes.Posting.{after_notes, records_for}, Queues.Queues, Receiving.IsOpening}
+use Rattle.krs_model.specs.{Sound.IsSound, State.{raised, State}, Step.{Ends, posts_by, Step}, Table.at}
 use Rattle.krs_model.proofs.Asks.Effects.{Closes, Effect, effect_of, Filters, is_of_queues, Leaves, OfKeys, Opens}
-use Rattle.krs_model.proofs.Asks.{Effects.{Reads, Unwatches, Watches}, Later.same_ok}
-use Rattle.krs_model.proofs.Notes.{Called.{none_called, served_at, served_next}, Taken.{number_given, queue_capacity}}
-use Rattle.krs_model.proofs.{Sound.Steps.raised_sound, Tables.Changes.at_alter_none}
-use Rattle.krs_model.proofs.Tables.Changes.{at_filter_none, at_or_apart, at_put_other, at_put_same, at_without_none}
+use Rattle.krs_model.proofs.{Asks.{Effects.{Reads, Unwatches, Watches}, Later.same_ok}, Notes.Called.none_called}
+use Rattle.krs_model.proofs.{Notes.Called.{served_at, served_next}, Sound.Steps.raised_sound}
+use Rattle.krs_model.proofs.Tables.Changes.{at_alter_none, at_filter_none, at_or_apart, at_put_other, at_put_same}
+use Rattle.krs_model.proofs.Tables.Changes.{at_without_none}
 
 -- a number that was given is not given again
 effect_gone :
@@ -20,9 +20,7 @@ unfolding left
 effect_gone s client context _ _ _ q lt none (OfKeys op mid answer other comes stays) =
     ap (λ (x : Queues). at x.queues q) comes.queues ∙ none
 effect_gone s client context _ _ _ q lt none (Opens capacity fits) =
-    ⊎_elim (λ (e : q ≡ s.next_queue). absurd (omega arith))
-    (λ apart. at_put_other s.queues s.next_queue q (new_queue client capacity) apart ∙ none)
-    (at_or_apart q s.next_queue)
+    grind (arith, nat_tests, at_put_other, at_or_apart)
 effect_gone s client context _ _ _ q lt none (Filters number entries queue there) =
     at_alter_none s.queues number q (with_filter entries) none
 effect_gone s client context _ _ _ q lt none (Reads number room queue there) =
@@ -54,9 +52,7 @@ effect_next :
     (s : State) (client context : ℕ) (op : Op) (mid : State) (answer : Answer) → Effect s client context op mid answer
     → s.next_queue ≤ mid.next_queue
 unfolding left
-effect_next s client context _ _ _ (OfKeys op mid answer other comes stays) =
-    let same : mid.next_queue ≡ s.next_queue = ap (λ (x : Queues). x.next_queue) comes.queues in
-    omega arith
+effect_next s client context _ _ _ (OfKeys op mid answer other comes stays) = grind (arith, nat_tests)
 effect_next s client context _ _ _ (Opens capacity fits) = omega arith
 effect_next s client context _ _ _ (Filters number entries queue there) = omega arith
 effect_next s client context _ _ _ (Reads number room queue there) = omega arith
@@ -70,13 +66,10 @@ ends_next :
     → s.next_queue ≤ new.next_queue
 ends_next s new client context op (Ok answer) serves =
     let mid = serves.mid in
-    let more : s.next_queue ≤ mid.next_queue = effect_next s client context op mid answer
-    (effect_of s client context op mid answer serves.meant) in
+    let more : s.next_queue ≤ mid.next_queue = search (effect_next, effect_of) depth 8 in
     let same : new.next_queue ≡ mid.next_queue = served_next serves in
     omega arith
-ends_next s new client context op (Err e) ends =
-    let same : new.next_queue ≡ s.next_queue = ap (λ (t : State). t.next_queue) ends.1 in
-    omega arith
+ends_next s new client context op (Err e) ends = grind (arith, nat_tests)
 
 pub step_next :
     (old new : State) (event : Event) → Step old event new → old.next_queue ≤ new.next_queue
@@ -95,18 +88,7 @@ opened_by :
     → Opened s mid client q capacity
 opened_by s client context _ _ _ q capacity asked gave (OfKeys op mid answer other comes stays) =
     absurd (true≢false (sym (ap is_of_queues asked) ∙ other))
-opened_by s client context _ _ _ q capacity asked gave (Opens other fits) =
-    let size : other ≡ capacity = ap queue_capacity asked in
-    let number : s.next_queue ≡ q = ap number_given gave in
-    let n = s.next_queue in
-    let here : at (put s.queues n (new_queue client other)) n ≡ Some (new_queue client other) =
-    at_put_same s.queues n (new_queue client other) in
-    record {
-      number = sym number;
-      there = subst
-          (λ (k : ℕ). at (put s.queues n (new_queue client other)) k ≡ Some (new_queue client capacity)) number
-          (here ∙ ap (λ (c : ℕ). Some (new_queue client c)) size);
-    }
+opened_by s client context _ _ _ q capacity asked gave (Opens other fits) = grind (arith, nat_tests, at_put_same)
 opened_by s client context _ _ _ q capacity asked gave (Filters number entries queue there) = absurd cc
 opened_by s client context _ _ _ q capacity asked gave (Reads number other queue there) = absurd cc
 opened_by s client context _ _ _ q capacity asked gave (Closes number queue there) = absurd cc

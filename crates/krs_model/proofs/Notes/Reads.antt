@@ -2,8 +2,8 @@
 use Rattle.std.proofs.Common.{[], ⊎_elim, ◌∙◌, ◌≡◌, ap, Err, List, Ok, refl, Result, sym, true≢false, ℕ}
 use Rattle.krs_types.specs.declared.ask.{Answer.{Answer, TheVariants.Bytes}, Op.{Op, TheVariants.ReadQueue}}
 use Rattle.krs_types.specs.declared.{errno.Errno.Errno, event.Event.Event, note.Record.Record}
-use Rattle.krs_model.specs.Notes.{Bytes.{AllFit, bytes_of_all}, Front.front}
-use Rattle.krs_model.specs.{Receiving.{IsRead, Takes}, Sound.IsSound, State.{raised, State}, Step.{Ends, Step}}
+use Rattle.krs_model.specs.{Notes.{Bytes.{AllFit, bytes_of_all}, Front.front}, Receiving.{IsRead, Takes}}
+use Rattle.krs_model.specs.{Sound.IsSound, State.{raised, State}, Step.{Ends, Step}}
 use Rattle.krs_model.proofs.Asks.Effects.{Closes, Effect, effect_of, Filters, is_of_queues, Leaves, OfKeys, Opens}
 use Rattle.krs_model.proofs.{Asks.{Effects.{Reads, Unwatches, Watches}, Later.same_ok}, Notes.Bytes.spelled_once}
 use Rattle.krs_model.proofs.Notes.{Fitting.front_fit, Taken.{bytes_given, no_other, not_both, queue_read}}
@@ -54,10 +54,7 @@ answer_read q event answer reply (NotReading never) =
 ends_read :
     (s new : State) (event : Event) (reply : Result Answer Errno) (q : ℕ) → event.reply ≡ reply → IsSound s
     → Ends s event.lane event.ask.context event.ask.op reply new → Read q event
-ends_read s new event (Ok answer) q is sound serves =
-    let effect = effect_of s event.lane event.ask.context event.ask.op serves.mid answer serves.meant in
-    answer_read q event answer is
-    (effect_reading s event.lane event.ask.context event.ask.op serves.mid answer q sound effect)
+ends_read s new event (Ok answer) q is sound serves = search (effect_of, answer_read, effect_reading) depth 8
 ends_read s new event (Err e) q is sound ends =
     IsNone (λ bytes read. not_both event.reply (Bytes bytes) e read.gave is)
 

@@ -1,6 +1,7 @@
 -- What was taken and what waits are the stream.
 use Rattle.std.proofs.Common.{[], ◌++◌, ◌+◌, ◌-◌, ◌∙◌, ◌∷◌, ◌≡◌, ◌≤◌, ap, append-nil, append_assoc, arith, Bool, cond}
 use Rattle.std.proofs.Common.{false, List, ltb, ltb-false, not, refl, subst, sym, true, ℕ}
+use Rattle.std.proofs.lemmas.Bool.Decides.{nat_tests}
 use Rattle.krs_types.specs.declared.note.Record.{Record, TheVariants.Loss}
 use Rattle.krs_model.specs.Notes.{Bytes.is_loss, Stream.{begins_with_drop, calls, kept_and_losses, loss_if, Move}}
 use Rattle.krs_model.specs.Notes.Stream.{Posted, room_of, stream, taken, Took, Verdict, verdicts}
@@ -33,26 +34,13 @@ pub with_loss-is : (waiting : List Record) → with_loss waiting ≡ marked_list
 with_loss-is waiting = ap (λ b. marked_list b waiting) (ends_with_loss-is waiting)
 
 with_loss-append : (waiting : List Record) → with_loss waiting ≡ waiting ++ loss_if (not (ends_lost false waiting))
-with_loss-append waiting = with_loss-is waiting
-    ∙ elim (ends_lost false waiting) as (λ b. marked_list b waiting ≡ waiting ++ loss_if (not b)) [
-      | true ↦ sym (append-nil waiting)
-      | false ↦ refl
-    ]
+with_loss-append waiting = grind (arith, nat_tests, with_loss-is, append-nil)
 
-total_room-with_loss : (waiting : List Record) → total_room (with_loss waiting) ≡ total_room waiting
-total_room-with_loss waiting = ap total_room (with_loss-is waiting)
-    ∙ elim (ends_lost false waiting) as (λ b. total_room (marked_list b waiting) ≡ total_room waiting) [
-      | true ↦ refl
-      | false ↦ omega (arith, total_room-append waiting (Loss ∷ []))
-    ]
+pub total_room-with_loss : (waiting : List Record) → total_room (with_loss waiting) ≡ total_room waiting
+total_room-with_loss waiting = grind (arith, nat_tests, with_loss-is, total_room-append)
 
 ends_lost-with_loss : (waiting : List Record) → ends_lost false (with_loss waiting) ≡ true
-ends_lost-with_loss waiting = ap (ends_lost false) (with_loss-is waiting)
-    ∙ elim (ends_lost false waiting) as (λ b. ends_lost false waiting ≡ b →
-    ends_lost false (marked_list b waiting) ≡ true) [
-      | true ↦ λ t. t
-      | false ↦ λ t. ends_lost-append false waiting (Loss ∷ [])
-    ] refl
+ends_lost-with_loss waiting = grind (arith, nat_tests, with_loss-is, ends_lost-append)
 
 -- the loss that the next call wants behind a waiting list
 abbrev bridge : List Record → List Verdict → List Record
@@ -62,12 +50,7 @@ bridge waiting next = loss_if (cond (begins_with_drop next) (not (ends_lost fals
 full : (capacity kept before : ℕ) (moves : List Move) → 1 ≤ capacity →
     begins_with_drop (verdicts capacity kept (calls before moves)) ≡ true → before + capacity ≤ kept
 full capacity kept before [] one h = absurd cc
-full capacity kept before (Posted r ∷ moves) one h =
-    elim (ltb (kept - before) capacity) as (λ b. ltb (kept - before) capacity ≡ b → not b ≡ true →
-    before + capacity ≤ kept) [
-      | true ↦ λ t n. absurd cc
-      | false ↦ λ t n. omega (arith, ltb-false _ _ t)
-    ] refl h
+full capacity kept before (Posted r ∷ moves) one h = grind (arith, nat_tests, ltb-false)
 full capacity kept before (Took r ∷ moves) one h = let i = full capacity kept (before + room_of r) moves one h in
     omega arith
 
@@ -77,25 +60,14 @@ bridge-took : (capacity kept before : ℕ) (moves : List Move) (r : Record) (res
     bridge (r ∷ rest) (verdicts capacity kept (calls before moves))
     ≡ bridge rest (verdicts capacity kept (calls before moves))
 bridge-took capacity kept before moves r (s ∷ rest) one e = refl
-bridge-took capacity kept before moves r [] one e =
-    let next = verdicts capacity kept (calls before moves) in
-    elim (begins_with_drop next) as (λ b. begins_with_drop next ≡ b →
-    loss_if (cond b (not (is_loss r)) false) ≡ loss_if (cond b true false)) [
-      | true ↦ λ t. absurd (let f = full capacity kept before moves one t in omega arith)
-      | false ↦ λ t. refl
-    ] refl
+bridge-took capacity kept before moves r [] one e = grind (arith, nat_tests, full)
 
 bridge-kept : (waiting : List Record) (r : Record) (next : List Verdict) → is_loss r ≡ false →
     bridge (waiting ++ r ∷ []) next ≡ loss_if (begins_with_drop next)
-bridge-kept waiting r next h =
-    rw (ends_lost-append false waiting (r ∷ []), h)
-    (elim (begins_with_drop next) as (λ b. loss_if (cond b true false) ≡ loss_if b)
-    [ true ↦ refl | false ↦ refl ])
+bridge-kept waiting r next h = grind (arith, nat_tests, ends_lost-append)
 
 bridge-with_loss : (waiting : List Record) (next : List Verdict) → bridge (with_loss waiting) next ≡ []
-bridge-with_loss waiting next =
-    rw (ends_lost-with_loss waiting) (elim (begins_with_drop next) as
-    (λ b. loss_if (cond b false false) ≡ []) [ true ↦ refl | false ↦ refl ])
+bridge-with_loss waiting next = grind (arith, nat_tests, ends_lost-with_loss)
 
 -- from any point on, where what waits takes the room of what was kept and not taken
 from_here : (capacity : ℕ) (moves : List Move) (kept before : ℕ) (waiting after : List Record) → 1 ≤ capacity →
@@ -105,13 +77,7 @@ from_here : (capacity : ℕ) (moves : List Move) (kept before : ℕ) (waiting af
     (verdicts capacity kept (calls before moves)))
 from_here capacity [] kept before waiting after one e l = sym l ∙ sym (append-nil waiting)
 from_here capacity (Took r ∷ moves) kept before waiting after one e l =
-    let heavy : total_room waiting ≡ room_of r + total_room l.0 = ap total_room l.1 in
-    let later : kept ≡ (before + room_of r) + total_room l.0 = omega arith in
-    let vs = verdicts capacity kept (calls (before + room_of r) moves) in
-    ap (λ (xs : List Record). r ∷ xs) (from_here capacity moves kept (before + room_of r) l.0 after one later l.2)
-    ∙ (ap (λ (xs : List Record). r ∷ (l.0 ++ (xs ++ kept_and_losses vs)))
-    (sym (bridge-took capacity kept (before + room_of r) moves r l.0 one later))
-    ∙ ap (λ (xs : List Record). xs ++ (bridge xs vs ++ kept_and_losses vs)) (sym l.1))
+    grind (arith, nat_tests, bridge-took, from_here capacity moves kept)
 from_here capacity (Posted r ∷ moves) kept before waiting after one e l =
     let left : total_room waiting ≡ kept - before = omega arith in
     let next : Bool → List Verdict = λ k. verdicts capacity (kept + cond k 1 0) (calls before moves) in
@@ -143,9 +109,5 @@ pub gives_its_stream :
     → taken moves ++ after ≡ stream capacity moves
 gives_its_stream capacity moves after one l =
     let start = verdicts capacity 0 (calls 0 moves) in
-    let none : bridge [] start ≡ [] = elim (begins_with_drop start) as
-    (λ b. begins_with_drop start ≡ b → loss_if (cond b true false) ≡ []) [
-      | true ↦ λ t. absurd (let f = full capacity 0 0 moves one t in omega arith)
-      | false ↦ λ t. refl
-    ] refl in
+    let none : bridge [] start ≡ [] = grind (arith, nat_tests, full) in
     from_here capacity moves 0 0 [] after one refl l ∙ ap (λ (xs : List Record). xs ++ kept_and_losses start) none

@@ -1,25 +1,24 @@
 -- What a step takes from a queue, and what it makes of it.
 use Rattle.std.proofs.Common.{[], ⊎_elim, ◌++◌, ◌-◌, ◌∙◌, ◌∷◌, ◌≡◌, ◌⊎◌, ap, append-nil, arith, cond, Err, false, inl}
-use Rattle.std.proofs.Common.{inr, length, List, map, nat_cmp, nat_le, None, Ok, option_map, refl, Result, Some, subst}
-use Rattle.std.proofs.Common.{sym, true, true≢false, ℕ}
+use Rattle.std.proofs.Common.{inr, length, List, map, nat_cmp, nat_le, None, Ok, option_map, refl, Result, Some}
+use Rattle.std.proofs.{Common.{subst, sym, true, true≢false, ℕ}, lemmas.{Bool.Decides.nat_tests, Option.none-some}}
+use Rattle.std.proofs.lemmas.Option.{same_Some}
 use Rattle.std.specs.BTreeMap.{is_at}
-use Rattle.std.proofs.lemmas.Option.{none-some, same_Some}
-use Rattle.krs_types.specs.declared.ask.Answer.{Answer, TheVariants.{Bytes, Number}}
-use Rattle.krs_types.specs.declared.ask.Op.{Op, TheVariants.{OpenQueue, ReadQueue}}
+use Rattle.krs_types.specs.declared.ask.{Answer.{Answer, TheVariants.Bytes}, Op.{Op, TheVariants.ReadQueue}}
 use Rattle.krs_types.specs.declared.{errno.Errno.Errno, event.Event.Event, note.Record.Record}
-use Rattle.krs_model.specs.Asks.{Leaving.left, Watching.{after_read, new_queue, with_filter}}
-use Rattle.krs_model.specs.Notes.{Bytes.{AllFit, bytes_of, bytes_of_all}, Front.{behind, front}}
-use Rattle.krs_model.specs.Notes.{Posting.{after_note, after_notes, records_for}, Stream.{Move, Posted, Took}}
-use Rattle.krs_model.specs.{Notes.{Telling.{ended_by, notes_of}, Waiting.MovesTo}, Queues.{Queues, queues_without}}
-use Rattle.krs_model.specs.{Receiving.{called, called_for, Takes}, Sound.IsSound, State.{Queue, raised, State}}
-use Rattle.krs_model.specs.{Step.{Ends, posts_by, Serves, Step}, Sweep.IsSwept, Table.{alter, at, put, without}}
+use Rattle.krs_model.specs.{Asks.{Leaving.left, Watching.after_read}, Notes.Bytes.{AllFit, bytes_of, bytes_of_all}}
+use Rattle.krs_model.specs.Notes.{Front.{behind, front}, Posting.{after_note, after_notes, records_for}, Stream.Move}
+use Rattle.krs_model.specs.Notes.{Stream.{Posted, Took}, Telling.{ended_by, notes_of}, Waiting.MovesTo}
+use Rattle.krs_model.specs.{Queues.{Queues, queues_without}, Receiving.{called, called_for, Takes}, Sound.IsSound}
+use Rattle.krs_model.specs.{State.{Queue, raised, State}, Step.{Ends, posts_by, Serves, Step}, Sweep.IsSwept}
+use Rattle.krs_model.specs.Table.{alter, at, without}
 use Rattle.krs_model.proofs.Asks.Effects.{Closes, Effect, effect_of, Filters, is_of_queues, Leaves, OfKeys, Opens}
-use Rattle.krs_model.proofs.Asks.{Effects.{Reads, Unwatches, Watches}, Later.same_ok}
-use Rattle.krs_model.proofs.Notes.{Bytes.spelled_once, Called.{gone_called, none_called, posts_none, served_at}}
-use Rattle.krs_model.proofs.Notes.Fitting.{AllPost, front_fit, posts_for}
-use Rattle.krs_model.proofs.Sound.{Queues.effect_orderly, Steps.{posts_by_fit, raised_sound}}
-use Rattle.krs_model.proofs.Tables.Changes.{at_alter_other, at_alter_same, at_or_apart, at_put_other, at_without_other}
-use Rattle.krs_model.proofs.Tables.{Changes.is_at_same, Distinct.{at_filter_some, at_without_same}}
+use Rattle.krs_model.proofs.{Asks.{Effects.{Reads, Unwatches, Watches}, Later.same_ok}, Notes.Bytes.spelled_once}
+use Rattle.krs_model.proofs.Notes.{Called.{gone_called, none_called, posts_none, served_at}, Fitting.AllPost}
+use Rattle.krs_model.proofs.{Notes.Fitting.{front_fit, posts_for}, Sound.{Queues.effect_orderly, Steps.posts_by_fit}}
+use Rattle.krs_model.proofs.{Sound.Steps.raised_sound, Tables.Changes.{at_alter_other, at_alter_same, at_or_apart}}
+use Rattle.krs_model.proofs.Tables.{Changes.{at_put_other, at_without_other, is_at_same}, Distinct.at_filter_some}
+use Rattle.krs_model.proofs.Tables.Distinct.{at_without_same}
 
 -- moves one after the other
 pub moves_append :
@@ -49,20 +48,14 @@ pub record Stays (old : Queue) (all : List Move) (new : Queue) : Type 0 where
 posted_move :
     (notes : List Record) (queue : Queue) → AllPost notes → Stays queue (map Posted notes) (after_notes notes queue)
 posted_move [] queue h = record { capacity = refl; moves = refl }
-posted_move (note ∷ notes) queue h =
-    let more = posted_move notes (after_note note queue) h.1 in
-    record { capacity = more.capacity; moves = (h.0.told, more.moves) }
+posted_move (note ∷ notes) queue h = search (posted_move notes (after_note note queue) h.1) depth 8
 
 -- from a queue of the same capacity in which the same waits
 stays_from :
     (old mine new : Queue) (all : List Move) → mine.capacity ≡ old.capacity → mine.waiting ≡ old.waiting
     → Stays mine all new
     → Stays old all new
-stays_from old mine new all capacity waiting stays = record {
-  capacity = stays.capacity ∙ capacity;
-  moves = subst (λ (w : List Record). MovesTo old.capacity w all new.waiting) waiting
-      (subst (λ (n : ℕ). MovesTo n mine.waiting all new.waiting) capacity stays.moves);
-}
+stays_from old mine new all capacity waiting stays = grind (arith, nat_tests)
 
 -- what an accepted ask takes of a queue
 pub record TakesOf (q : ℕ) (op : Op) (answer : Answer) (took : List Record) : Type 0 where
@@ -93,27 +86,12 @@ still_after :
     → at mid.queues q ≡ Some mine → mine.capacity ≡ queue.capacity → mine.waiting ≡ queue.waiting → took ≡ []
     → After q queue new rs took
 still_after {q = q} {rs = rs} told queue mine took there capacity waiting none =
-    let now = after_notes rs mine in
-    let stays = stays_from queue mine now (map Posted rs) capacity waiting (posted_move rs mine told.fit) in
-    let moves : map Posted rs ≡ map Posted rs ++ map Took took = rw none (sym (append-nil (map Posted rs))) in
-    inr (
-      now,
-      told.is ∙ ap (option_map (after_notes rs)) there,
-      subst (λ (all : List Move). Stays queue all now) moves stays,
-    )
+    grind (arith, nat_tests, stays_from, posted_move, append-nil)
 
 -- which queue an ask reads
 abbrev pub queue_read : Op → ℕ
 queue_read (ReadQueue queue room) = queue
 queue_read op = 0
-
-abbrev pub queue_capacity : Op → ℕ
-queue_capacity (OpenQueue capacity) = capacity
-queue_capacity op = 0
-
-abbrev pub number_given : Answer → ℕ
-number_given (Number n) = n
-number_given answer = 0
 
 abbrev pub bytes_given : Answer → List ℕ
 bytes_given (Bytes bytes) = bytes
@@ -136,22 +114,9 @@ effect_after s new client context _ _ _ q queue rs took sound told takes there
     still_after told queue queue took same refl refl
     (takes.nothing (λ room bytes asked is. true≢false (sym (ap is_of_queues asked) ∙ other)))
 effect_after s new client context _ _ _ q queue rs took sound told takes there (Opens capacity fits) =
-    let n = s.next_queue in
-    let same : at (put s.queues n (new_queue client capacity)) q ≡ Some queue = ⊎_elim
-    (λ (e : q ≡ n). absurd (none-some queue (sym (sound.orderly.unused n (omega arith))
-    ∙ subst (λ (k : ℕ). at s.queues k ≡ Some queue) e there)))
-    (λ apart. at_put_other s.queues n q (new_queue client capacity) apart ∙ there) (at_or_apart q n) in
-    still_after told queue queue took same refl refl (takes.nothing (λ room bytes asked is. absurd cc))
+    grind (arith, nat_tests, none-some, at_put_other, at_or_apart, still_after)
 effect_after s new client context _ _ _ q queue rs took sound told takes there (Filters number entries was here) =
-    let f = with_filter entries in
-    let none : took ≡ [] = takes.nothing (λ room bytes asked is. absurd cc) in
-    ⊎_elim (λ (e : q ≡ number).
-    let same : at (alter s.queues number f) q ≡ Some (f queue) =
-    subst (λ (k : ℕ). at (alter s.queues k f) q ≡ Some (f queue)) e
-    (at_alter_same s.queues q f ∙ ap (option_map f) there) in
-    still_after told queue (f queue) took same refl refl none)
-    (λ apart. still_after told queue queue took (at_alter_other s.queues number q f apart ∙ there) refl refl none)
-    (at_or_apart q number)
+    grind (arith, nat_tests, at_alter_same, still_after, at_alter_other, at_or_apart)
 effect_after s new client context _ _ _ q queue rs took sound told takes there (Reads number room was here) =
     let f = after_read room in
     ⊎_elim (λ (e : q ≡ number).
@@ -220,8 +185,7 @@ told_of {s} {new} {client} {context} {op} {answer} serves q sound =
     let orderly = effect_orderly s client context op mid answer effect sound.few sound.orderly in
     record {
       is = served_at serves q;
-      fit = posts_for q (posts_by s client context op answer new.keys)
-          (posts_by_fit s mid client context op answer new.keys sound serves.meant);
+      fit = search (posts_for, posts_by_fit) depth 8;
       gone = λ no_notes none_ended none. gone_called serves q no_notes none_ended orderly none;
       quiet = λ no_notes none_ended is. ap (records_for q) (posts_none serves no_notes none_ended is);
     }
@@ -234,13 +198,8 @@ ends_after :
     → ((e : Errno) → reply ≡ Err e → took ≡ []) → at s.queues q ≡ Some queue
     → After q queue new (called q s client context op reply new.keys) took
 ends_after s new client context op (Ok answer) q queue took sound serves takes none there =
-    let mid = serves.mid in
-    effect_after s new client context op mid answer q queue _ took sound (told_of serves q sound) (takes answer refl)
-    there (effect_of s client context op mid answer serves.meant)
-ends_after s new client context op (Err e) q queue took sound ends takes none there =
-    let same : at new.queues q ≡ Some queue = ap (λ (t : State). at t.queues q) ends.1 ∙ there in
-    let stays : Stays queue [] queue = record { capacity = refl; moves = refl } in
-    inr (queue, same, subst (λ (rs : List Record). Stays queue (map Took rs) queue) (sym (none e refl)) stays)
+    search (effect_after, told_of, effect_of) depth 8
+ends_after s new client context op (Err e) q queue took sound ends takes none there = grind (arith, nat_tests)
 
 -- what is taken of an event's reply is that of its answer
 takes_answer :
@@ -249,8 +208,7 @@ takes_answer :
 takes_answer q event took answer takes reply = record {
   spelled = λ room bytes asked is.
       takes.spelled bytes (record { room = room; asked = asked; gave = reply ∙ ap (λ (a : Answer). Ok a) is });
-  nothing = λ no. takes.nothing (λ bytes read.
-      no read.room bytes read.asked (same_ok event.reply answer (Bytes bytes) reply read.gave));
+  nothing = grind (arith, nat_tests, same_ok);
 }
 
 pub not_both : (reply : Result Answer Errno) (answer : Answer) (e : Errno) → reply ≡ Ok answer → reply ≡ Err e → ⊥
@@ -267,10 +225,7 @@ pub step_after :
     → Takes q event took → at old.queues q ≡ Some queue → After q queue new (called_for q old event new) took
 unfolding Step
 step_after old new event q queue took sound step takes there =
-    let up = raised old event.moment in
-    ends_after up new event.lane event.ask.context event.ask.op event.reply q queue took
-    (raised_sound old event.moment sound) step (λ answer reply. takes_answer q event took answer takes reply)
-    (λ e reply. refused_takes q event took e takes reply) there
+    search (ends_after, raised_sound, takes_answer, refused_takes) depth 8
 
 -- a queue that is not there is not read
 unread :
@@ -301,8 +256,7 @@ answer_unread :
     (s new : State) (client context : ℕ) (op : Op) (reply : Result Answer Errno) (q room : ℕ) (bytes : List ℕ)
     → Ends s client context op reply new → at s.queues q ≡ None → op ≡ ReadQueue q room → reply ≡ Ok (Bytes bytes) → ⊥
 answer_unread s new client context op (Ok answer) q room bytes serves none asked gave =
-    unread s client context op serves.mid answer q room asked none
-    (effect_of s client context op serves.mid answer serves.meant)
+    search (unread, effect_of) depth 8
 answer_unread s new client context op (Err e) q room bytes ends none asked gave = absurd cc
 
 -- a queue that is not there before a step

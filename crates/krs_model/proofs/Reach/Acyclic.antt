@@ -1,6 +1,6 @@
 -- Laws of reaching: what links fewer and a link more leave acyclic, and how many levels hold all that is reached.
-use Rattle.std.proofs.Common.{[], ⊎_elim, ◌<◌, ◌==◌, ◌||◌, ◌∷◌, ◌≡◌, ◌≤◌, ◌⊎◌, ap, arith, cond, false, filter, flat_map}
-use Rattle.std.proofs.Common.{inl, inr, length, List, not, refl, subst, suc, sym, true, true≢false, zero, ℕ}
+use Rattle.std.proofs.Common.{[], ⊎_elim, ◌<◌, ◌==◌, ◌∷◌, ◌≡◌, ◌≤◌, ◌⊎◌, ap, arith, false, filter, flat_map, inl, inr}
+use Rattle.std.proofs.Common.{length, List, not, refl, subst, suc, sym, true, true≢false, zero, ℕ}
 use Rattle.std.proofs.lemmas.Bool.Decides.{nat_tests}
 use Rattle.krs_model.specs.{Levels.{is_in, level, levels}, Reach.{Directly, Further, IsAcyclic, Reaches}}
 use Rattle.krs_model.proofs.Reach.Levels.{in_flat, in_left, in_one, in_right, or_true, same_is, true_or}
@@ -83,10 +83,7 @@ acyclic_adds old new ring key adds opens acyclic = λ a p.
 
 -- two numbers are one, or not
 pub is_or_not : (a b : ℕ) → (a ≡ b) ⊎ ((a == b) ≡ false)
-is_or_not a b = elim (a == b) as (λ t. (a == b) ≡ t → (a ≡ b) ⊎ (t ≡ false)) [
-  | true ↦ λ t. inl (grind (arith, nat_tests))
-  | false ↦ λ t. inr refl
-] refl
+is_or_not a b = grind (arith, nat_tests)
 
 -- a list without a number; what is in it, and its length
 abbrev less : ℕ → List ℕ → List ℕ
@@ -94,43 +91,19 @@ less a ks = filter (λ q. not (q == a)) ks
 
 in_less : (a k : ℕ) (ks : List ℕ) → (k == a) ≡ false → is_in k ks ≡ true → is_in k (less a ks) ≡ true
 in_less a k [] apart h = h
-in_less a k (q ∷ ks) apart h =
-    elim (q == a) as (λ t. (q == a) ≡ t → is_in k (cond (not t) (q ∷ less a ks) (less a ks)) ≡ true) [
-      | true ↦ λ t. ⊎_elim (λ (e : (q == k) ≡ true). absurd (grind (arith, nat_tests)))
-          (λ (later : is_in k ks ≡ true). in_less a k ks apart later) (true_or (q == k) (is_in k ks) h)
-      | false ↦ λ t. ⊎_elim (λ (e : (q == k) ≡ true). rw e refl)
-          (λ (later : is_in k ks ≡ true). or_true (q == k) (is_in k (less a ks)) (in_less a k ks apart later))
-          (true_or (q == k) (is_in k ks) h)
-    ] refl
+in_less a k (q ∷ ks) apart h = grind (arith, nat_tests, true_or, or_true, in_less a k ks apart)
 
 less_in : (a k : ℕ) (ks : List ℕ) → is_in k (less a ks) ≡ true → (is_in k ks ≡ true) × ((k == a) ≡ false)
 less_in a k [] h = absurd (true≢false (sym h))
-less_in a k (q ∷ ks) h =
-    elim (q == a) as (λ t. (q == a) ≡ t → is_in k (cond (not t) (q ∷ less a ks) (less a ks)) ≡ true
-    → (((q == k) || is_in k ks) ≡ true) × ((k == a) ≡ false)) [
-      | true ↦ λ t i. let r = less_in a k ks i in (or_true (q == k) (is_in k ks) r.0, r.1)
-      | false ↦ λ t i. ⊎_elim (λ (e : (q == k) ≡ true). (rw e refl, grind (arith, nat_tests)))
-          (λ (later : is_in k (less a ks) ≡ true).
-          let r = less_in a k ks later in (or_true (q == k) (is_in k ks) r.0, r.1))
-          (true_or (q == k) (is_in k (less a ks)) i)
-    ] refl h
+less_in a k (q ∷ ks) h = grind (arith, nat_tests, or_true, true_or, less_in a k ks)
 
 length_less_le : (a : ℕ) (ks : List ℕ) → length (less a ks) ≤ length ks
 length_less_le a [] = omega arith
-length_less_le a (q ∷ ks) =
-    elim (q == a) as (λ t. length (cond (not t) (q ∷ less a ks) (less a ks)) ≤ length (q ∷ ks)) [
-      | true ↦ omega (arith, length_less_le a ks)
-      | false ↦ omega (arith, length_less_le a ks)
-    ]
+length_less_le a (q ∷ ks) = grind (arith, nat_tests, length_less_le a ks)
 
 length_less : (a : ℕ) (ks : List ℕ) → is_in a ks ≡ true → length (less a ks) < length ks
 length_less a [] h = absurd (true≢false (sym h))
-length_less a (q ∷ ks) h =
-    elim (q == a) as (λ t. (t || is_in a ks) ≡ true
-    → length (cond (not t) (q ∷ less a ks) (less a ks)) < length (q ∷ ks)) [
-      | true ↦ λ i. omega (arith, length_less_le a ks)
-      | false ↦ λ i. omega (arith, length_less a ks i)
-    ] h
+length_less a (q ∷ ks) h = grind (arith, nat_tests, length_less_le, length_less a ks)
 
 -- the links to other keys than this
 abbrev past : (ℕ → List ℕ) → ℕ → ℕ → List ℕ
@@ -162,12 +135,7 @@ flat_in :
     (links : ℕ → List ℕ) (xs : List ℕ) (j k : ℕ) → is_in j xs ≡ true → is_in k (links j) ≡ true
     → is_in k (flat_map links xs) ≡ true
 flat_in links [] j k i h = absurd (true≢false (sym i))
-flat_in links (x ∷ xs) j k i h =
-    ⊎_elim (λ (e : (x == j) ≡ true).
-    let same : j ≡ x = grind (arith, nat_tests) in
-    in_left k (links x) (flat_map links xs) (subst (λ (z : ℕ). is_in k (links z) ≡ true) same h))
-    (λ (later : is_in j xs ≡ true). in_right k (links x) (flat_map links xs) (flat_in links xs j k later h))
-    (true_or (x == j) (is_in j xs) i)
+flat_in links (x ∷ xs) j k i h = grind (arith, nat_tests, in_left, in_right, true_or, flat_in links xs j k)
 
 -- all that is in one list is in the other
 abbrev pub AllIn : List ℕ → List ℕ → Type 0
@@ -179,8 +147,7 @@ level_all :
 unfolding level
 level_all old new heads zero fewer k h = h
 level_all old new heads (suc n) fewer k h =
-    let r = in_flat new (level new heads n) k h in
-    flat_in old (level old heads n) r.0 k (level_all old new heads n fewer r.0 r.1) (fewer r.0 k r.2)
+    grind (arith, nat_tests, in_flat, flat_in, level_all old new heads n fewer)
 
 levels_all :
     (old new : ℕ → List ℕ) (heads : List ℕ) (n : ℕ) → AddsNone old new
@@ -188,9 +155,7 @@ levels_all :
 unfolding levels
 levels_all old new heads zero fewer k h = h
 levels_all old new heads (suc n) fewer k h =
-    ⊎_elim (λ i. in_left k (levels old heads n) (level old heads n) (levels_all old new heads n fewer k i))
-    (λ i. in_right k (levels old heads n) (level old heads n) (level_all old new heads n fewer k i))
-    (in_one k (levels new heads n) (level new heads n) h)
+    grind (arith, nat_tests, in_left, in_right, level_all, in_one, levels_all old new heads n fewer k)
 
 level_shift :
     (links : ℕ → List ℕ) (heads : List ℕ) (n : ℕ) → level links (flat_map links heads) n ≡ level links heads (suc n)
@@ -205,10 +170,7 @@ levels_shift :
 unfolding levels
 levels_shift links heads zero k h = absurd (true≢false (sym h))
 levels_shift links heads (suc n) k h =
-    ⊎_elim (λ i. in_left k (levels links heads (suc n)) (level links heads (suc n)) (levels_shift links heads n k i))
-    (λ i. in_right k (levels links heads (suc n)) (level links heads (suc n))
-    (subst (λ (xs : List ℕ). is_in k xs ≡ true) (level_shift links heads n) i))
-    (in_one k (levels links (flat_map links heads) n) (level links (flat_map links heads) n) h)
+    grind (arith, nat_tests, in_left, in_right, level_shift, in_one, levels_shift links heads n k)
 
 -- the heads are the first level
 pub heads_first : (links : ℕ → List ℕ) (heads : List ℕ) (n : ℕ) → AllIn heads (levels links heads (suc n))
@@ -223,10 +185,7 @@ IsClosed links ks = (j k : ℕ) → is_in j ks ≡ true → is_in k (links j) �
 
 -- without a key its list is still closed
 closed_past : (links : ℕ → List ℕ) (ks : List ℕ) (a : ℕ) → IsClosed links ks → IsClosed (past links a) (less a ks)
-closed_past links ks a closed = λ j k i h.
-    let from = less_in a j ks i in
-    let to = less_in a k (links j) h in
-    in_less a k ks to.1 (closed j k from.0 to.0)
+closed_past links ks a closed = grind (arith, nat_tests, less_in, in_less)
 
 fewer_past : (links : ℕ → List ℕ) (a : ℕ) → AddsNone links (past links a)
 fewer_past links a = λ j k h. (less_in a k (links j) h).0
@@ -270,6 +229,4 @@ level_reached links a b (suc n) h =
 pub levels_reached : (links : ℕ → List ℕ) (a b n : ℕ) → is_in b (levels links (a ∷ []) n) ≡ true → From links a b
 unfolding levels
 levels_reached links a b zero h = absurd (true≢false (sym h))
-levels_reached links a b (suc n) h =
-    ⊎_elim (λ i. levels_reached links a b n i) (λ i. level_reached links a b n i)
-    (in_one b (levels links (a ∷ []) n) (level links (a ∷ []) n) h)
+levels_reached links a b (suc n) h = grind (arith, nat_tests, level_reached, in_one, levels_reached links a b n)

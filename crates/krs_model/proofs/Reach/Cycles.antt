@@ -1,24 +1,17 @@
 -- The test of LINK for cycles says what is reached.
-use Rattle.std.proofs.Common.{[], ◌==◌, ◌||◌, ◌∷◌, ◌≡◌, Bool, cond, false, IsSome, length, nat_cmp, Ok, refl, Result}
-use Rattle.std.proofs.Common.{Some, subst, sym, true, true≢false, ℕ}
-use Rattle.std.specs.{BTreeMap.is_at, Map.keys_of}
-use Rattle.std.proofs.lemmas.List.{length-map}
-use Rattle.krs_types.specs.{Refusing.◌>>=◌, declared.errno.Errno.{Errno, TheVariants.{EDEADLK, ELOOP}}}
-use Rattle.krs_model.specs.Asks.Linked.{nestable, unless}
-use Rattle.krs_model.specs.{Levels.{is_in, levels}, Reach.{closes, has_chain, links_of_key_at, nesting_depth}}
-use Rattle.krs_model.specs.{Sound.AllLinked, State.Key, Table.{at, Table}}
-use Rattle.krs_model.proofs.Reach.Acyclic.{closed_levels, From, IsClosed, levels_reached}
-use Rattle.krs_model.proofs.{Reach.Levels.{or_true, same_is}, Tables.Changes.same_at}
+use Rattle.std.proofs.Common.{[], ◌∷◌, ◌≡◌, arith, Bool, false, IsSome, length, Ok, refl, Result, subst, sym, true}
+use Rattle.std.proofs.{Common.{true≢false, ℕ}, lemmas.{Bool.Decides.nat_tests, List.length-map}}
+use Rattle.std.specs.Map.{keys_of}
+use Rattle.krs_types.specs.{declared.errno.Errno.{Errno, TheVariants.{EDEADLK, ELOOP}}, Refusing.◌>>=◌}
+use Rattle.krs_model.specs.{Asks.Linked.{nestable, unless}, Levels.{is_in, levels}, Reach.{closes, has_chain}}
+use Rattle.krs_model.specs.{Reach.{links_of_key_at, nesting_depth}, Sound.AllLinked, State.Key, Table.{at, Table}}
+use Rattle.krs_model.proofs.Reach.{Acyclic.{closed_levels, From, IsClosed, levels_reached}, Levels.{or_true, same_is}}
+use Rattle.krs_model.proofs.Tables.Changes.{same_at}
 
 -- a key that is there is in the list of serials
 pub there_in : (keys : Table Key) (k : ℕ) → IsSome (at keys k) → is_in k (keys_of keys) ≡ true
 there_in [] k h = absurd (true≢false (sym h))
-there_in (e ∷ keys) k h =
-    elim (is_at (nat_cmp k) e.0) as (λ b. is_at (nat_cmp k) e.0 ≡ b → IsSome (cond b (Some e.1) (at keys k))
-    → ((e.0 == k) || is_in k (keys_of keys)) ≡ true) [
-      | true ↦ λ t i. rw (same_is e.0 k (sym (same_at k e.0 t))) refl
-      | false ↦ λ t i. or_true (e.0 == k) (is_in k (keys_of keys)) (there_in keys k i)
-    ] refl h
+there_in (e ∷ keys) k h = grind (arith, nat_tests, same_is, same_at, or_true, there_in keys k)
 
 -- where the test of cycles refuses, the keyring is the key, or reached from it
 pub closes_from : (keys : Table Key) (key ring : ℕ) → closes keys key ring ≡ true → From (links_of_key_at keys) key ring

@@ -1,5 +1,5 @@
 -- Laws of levels.
-use Rattle.std.proofs.Common.{[], ⊎_elim, ◌++◌, ◌+◌, ◌-◌, ◌<◌, ◌==◌, ◌||◌, ◌∷◌, ◌≡◌, ◌⊎◌, add-one, arith, Bool, false}
+use Rattle.std.proofs.Common.{[], ◌++◌, ◌+◌, ◌-◌, ◌<◌, ◌==◌, ◌||◌, ◌∷◌, ◌≡◌, ◌≢◌, ◌⊎◌, add-one, arith, Bool, false}
 use Rattle.std.proofs.Common.{flat_map, inl, inr, List, refl, subst, suc, sym, true, true≢false, zero, ℕ}
 use Rattle.std.proofs.lemmas.{Bool.Decides.nat_tests, List.Folds.list_any-append}
 use native.Mathlib.Numerals.{unary_clauses}
@@ -12,6 +12,12 @@ or_true false c h = h
 pub true_or : (b c : Bool) → (b || c) ≡ true → (b ≡ true) ⊎ (c ≡ true)
 true_or true c h = inl refl
 true_or false c h = inr h
+
+pub equal_is : (a b : ℕ) → (a == b) ≡ true → a ≡ b
+equal_is a b h = grind (arith, nat_tests)
+
+pub apart_is : (a b : ℕ) → a ≢ b → (a == b) ≡ false
+apart_is a b h = grind (arith, nat_tests)
 
 pub same_is : (x k : ℕ) → x ≡ k → (x == k) ≡ true
 same_is x k h = grind (arith, nat_tests)
@@ -38,18 +44,13 @@ pub in_one : (k : ℕ) (xs ys : List ℕ) → is_in k (xs ++ ys) ≡ true → (i
 in_one k xs ys h = true_or (is_in k xs) (is_in k ys) (rw (list_any-append (λ q. q == k) xs ys) at h)
 
 pub only_in : (k n : ℕ) → is_in k (n ∷ []) ≡ true → k ≡ n
-only_in k n h =
-    ⊎_elim (λ (e : (n == k) ≡ true). grind (arith, nat_tests)) (λ (no : false ≡ true). absurd (true≢false (sym no)))
-    (true_or (n == k) false h)
+only_in k n h = grind (arith, nat_tests, true≢false, true_or)
 
 -- what is in a flattened list is in the list of one of its keys
 pub in_flat : (links : ℕ → List ℕ) (xs : List ℕ) (k : ℕ) → is_in k (flat_map links xs) ≡ true
     → (j : ℕ) × (is_in j xs ≡ true) × (is_in k (links j) ≡ true)
 in_flat links [] k h = absurd (true≢false (sym h))
-in_flat links (x ∷ xs) k h =
-    ⊎_elim (λ here. (x, rw (same_is x x refl) refl, here))
-    (λ later. let r = in_flat links xs k later in (r.0, or_true (x == r.0) (is_in r.0 xs) r.1, r.2))
-    (in_one k (links x) (flat_map links xs) h)
+in_flat links (x ∷ xs) k h = grind (arith, nat_tests, same_is, or_true, in_one, in_flat links xs k) steps 600000
 
 -- in the first n levels: a head, or linked by a key of the first n levels
 pub levels_linked : (links : ℕ → List ℕ) (heads : List ℕ) (n k : ℕ) → is_in k (levels links heads n) ≡ true
@@ -58,17 +59,7 @@ unfolding level levels
 levels_linked links heads zero k h = absurd (true≢false (sym h))
 levels_linked links heads (suc zero) k h = inl h
 levels_linked links heads (suc (suc n)) k h =
-    ⊎_elim (λ before. ⊎_elim (λ i. inl i)
-    (λ r. inr (r.0, in_left r.0 (levels links heads (suc n)) (level links heads (suc n)) r.1, r.2))
-    (levels_linked links heads (suc n) k before))
-    (λ last. let r = in_flat links (level links heads n) k last in
-    inr (
-      r.0,
-      in_left r.0 (levels links heads (suc n)) (level links heads (suc n))
-          (in_right r.0 (levels links heads n) (level links heads n) r.1),
-      r.2,
-    ))
-    (in_one k (levels links heads (suc n)) (level links heads (suc n)) h)
+    grind (arith, nat_tests, in_left, in_flat, in_right, in_one, levels_linked links heads (suc n) k)
 
 -- what is in the first n levels is in the first n + m
 pub levels_on : (links : ℕ → List ℕ) (heads : List ℕ) (k n m : ℕ) → is_in k (levels links heads n) ≡ true
@@ -83,10 +74,7 @@ pub in_level : (links : ℕ → List ℕ) (heads : List ℕ) (k n : ℕ) → is_
     → (m : ℕ) × (m < n) × (is_in k (level links heads m) ≡ true)
 unfolding levels
 in_level links heads k zero h = absurd (true≢false (sym h))
-in_level links heads k (suc n) h =
-    ⊎_elim (λ before. let r = in_level links heads k n before in (r.0, omega (arith, r.1), r.2))
-    (λ last. (n, omega arith, last))
-    (in_one k (levels links heads n) (level links heads n) h)
+in_level links heads k (suc n) h = grind (arith, nat_tests, in_one, in_level links heads k n) steps 600000
 
 -- what is in one of the first n levels is in them
 pub of_level : (links : ℕ → List ℕ) (heads : List ℕ) (k m n : ℕ) → m < n → is_in k (level links heads m) ≡ true

@@ -1,16 +1,16 @@
 -- Laws of a search: how searches join, and where an answer stands.
 use Rattle.std.proofs.Common.{[], ⊎_elim, ◌++◌, ◌<◌, ◌||◌, ◌∙◌, ◌∷◌, ◌≡◌, ◌≤◌, ◌⊎◌, ap, arith, Bool, cond, Err, false}
 use Rattle.std.proofs.Common.{find, flat_map, inl, inr, List, None, Ok, Option, refl, slice_get, Some, suc, sym, true}
-use Rattle.std.proofs.Common.{true≢false, zero, ℕ}
+use Rattle.std.proofs.{Common.{true≢false, zero, ℕ}, lemmas.Bool.{cases_lt, Decides.nat_tests}}
+use Rattle.std.proofs.lemmas.{List.Folds.{find-append, list_any-append}, Option.{none-some, same_Some}}
 use Rattle.std.specs.{List.list_any, Option.option_or}
-use Rattle.std.proofs.lemmas.{Bool.cases_lt, List.Folds.{find-append, list_any-append}, Option.{none-some, same_Some}}
-use Rattle.krs_types.specs.{Refusing.or_refuse, declared.{context.Context.Context, errno.Errno.Errno}}
-use Rattle.krs_types.specs.declared.{errno.Errno.TheVariants.{EACCES, EKEYEXPIRED, EKEYREVOKED, ENOKEY}, name.Name.Name}
-use Rattle.krs_model.specs.Laws.{HasNoAnswer, in_turn, IsBefore, IsFault, IsFirstAnswer, IsMet}
-use Rattle.krs_model.specs.{Levels.{level, levels, search_depth}, Possession.{attached, possessed}}
-use Rattle.krs_model.specs.Search.{entered, fault, fault_among, found, found_by, is_answer, is_denied, is_expired}
-use Rattle.krs_model.specs.Search.{is_revoked, or_next, requested, searched, Searcher, searcher_of, sought, weightier}
-use Rattle.krs_model.specs.State.{State}
+use Rattle.krs_types.specs.declared.{context.Context.Context, errno.Errno.{Errno, TheVariants.{EACCES, EKEYEXPIRED}}}
+use Rattle.krs_types.specs.declared.{errno.Errno.TheVariants.{EKEYREVOKED, ENOKEY}, name.Name.Name}
+use Rattle.krs_types.specs.Refusing.{or_refuse}
+use Rattle.krs_model.specs.{Laws.{HasNoAnswer, in_turn, IsBefore, IsFault, IsFirstAnswer, IsMet}, Levels.level}
+use Rattle.krs_model.specs.{Levels.{levels, search_depth}, Possession.{attached, possessed}, Search.{entered, fault}}
+use Rattle.krs_model.specs.Search.{found, found_by, is_answer, is_denied, is_expired, is_revoked, or_next, requested}
+use Rattle.krs_model.specs.{Search.{searched, Searcher, searcher_of, sought, weightier}, State.State}
 
 -- the weightier of two faults is that of the matches of both
 faults_join : (r e d r2 e2 d2 : Bool) → weightier (fault r e d) (fault r2 e2 d2) ≡ fault (r || r2) (e || e2) (d || d2)
@@ -40,26 +40,12 @@ answers_join e f g None None h = ap Err (sym h)
 -- what is sought in two lists is sought in the first, then in the second
 pub sought_append : (by : Searcher) (name : Name) (xs ys : List ℕ)
     → sought by name (xs ++ ys) ≡ or_next (sought by name xs) (sought by name ys)
-sought_append by name xs ys =
-    rw (
-      find-append (is_answer by name) xs ys,
-      list_any-append (is_revoked by name) xs ys,
-      list_any-append
-          (is_expired by name) xs ys,
-      list_any-append (is_denied by name) xs ys,
-    )
-    (answers_join (fault_among by name xs) (fault_among by name ys) _ (find (is_answer by name) xs)
-    (find (is_answer by name) ys)
-    (faults_join (list_any (is_revoked by name) xs) (list_any (is_expired by name) xs)
-    (list_any (is_denied by name) xs)
-    (list_any (is_revoked by name) ys) (list_any (is_expired by name) ys) (list_any (is_denied by name) ys)))
+sought_append by name xs ys = search (find-append, list_any-append, answers_join, faults_join) depth 8
 
 pub in_turn_flat : (by : Searcher) (name : Name) (heads : List ℕ)
     → sought by name (flat_map (searched by) heads) ≡ in_turn (λ head. found_by by head name) heads
 in_turn_flat by name [] = refl
-in_turn_flat by name (head ∷ heads) =
-    sought_append by name (searched by head) (flat_map (searched by) heads)
-    ∙ ap (or_next (found_by by head name)) (in_turn_flat by name heads)
+in_turn_flat by name (head ∷ heads) = search (sought_append, in_turn_flat by name heads) depth 8
 
 pub request_in_turn : (s : State) (c : Context) (name : Name)
     → requested s c name ≡ in_turn (λ head. found s c head name) (attached s c)
@@ -75,11 +61,7 @@ fails_more p x xs (suc i) k t later at = later i at
 -- a list in which nothing passes
 none_passes : (p : ℕ → Bool) (xs : List ℕ) (i k : ℕ) → find p xs ≡ None → slice_get xs i ≡ Some k → p k ≡ false
 none_passes p [] i k none at = absurd (none-some k at)
-none_passes p (x ∷ xs) i k none at =
-    elim (p x) as (λ b. p x ≡ b → cond b (Some x) (find p xs) ≡ None → p k ≡ false) [
-      | true ↦ λ t n. absurd (none-some x (sym n))
-      | false ↦ λ t n. fails_more p x xs i k t (λ j later. none_passes p xs j k n later) at
-    ] refl none
+none_passes p (x ∷ xs) i k none at = grind (arith, nat_tests, none-some, fails_more, none_passes p xs)
 
 -- the first that passes stands at a place, and what stands before it fails
 record IsFirst (p : ℕ → Bool) (xs : List ℕ) (k : ℕ) : Type 0 where
@@ -141,12 +123,7 @@ none_above : (p : ℕ → Bool) (links : ℕ → List ℕ) (heads : List ℕ) (n
 unfolding levels
 none_above p links heads zero m i j none lt at = absurd (omega arith)
 none_above p links heads (suc n) m i j none lt at =
-    let parts = option_none (find p (levels links heads n)) (find p (level links heads n))
-    (sym (find-append p (levels links heads n) (level links heads n)) ∙ none) in
-    ⊎_elim (λ (e : m ≡ n). none_passes p (level links heads n) i j parts.1
-    (ap (λ (z : ℕ). slice_get (level links heads z) i) (sym e) ∙ at))
-    (λ (less : m < n). none_above p links heads n m i j parts.0 less at)
-    (last_or_less m n lt)
+    grind (arith, nat_tests, option_none, find-append, none_passes, last_or_less, none_above p links heads n m i j)
 
 least_passes : (p : ℕ → Bool) (links : ℕ → List ℕ) (heads : List ℕ) (n k : ℕ) → find p (levels links heads n) ≡ Some k
     → IsLeast p links heads n k
@@ -192,14 +169,7 @@ found_is_first s c head name serial h =
     let by = searcher_of s c in
     let r = least_passes (is_answer by name) (entered by) (head ∷ []) (suc search_depth) serial
     (found_first _ (find (is_answer by name) (searched by head)) serial h) in
-    record {
-      answer = r.passes;
-      depth = r.depth;
-      place = r.place;
-      bound = omega arith;
-      stands = r.stands;
-      first = r.first;
-    }
+    grind (arith, nat_tests)
 
 pub refused_has_none : (s : State) (c : Context) (head : ℕ) (name : Name) (error : Errno)
     → found s c head name ≡ Err error → HasNoAnswer (searcher_of s c) head name
@@ -222,11 +192,7 @@ any_found p (x ∷ xs) h =
 -- where none passes, none is found
 none_found : (p : ℕ → Bool) (xs : List ℕ) → list_any p xs ≡ false → find p xs ≡ None
 none_found p [] h = refl
-none_found p (x ∷ xs) h =
-    elim (p x) as (λ b. (b || list_any p xs) ≡ false → cond b (Some x) (find p xs) ≡ None) [
-      | true ↦ λ e. absurd (true≢false e)
-      | false ↦ λ e. none_found p xs e
-    ] h
+none_found p (x ∷ xs) h = grind (arith, nat_tests, true≢false, none_found p xs)
 
 -- a test is met in the levels just where one of their keys passes
 any_met : (by : Searcher) (head : ℕ) (p : ℕ → Bool) → list_any p (searched by head) ≡ true → IsMet by head p
@@ -246,11 +212,7 @@ met_any by head p (depth, place, serial, bound, stands, passes) =
     ] refl
 
 unmet : (by : Searcher) (head : ℕ) (p : ℕ → Bool) → (IsMet by head p → ⊥) → list_any p (searched by head) ≡ false
-unmet by head p never =
-    elim (list_any p (searched by head)) as (λ b. list_any p (searched by head) ≡ b → b ≡ false) [
-      | true ↦ λ e. absurd (never (any_met by head p e))
-      | false ↦ λ e. refl
-    ] refl
+unmet by head p never = grind (arith, nat_tests, any_met)
 
 -- which fault it is, by which of the three are there
 revoked_fault : (r e d : Bool) → r ≡ true → fault r e d ≡ EKEYREVOKED
@@ -296,7 +258,5 @@ refused_faults s c head name error h =
       denied = λ never nor met. is
           ∙ denied_fault revoked expired denied (unmet by head (is_revoked by name) never)
           (unmet by head (is_expired by name) nor) (met_any by head (is_denied by name) met);
-      none = λ never nor neither. is
-          ∙ no_fault revoked expired denied (unmet by head (is_revoked by name) never)
-          (unmet by head (is_expired by name) nor) (unmet by head (is_denied by name) neither);
+      none = grind (arith, nat_tests, no_fault, unmet);
     }

@@ -1,14 +1,12 @@
 -- What the entries of contexts, processes and uids attach.
-use Rattle.std.proofs.Common.{[], ⊎_elim, ◌++◌, ◌∷◌, ◌≡◌, ◌⊎◌, ap, Bool, cond, false, filter, flat_map, inl, inr, List}
-use Rattle.std.proofs.Common.{nat_cmp, option_to_list, Some, subst, sym, true, true≢false, ℕ}
-use Rattle.std.specs.{BTreeMap.is_at, Ordering.match_ordering, declared.cmp.Ordering.TheVariants.{Equal, Greater, Less}}
+use Rattle.std.proofs.Common.{[], ⊎_elim, ◌++◌, ◌∷◌, ◌≡◌, ◌⊎◌, ap, arith, Bool, filter, flat_map, inl, List}
+use Rattle.std.proofs.{Common.{option_to_list, Some, sym, true, true≢false, ℕ}, lemmas.Bool.Decides.nat_tests}
 use Rattle.std.proofs.lemmas.{List.Concat.flat_map_single, Option.{none-some, same_Some}}
 use Rattle.krs_types.specs.declared.context.{Context.Context, UidRings.UidRings}
-use Rattle.krs_model.specs.Levels.{is_in}
-use Rattle.krs_model.specs.{Sound.processes_of, State.State, Sweep.{context_roots, process_roots, roots, uid_roots}}
-use Rattle.krs_model.specs.Table.{alter, at, IsDistinct, map_values, put, Table, without}
-use Rattle.krs_model.proofs.Reach.Levels.{in_left, in_one, in_right}
-use Rattle.krs_model.proofs.Tables.Entries.{first_entry, IsEntry, later_entry}
+use Rattle.krs_model.specs.{Levels.is_in, Sound.processes_of, State.State, Sweep.{context_roots, process_roots}}
+use Rattle.krs_model.specs.{Sweep.{roots, uid_roots}, Table.{alter, at, IsDistinct, map_values, put, Table, without}}
+use Rattle.krs_model.proofs.{Reach.Levels.{in_left, in_one, in_right}, Tables.Entries.{first_entry, IsEntry}}
+use Rattle.krs_model.proofs.Tables.Entries.{later_entry}
 
 -- the keys that a context, a uid, and the entries of a table attach
 abbrev pub context_keys : Context → List ℕ
@@ -35,17 +33,7 @@ pub attached_either :
     → is_in q (attachments g (put es k v)) ≡ true → (is_in q (g v) ≡ true) ⊎ (is_in q (attachments g es) ≡ true)
 attached_either {X = X} g [] k v q h = in_one q (g v) [] h
 attached_either {X = X} g (e ∷ es) k v q h =
-    elim (nat_cmp k e.0) as (λ r.
-    is_in q (attachments g (match_ordering r ((k, v) ∷ e ∷ es) ((e.0, v) ∷ es) (e ∷ put es k v))) ≡ true
-    → (is_in q (g v) ≡ true) ⊎ (is_in q (g e.1 ++ attachments g es) ≡ true)) [
-      | Less ↦ λ i. in_one q (g v) (g e.1 ++ attachments g es) i
-      | Equal ↦ λ i. ⊎_elim (λ here. inl here) (λ later. inr (in_right q (g e.1) (attachments g es) later))
-          (in_one q (g v) (attachments g es) i)
-      | Greater ↦ λ i. ⊎_elim (λ here. inr (in_left q (g e.1) (attachments g es) here))
-          (λ later. ⊎_elim (λ new. inl new) (λ old. inr (in_right q (g e.1) (attachments g es) old))
-          (attached_either g es k v q later))
-          (in_one q (g e.1) (attachments g (put es k v)) i)
-    ] h
+    grind (arith, nat_tests, in_one, in_right, in_left, attached_either g es k v q)
 
 -- what a changed entry attaches was attached, or is what the change attaches
 pub attached_alter :
@@ -54,32 +42,14 @@ pub attached_alter :
     → is_in q (attachments g (alter es k f)) ≡ true → (is_in q (attachments g es) ≡ true) ⊎ P
 attached_alter {X = X} {P = P} g [] k f q attaches h = inl h
 attached_alter {X = X} {P = P} g (e ∷ es) k f q attaches h =
-    elim (is_at (nat_cmp k) e.0) as (λ b.
-    is_in q (attachments g (cond b ((e.0, f e.1) ∷ es) (e ∷ alter es k f))) ≡ true
-    → (is_in q (g e.1 ++ attachments g es) ≡ true) ⊎ P) [
-      | true ↦ λ i. ⊎_elim (λ here.
-          ⊎_elim (λ was. inl (in_left q (g e.1) (attachments g es) was)) (λ p. inr p) (attaches e.1 here))
-          (λ later. inl (in_right q (g e.1) (attachments g es) later))
-          (in_one q (g (f e.1)) (attachments g es) i)
-      | false ↦ λ i. ⊎_elim (λ here. inl (in_left q (g e.1) (attachments g es) here))
-          (λ later. ⊎_elim (λ was. inl (in_right q (g e.1) (attachments g es) was)) (λ p. inr p)
-          (attached_alter g es k f q attaches later))
-          (in_one q (g e.1) (attachments g (alter es k f)) i)
-    ] h
+    grind (arith, nat_tests, in_left, in_right, in_one, attached_alter g es k f q attaches)
 
 -- what fewer entries attach was attached
 pub attached_fewer :
     {X : Type 0} (g : X → List ℕ) (p : ℕ × X → Bool) (es : Table X) (q : ℕ)
     → is_in q (attachments g (filter p es)) ≡ true → is_in q (attachments g es) ≡ true
 attached_fewer {X = X} g p [] q h = h
-attached_fewer {X = X} g p (e ∷ es) q h =
-    elim (p e) as (λ b. is_in q (attachments g (cond b (e ∷ filter p es) (filter p es))) ≡ true
-    → is_in q (g e.1 ++ attachments g es) ≡ true) [
-      | true ↦ λ i. ⊎_elim (λ here. in_left q (g e.1) (attachments g es) here)
-          (λ later. in_right q (g e.1) (attachments g es) (attached_fewer g p es q later))
-          (in_one q (g e.1) (attachments g (filter p es)) i)
-      | false ↦ λ i. in_right q (g e.1) (attachments g es) (attached_fewer g p es q i)
-    ] h
+attached_fewer {X = X} g p (e ∷ es) q h = grind (arith, nat_tests, in_left, in_right, in_one, attached_fewer g p es q)
 
 -- what is left where one entry was taken out was attached
 pub attached_without :
@@ -87,13 +57,7 @@ pub attached_without :
     → is_in q (attachments g es) ≡ true
 attached_without {X = X} g [] k q h = h
 attached_without {X = X} g (e ∷ es) k q h =
-    elim (is_at (nat_cmp k) e.0) as (λ b. is_in q (attachments g (cond b es (e ∷ without es k))) ≡ true
-    → is_in q (g e.1 ++ attachments g es) ≡ true) [
-      | true ↦ λ i. in_right q (g e.1) (attachments g es) i
-      | false ↦ λ i. ⊎_elim (λ here. in_left q (g e.1) (attachments g es) here)
-          (λ later. in_right q (g e.1) (attachments g es) (attached_without g es k q later))
-          (in_one q (g e.1) (attachments g (without es k)) i)
-    ] h
+    grind (arith, nat_tests, in_right, in_left, in_one, attached_without g es k q)
 
 -- what changed entries attach was attached
 pub attached_mapped :
@@ -102,9 +66,7 @@ pub attached_mapped :
     → is_in q (attachments g (map_values f es)) ≡ true → is_in q (attachments g es) ≡ true
 attached_mapped {X = X} g f [] q fewer h = h
 attached_mapped {X = X} g f (e ∷ es) q fewer h =
-    ⊎_elim (λ here. in_left q (g e.1) (attachments g es) (fewer e.1 here))
-    (λ later. in_right q (g e.1) (attachments g es) (attached_mapped g f es q fewer later))
-    (in_one q (g (f e.1)) (attachments g (map_values f es)) h)
+    grind (arith, nat_tests, in_left, in_right, in_one, attached_mapped g f es q fewer)
 
 -- what the value at a number attaches is attached
 pub attached_at :
@@ -112,12 +74,7 @@ pub attached_at :
     → is_in q (attachments g es) ≡ true
 attached_at {X = X} g [] k v q h i = absurd (none-some v h)
 attached_at {X = X} g (e ∷ es) k v q h i =
-    elim (is_at (nat_cmp k) e.0) as (λ b. cond b (Some e.1) (at es k) ≡ Some v
-    → is_in q (g e.1 ++ attachments g es) ≡ true) [
-      | true ↦ λ t. in_left q (g e.1) (attachments g es)
-          (subst (λ (x : X). is_in q (g x) ≡ true) (sym (same_Some e.1 v t)) i)
-      | false ↦ λ t. in_right q (g e.1) (attachments g es) (attached_at g es k v q t i)
-    ] h
+    grind (arith, nat_tests, in_left, same_Some, in_right, attached_at g es k v q)
 
 -- what is attached an entry attaches, where no number stands twice
 pub attached_entry :
@@ -140,11 +97,7 @@ pub in_context : (s : State) (k : ℕ) → is_in k (context_roots s.contexts) �
 in_context s k h = in_left k (context_roots s.contexts) (process_roots s.processes ++ uid_roots s.uids) h
 
 pub in_process : (s : State) (k : ℕ) → is_in k (process_roots s.processes) ≡ true → is_in k (roots s) ≡ true
-in_process s k h =
-    in_right k (context_roots s.contexts) (process_roots s.processes ++ uid_roots s.uids)
-    (in_left k (process_roots s.processes) (uid_roots s.uids) h)
+in_process s k h = search (in_right, in_left) depth 8
 
 pub in_uid : (s : State) (k : ℕ) → is_in k (uid_roots s.uids) ≡ true → is_in k (roots s) ≡ true
-in_uid s k h =
-    in_right k (context_roots s.contexts) (process_roots s.processes ++ uid_roots s.uids)
-    (in_right k (process_roots s.processes) (uid_roots s.uids) h)
+in_uid s k h = search in_right depth 8

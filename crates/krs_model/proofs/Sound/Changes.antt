@@ -1,21 +1,21 @@
 -- What leaves a store sound but for the sweep: links fewer, a further key, a further link, a sweep.
 use Rattle.std.proofs.Common.{⊎_elim, ◌∙◌, ◌≡◌, ◌≤◌, ◌⊎◌, ap, arith, Bool, cond, count_by, false, filter, inl, inr}
 use Rattle.std.proofs.Common.{IsSome, List, None, Option, option_map, refl, Some, subst, sym, true, true≢false, ℕ}
-use Rattle.std.proofs.lemmas.Option.{none-some}
+use Rattle.std.proofs.lemmas.{Bool.Decides.nat_tests, Option.none-some}
 use Rattle.krs_types.specs.declared.name.Name.{Name}
 use Rattle.krs_model.specs.{Asks.Changing.changed, Levels.is_in, Linking.{is_named, linked_content}, Making.with_new}
-use Rattle.krs_model.specs.{Possession.links_of_content, Reach.{Directly, Further, IsAcyclic, links_of_key_at, Reaches}}
-use Rattle.krs_model.specs.Sound.{AllAttached, AllFitting, AllLinked, AllPlaced, AreHoused, HasOneOfEach, IsFitting}
-use Rattle.krs_model.specs.State.{Content, Key, Links, Payload, State}
+use Rattle.krs_model.specs.{Possession.links_of_content, Reach.{Directly, Further, IsAcyclic, links_of_key_at}}
+use Rattle.krs_model.specs.{Reach.Reaches, Sound.{AllAttached, AllFitting, AllLinked, AllPlaced, AreHoused}}
+use Rattle.krs_model.specs.{Sound.{HasOneOfEach, IsFitting}, State.{Content, Key, Links, Payload, State}}
 use Rattle.krs_model.specs.Sweep.{Attached, IsHeld, IsSweep, Linked, links_of_key, live_watches, PicksHeld, roots}
 use Rattle.krs_model.specs.Table.{alter, at, IsBelow, map_values, put, Rises, Table}
-use Rattle.krs_model.proofs.Reach.Acyclic.{acyclic_adds, acyclic_fewer, AddsAtMost, From}
-use Rattle.krs_model.proofs.Sound.Contents.{alter_fits, filter_fits, FitStays, form_stays, linked_form, map_fits}
-use Rattle.krs_model.proofs.{Sound.Contents.put_fits, Sweep.Laws.linking_is_there}
-use Rattle.krs_model.proofs.Tables.Changes.{at_alter_none, at_alter_other, at_alter_same, at_kept, at_map, at_or_apart}
-use Rattle.krs_model.proofs.Tables.Changes.{at_put_other, at_put_same, below_filter, below_put}
+use Rattle.krs_model.proofs.{Reach.Acyclic.{acyclic_adds, acyclic_fewer, AddsAtMost, From}, Sound.Contents.FitStays}
+use Rattle.krs_model.proofs.{Sound.Contents.{form_stays, linked_form}, Sweep.Laws.linking_is_there}
+use Rattle.krs_model.proofs.Tables.Changes.{at_alter_none, at_alter_other, at_alter_same, at_kept, at_map}
+use Rattle.krs_model.proofs.Tables.Changes.{at_or_apart, at_put_other, at_put_same, below_filter, below_put}
 use Rattle.krs_model.proofs.Tables.Counts.{count_on, in_with_link, IsPart, none_part, one_linked, part_in}
-use Rattle.krs_model.proofs.Tables.Rising.{alter_rises, filter_rises, map_rises, put_rises}
+use Rattle.krs_model.proofs.Tables.{Each.{every_alter, every_kept, every_map, every_put}, Rising.alter_rises}
+use Rattle.krs_model.proofs.Tables.Rising.{filter_rises, map_rises, put_rises}
 
 -- sound but for the sweep
 pub record Stands (s : State) : Type 0 where
@@ -80,24 +80,19 @@ IsChanged es n f k = (k ≡ n) × (at (alter es n f) k ≡ option_map f (at es k
 -- what is at a number after a change at one
 pub at_change :
     {X : Type 0} (es : Table X) (n k : ℕ) (f : X → X) → (IsChanged es n f k) ⊎ (at (alter es n f) k ≡ at es k)
-at_change es n k f =
-    let there : at (alter es n f) n ≡ option_map f (at es n) = at_alter_same es n f in
-    ⊎_elim (λ (e : k ≡ n). inl (e, subst (λ (z : ℕ). at (alter es n f) z ≡ option_map f (at es z)) (sym e) there))
-    (λ apart. inr (at_alter_other es n k f apart)) (at_or_apart k n)
+at_change es n k f = grind (arith, nat_tests, at_alter_same, at_alter_other, at_or_apart)
 
-mapped_there : {X : Type 0} (f : X → X) (o : Option X) → IsSome o → IsSome (option_map f o)
-mapped_there f None h = h
-mapped_there f (Some v) h = refl
-
-some_mapped : {X Y : Type 0} (f : X → Y) (o : Option X) → IsSome o → IsSome (option_map f o)
+pub some_mapped : {X Y : Type 0} (f : X → Y) (o : Option X) → IsSome o → IsSome (option_map f o)
 some_mapped f None h = absurd (true≢false (sym h))
 some_mapped f (Some v) h = refl
 
+pub was_mapped : {X Y : Type 0} (f : X → Y) (o : Option X) → IsSome (option_map f o) → IsSome o
+was_mapped f None h = h
+was_mapped f (Some v) h = refl
+
 pub there_alter :
     {X : Type 0} (es : Table X) (n : ℕ) (f : X → X) (k : ℕ) → IsSome (at es k) → IsSome (at (alter es n f) k)
-there_alter es n f k h =
-    ⊎_elim (λ (r : IsChanged es n f k). subst IsSome (sym r.1) (mapped_there f (at es k) h))
-    (λ same. subst IsSome (sym same) h) (at_change es n k f)
+there_alter es n f k h = grind (arith, nat_tests, some_mapped, at_change)
 
 -- the name of a key stays
 abbrev pub NameStays : (Key → Key) → Type 0
@@ -111,9 +106,7 @@ named_mapped f (Some v) name stays = stays v name
 named_alter :
     (es : Table Key) (n : ℕ) (f : Key → Key) (k : ℕ) (name : Name) → NameStays f
     → is_named name (at (alter es n f) k) ≡ is_named name (at es k)
-named_alter es n f k name stays =
-    ⊎_elim (λ (r : IsChanged es n f k). ap (is_named name) r.1 ∙ named_mapped f (at es k) name stays)
-    (λ same. ap (is_named name) same) (at_change es n k f)
+named_alter es n f k name stays = grind (arith, nat_tests, named_mapped, at_change)
 
 -- the links of a key become fewer, or stay, its name stays, and it fits its type
 pub record Lessens (f : Key → Key) : Type 0 where
@@ -144,7 +137,7 @@ changed_stands s serial f lessens stands =
       attached = λ k i. there_alter s.keys serial f k (stands.attached k i);
       placed = stands.placed;
       housed = stands.housed;
-      fitting = alter_fits s.keys serial f lessens.fits stands.fitting;
+      fitting = every_alter IsFitting s.keys serial f (λ v _. lessens.fits v) stands.fitting;
       rising = alter_rises s.keys serial f stands.rising;
       once = less_once s.keys (alter s.keys serial f) less stands.once;
       unused = λ q le. at_alter_none s.keys serial q f (stands.unused q le);
@@ -153,8 +146,7 @@ changed_stands s serial f lessens stands =
 less_map : (es : Table Key) (f : Key → Key) → Lessens f → IsLess es (map_values f es)
 less_map es f lessens = record {
   links = λ j. subst (HasPart (links_of_key_at es j)) (sym (at_map f es j)) (mapped_part f (at es j) lessens);
-  names =
-      λ name k h. sym (named_mapped f (at es k) name lessens.named) ∙ (ap (is_named name) (sym (at_map f es k)) ∙ h);
+  names = grind (arith, nat_tests, named_mapped, at_map);
 }
 
 pub there_map : {X Y : Type 0} (f : X → Y) (es : Table X) (k : ℕ) → IsSome (at es k) → IsSome (at (map_values f es) k)
@@ -172,7 +164,7 @@ mapped_stands s f lessens stands =
       attached = λ k i. there_map f s.keys k (stands.attached k i);
       placed = stands.placed;
       housed = stands.housed;
-      fitting = map_fits s.keys f lessens.fits stands.fitting;
+      fitting = every_map IsFitting s.keys f lessens.fits stands.fitting;
       rising = map_rises f s.keys stands.rising;
       once = less_once s.keys (map_values f s.keys) less stands.once;
       unused = λ q le. at_map f s.keys q ∙ ap (option_map f) (stands.unused q le);
@@ -220,7 +212,7 @@ kept_stands s kept watches picks stands =
       attached = λ k i. stays k (Attached k i) (stands.attached k i);
       placed = stands.placed;
       housed = stands.housed;
-      fitting = filter_fits s.keys kept stands.fitting;
+      fitting = every_kept IsFitting s.keys kept stands.fitting;
       rising = filter_rises (λ e. kept e.0) s.keys stands.rising;
       once = less_once s.keys keys less stands.once;
       unused = below_filter (λ e. kept e.0) s.keys keys s.next_serial refl stands.unused;
@@ -261,9 +253,7 @@ IsPut es n v k = (k ≡ n) × (at (put es n v) k ≡ Some v)
 
 -- what is at a number after one was put
 pub at_put : {X : Type 0} (es : Table X) (n k : ℕ) (v : X) → (IsPut es n v k) ⊎ (at (put es n v) k ≡ at es k)
-at_put es n k v =
-    ⊎_elim (λ (e : k ≡ n). inl (e, ap (λ (z : ℕ). at (put es n v) z) e ∙ at_put_same es n v))
-    (λ apart. inr (at_put_other es n k v apart)) (at_or_apart k n)
+at_put es n k v = grind (arith, nat_tests, at_put_same, at_put_other, at_or_apart)
 
 -- a number where something is has it still, when something is put
 pub there_put :
@@ -278,9 +268,7 @@ not_there (Some v) h e = none-some v (sym e)
 -- a key that is there stays, when a further one is put
 pub at_further :
     (es : Table Key) (n k : ℕ) (v : Key) → at es n ≡ None → IsSome (at es k) → at (put es n v) k ≡ at es k
-at_further es n k v none there =
-    ⊎_elim (λ (r : IsPut es n v k). absurd (not_there (at es k) there (ap (λ (z : ℕ). at es z) r.0 ∙ none))) (λ e. e)
-    (at_put es n k v)
+at_further es n k v none there = grind (arith, nat_tests, not_there, at_put)
 
 -- a further key, which links keys that are there, at most one of each name
 pub key_stands :
@@ -305,7 +293,7 @@ key_stands s key linked few fits stands =
       attached = λ k i. stays k (stands.attached k i);
       placed = stands.placed;
       housed = stands.housed;
-      fitting = put_fits s.keys n key fits stands.fitting;
+      fitting = every_put IsFitting s.keys n key fits stands.fitting;
       rising = put_rises s.keys n key stands.rising;
       once = λ ring name.
           let p : ℕ → Bool = λ k. is_named name (at s.keys k) in
@@ -367,14 +355,12 @@ linked_stands s ring serial displaced there opens alike stands =
     let stays : NameStays f = λ v name. refl in
     record {
       acyclic = acyclic_adds (links_of_key_at s.keys) (links_of_key_at keys) ring serial adds opens stands.acyclic;
-      linked = λ j k i. there_alter s.keys ring f k
-          (⊎_elim (λ (was : is_in k (links_of_key_at s.keys j) ≡ true). stands.linked j k was)
-          (λ (r : (j ≡ ring) × (k ≡ serial)). subst (λ (z : ℕ). IsSome (at s.keys z)) (sym r.1) there) (adds j k i));
+      linked = grind (arith, nat_tests, there_alter);
       attached = λ k i. there_alter s.keys ring f k (stands.attached k i);
       placed = stands.placed;
       housed = stands.housed;
-      fitting = alter_fits s.keys ring f
-          (form_stays f (λ v. linked_form displaced serial v.content) (λ v. refl)) stands.fitting;
+      fitting = every_alter IsFitting s.keys ring f
+          (λ v _. form_stays f (λ w. linked_form displaced serial w.content) (λ w. refl) v) stands.fitting;
       rising = alter_rises s.keys ring f stands.rising;
       once = λ q name.
           let p : ℕ → Bool = λ k. is_named name (at s.keys k) in

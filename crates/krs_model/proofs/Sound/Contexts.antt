@@ -1,17 +1,16 @@
 -- What leaves contexts, processes and uids housed: a further one, one that is changed, fewer of them.
 use Rattle.std.proofs.Common.{[], ⊎_elim, ◌+◌, ◌==◌, ◌||◌, ◌∙◌, ◌∷◌, ◌≡◌, ap, arith, Bool, cond, false, filter, inl}
-use Rattle.std.proofs.Common.{IsSome, List, Option, option_map, refl, Some, subst, sym, true, true≢false, ℕ}
-use Rattle.std.proofs.lemmas.List.Concat.{flat_map_single}
+use Rattle.std.proofs.Common.{IsSome, List, Option, refl, Some, subst, sym, true, true≢false, ℕ}
+use Rattle.std.proofs.lemmas.{Bool.Decides.nat_tests, List.Concat.flat_map_single}
 use Rattle.krs_types.specs.declared.context.{Context.Context, UidRings.UidRings}
-use Rattle.krs_model.specs.{Asks.Leaving.has_uid, Levels.is_in, Sound.{AllOwned, AreHoused, uids_of}}
-use Rattle.krs_model.specs.Table.{alter, at, IsBelow, map_values, put, Rises, Table, without}
-use Rattle.krs_model.proofs.Reach.Levels.{only_in, same_is}
-use Rattle.krs_model.proofs.Sound.Attached.{attached_alter, attached_at, attached_either, attached_fewer}
-use Rattle.krs_model.proofs.Sound.Attached.{attached_mapped, attached_without, attachments}
-use Rattle.krs_model.proofs.Sound.Changes.{kept_some, there_map, there_put}
+use Rattle.krs_model.specs.{Asks.Leaving.has_uid, Levels.is_in, Sound.{AllOwned, AreHoused, uids_of}, Table.alter}
+use Rattle.krs_model.specs.Table.{at, IsBelow, map_values, put, Rises, Table, without}
+use Rattle.krs_model.proofs.{Reach.Levels.{only_in, same_is}, Sound.Attached.{attached_alter, attached_at}}
+use Rattle.krs_model.proofs.Sound.Attached.{attached_either, attached_fewer, attached_mapped, attached_without}
+use Rattle.krs_model.proofs.Sound.{Attached.attachments, Changes.{kept_some, there_map, there_put}}
 use Rattle.krs_model.proofs.Tables.Changes.{at_alter_none, at_kept, at_map, at_or_apart, at_without_none}
-use Rattle.krs_model.proofs.Tables.Changes.{at_without_other, below_filter, below_put}
-use Rattle.krs_model.proofs.Tables.Rising.{alter_rises, filter_rises, map_rises, put_rises, without_rises}
+use Rattle.krs_model.proofs.Tables.{Changes.{at_without_other, below_filter, below_put}, Rising.alter_rises}
+use Rattle.krs_model.proofs.Tables.Rising.{filter_rises, map_rises, put_rises, without_rises}
 
 -- the uid of a context, as if it attached it
 abbrev pub own_uid : Context → List ℕ
@@ -34,9 +33,7 @@ has_owned contexts uids has = λ uid i. has uid (sym (in_uids contexts uid) ∙ 
 pub owner_there :
     (contexts : Table Context) (uids : Table UidRings) (number : ℕ) (c : Context) → at contexts number ≡ Some c
     → AllOwned contexts uids → IsSome (at uids c.caller.uid)
-owner_there contexts uids number c is owned =
-    let mine : is_in c.caller.uid (own_uid c) ≡ true = rw (same_is c.caller.uid c.caller.uid refl) refl in
-    owned_has contexts uids owned c.caller.uid (attached_at own_uid contexts number c c.caller.uid is mine)
+owner_there contexts uids number c is owned = search (same_is, owned_has, attached_at) depth 8
 
 below_on : {X : Type 0} (es : Table X) (n : ℕ) → IsBelow es n → IsBelow es (n + 1)
 below_on es n below = λ k le. below k (omega arith)
@@ -48,52 +45,29 @@ below_alter es n k f below = λ q le. at_alter_none es k q f (below q le)
 pub further_owned :
     (contexts : Table Context) (uids : Table UidRings) (n : ℕ) (c : Context) → IsSome (at uids c.caller.uid)
     → AllOwned contexts uids → AllOwned (put contexts n c) uids
-further_owned contexts uids n c there owned =
-    has_owned (put contexts n c) uids (λ uid i. ⊎_elim
-    (λ (mine : is_in uid (own_uid c) ≡ true).
-    subst (λ (z : ℕ). IsSome (at uids z)) (sym (only_in uid c.caller.uid mine)) there)
-    (λ was. owned_has contexts uids owned uid was) (attached_either own_uid contexts n c uid i))
+further_owned contexts uids n c there owned = grind (arith, nat_tests, has_owned, only_in, owned_has, attached_either)
 
 -- a further context of a further process
 pub entered_housed :
     (contexts : Table Context) (processes : Table (Option ℕ)) (uids : Table UidRings) (n : ℕ) (c : Context)
     (ring : Option ℕ) → IsSome (at uids c.caller.uid) → AreHoused contexts processes uids n
     → AreHoused (put contexts n c) (put processes n ring) uids (n + 1)
-entered_housed contexts processes uids n c ring there housed = record {
-  unused = below_put contexts (put contexts n c) n c refl housed.unused;
-  no_process = below_put processes (put processes n ring) n ring refl housed.no_process;
-  owned = further_owned contexts uids n c there housed.owned;
-  contexts_rise = put_rises contexts n c housed.contexts_rise;
-  processes_rise = put_rises processes n ring housed.processes_rise;
-  uids_rise = housed.uids_rise;
-}
+entered_housed contexts processes uids n c ring there housed =
+    grind (arith, nat_tests, below_put, further_owned, put_rises)
 
 -- a further context of a process
 pub threaded_housed :
     (contexts : Table Context) (processes : Table (Option ℕ)) (uids : Table UidRings) (n : ℕ) (c : Context)
     → IsSome (at uids c.caller.uid) → AreHoused contexts processes uids n
     → AreHoused (put contexts n c) processes uids (n + 1)
-threaded_housed contexts processes uids n c there housed = record {
-  unused = below_put contexts (put contexts n c) n c refl housed.unused;
-  no_process = below_on processes n housed.no_process;
-  owned = further_owned contexts uids n c there housed.owned;
-  contexts_rise = put_rises contexts n c housed.contexts_rise;
-  processes_rise = housed.processes_rise;
-  uids_rise = housed.uids_rise;
-}
+threaded_housed contexts processes uids n c there housed =
+    grind (arith, nat_tests, below_put, below_on, further_owned, put_rises)
 
 -- a further uid, or other keyrings of one
 pub uid_housed :
     (contexts : Table Context) (processes : Table (Option ℕ)) (uids : Table UidRings) (n uid : ℕ) (rings : UidRings)
     → AreHoused contexts processes uids n → AreHoused contexts processes (put uids uid rings) n
-uid_housed contexts processes uids n uid rings housed = record {
-  unused = housed.unused;
-  no_process = housed.no_process;
-  owned = λ k i. there_put uids uid k rings (housed.owned k i);
-  contexts_rise = housed.contexts_rise;
-  processes_rise = housed.processes_rise;
-  uids_rise = put_rises uids uid rings housed.uids_rise;
-}
+uid_housed contexts processes uids n uid rings housed = grind (arith, nat_tests, there_put, put_rises)
 
 -- the caller of a context stays
 abbrev pub UidStays : (Context → Context) → Type 0
@@ -123,45 +97,24 @@ pub process_housed :
     (contexts : Table Context) (processes : Table (Option ℕ)) (uids : Table UidRings) (n k : ℕ)
     (f : Option ℕ → Option ℕ) → AreHoused contexts processes uids n
     → AreHoused contexts (alter processes k f) uids n
-process_housed contexts processes uids n k f housed = record {
-  unused = housed.unused;
-  no_process = below_alter processes n k f housed.no_process;
-  owned = housed.owned;
-  contexts_rise = housed.contexts_rise;
-  processes_rise = alter_rises processes k f housed.processes_rise;
-  uids_rise = housed.uids_rise;
-}
+process_housed contexts processes uids n k f housed = search (below_alter, alter_rises) depth 8
 
 -- fewer contexts
 pub fewer_housed :
     (contexts : Table Context) (processes : Table (Option ℕ)) (uids : Table UidRings) (n : ℕ)
     (p : ℕ × Context → Bool) → AreHoused contexts processes uids n
     → AreHoused (filter p contexts) processes uids n
-fewer_housed contexts processes uids n p housed = record {
-  unused = below_filter p contexts (filter p contexts) n refl housed.unused;
-  no_process = housed.no_process;
-  owned = has_owned (filter p contexts) uids
-      (λ uid i. owned_has contexts uids housed.owned uid (attached_fewer own_uid p contexts uid i));
-  contexts_rise = filter_rises p contexts housed.contexts_rise;
-  processes_rise = housed.processes_rise;
-  uids_rise = housed.uids_rise;
-}
+fewer_housed contexts processes uids n p housed =
+    grind (arith, nat_tests, below_filter, has_owned, owned_has, attached_fewer, filter_rises)
 
 -- all of them changed
 pub mapped_housed :
     (contexts : Table Context) (processes : Table (Option ℕ)) (uids : Table UidRings) (n : ℕ) (f : Context → Context)
     (g : Option ℕ → Option ℕ) (h : UidRings → UidRings) → UidStays f → AreHoused contexts processes uids n
     → AreHoused (map_values f contexts) (map_values g processes) (map_values h uids) n
-mapped_housed contexts processes uids n f g h stays housed = record {
-  unused = λ q le. at_map f contexts q ∙ ap (option_map f) (housed.unused q le);
-  no_process = λ q le. at_map g processes q ∙ ap (option_map g) (housed.no_process q le);
-  owned = has_owned (map_values f contexts) (map_values h uids) (λ uid i.
-      there_map h uids uid (owned_has contexts uids housed.owned uid
-      (attached_mapped own_uid f contexts uid (λ v j. uid_stays f v uid stays j) i)));
-  contexts_rise = map_rises f contexts housed.contexts_rise;
-  processes_rise = map_rises g processes housed.processes_rise;
-  uids_rise = map_rises h uids housed.uids_rise;
-}
+mapped_housed contexts processes uids n f g h stays housed =
+    grind (arith, nat_tests, at_map, has_owned, there_map, owned_has, attached_mapped, uid_stays, map_rises) steps
+    600000
 
 -- a uid has a context
 uid_of_one : (es : Table Context) (uid : ℕ) → has_uid es uid ≡ is_in uid (attachments own_uid es)
@@ -193,9 +146,7 @@ pub there_unless :
     {X : Type 0} (has : ℕ → Bool) (es : Table X) (k q : ℕ) (stays : Bool) → has k ≡ stays → has q ≡ true
     → IsSome (at es q) → IsSome (at (cond stays es (without es k)) q)
 there_unless has es k q true is passes there = there
-there_unless has es k q false is passes there =
-    ⊎_elim (λ (same : q ≡ k). absurd (true≢false (sym (subst (λ (z : ℕ). has z ≡ true) same passes) ∙ is)))
-    (λ apart. subst IsSome (sym (at_without_other es k q apart)) there) (at_or_apart q k)
+there_unless has es k q false is passes there = grind (arith, nat_tests, true≢false, at_without_other, at_or_apart)
 
 below_unless :
     {X : Type 0} (es : Table X) (n k : ℕ) (stays : Bool) → IsBelow es n → IsBelow (cond stays es (without es k)) n

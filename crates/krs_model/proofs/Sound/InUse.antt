@@ -1,20 +1,20 @@
 -- A process and a uid are there only while they have a context, and the contexts of a process are of one uid, after
 -- whatever is asked.
-use Rattle.std.proofs.Common.{⊎_elim, ◌==◌, ◌||◌, ◌∙◌, ◌≡◌, ◌⊎◌, ap, arith, Bool, cond, false, filter, inl, inr, IsSome}
-use Rattle.std.proofs.Common.{None, not, Option, option_map, refl, Some, subst, sym, true, true≢false, ℕ}
+use Rattle.std.proofs.Common.{⊎_elim, ◌==◌, ◌||◌, ◌∙◌, ◌≡◌, ◌⊎◌, ap, arith, Bool, false, filter, IsSome, None, not}
+use Rattle.std.proofs.Common.{Option, option_map, refl, Some, subst, sym, true, true≢false, ℕ}
 use Rattle.std.proofs.lemmas.{Bool.Decides.nat_tests, Option.{none-some, same_Some}}
 use Rattle.krs_types.specs.declared.{ask.Op.Op, caller.Caller.Caller, context.{Context.Context, UidRings.UidRings}}
-use Rattle.krs_model.specs.Asks.{Entering.{execed, without_thread}, Invalidating.{context_without, detached}}
-use Rattle.krs_model.specs.Asks.{Invalidating.rings_without, Leaving.{contexts_without, exited, has_process, has_uid}}
-use Rattle.krs_model.specs.{Asks.Leaving.left, Sound.{AreInUse, HasContext}, State.State, Table.{alter, at, IsDistinct}}
-use Rattle.krs_model.specs.Table.{map_values, put, Table, without}
+use Rattle.krs_model.specs.Asks.{Entering.{execed, without_thread}, Leaving.{contexts_without, exited, has_process}}
+use Rattle.krs_model.specs.{Asks.Leaving.{has_uid, left}, Sound.{AreInUse, HasContext}, State.State, Table.alter}
+use Rattle.krs_model.specs.Table.{at, IsDistinct, map_values, put, Table, without}
 use Rattle.krs_model.proofs.Asks.Houses.{Alters, Begins, Departs, Detaches, entering, Enters, Execs, Exits, Houses}
 use Rattle.krs_model.proofs.{Asks.Houses.{Rings, Same, StaysWhose, Threads}, Lookups.Serials.own_there}
 use Rattle.krs_model.proofs.{Reach.Levels.{or_true, same_is}, Sound.Changes.{at_change, at_put, IsChanged, IsPut}}
-use Rattle.krs_model.proofs.Sound.{Changes.{not_there, Stands}, NewContexts.own_process_there}
-use Rattle.krs_model.proofs.Tables.{Changes.{at_alter_same, at_kept, at_map, at_put_same}, Distinct.alter_distinct}
-use Rattle.krs_model.proofs.Tables.{Distinct.{at_filter_some, filter_distinct, without_distinct}, Entries.filter_still}
-use Rattle.krs_model.proofs.Tables.Entries.{find_entry, left_unless, rises_distinct, still_unless, without_was}
+use Rattle.krs_model.proofs.Sound.{Changes.{not_there, Stands, was_mapped}, NewContexts.own_process_there}
+use Rattle.krs_model.proofs.{Sweep.Laws.kept_there, Tables.Changes.{at_alter_same, at_kept, at_map, at_put_same}}
+use Rattle.krs_model.proofs.Tables.Distinct.{alter_distinct, at_filter_some, filter_distinct, without_distinct}
+use Rattle.krs_model.proofs.Tables.{Each.put_is, Entries.{filter_still, find_entry, left_unless, rises_distinct}}
+use Rattle.krs_model.proofs.Tables.Entries.{still_unless, without_was}
 
 -- contexts of a process are of one uid
 abbrev AreAlike : Table Context → Type 0
@@ -26,27 +26,12 @@ AreAlike contexts =
 still_put :
     (contexts : Table Context) (n : ℕ) (new : Context) (P : Context → Type 0) → at contexts n ≡ None
     → HasContext contexts P → HasContext (put contexts n new) P
-still_put contexts n new P none has = record {
-  number = has.number;
-  context = has.context;
-  there = ⊎_elim
-      (λ (r : IsPut contexts n new has.number).
-      absurd (none-some has.context (sym none ∙ (ap (at contexts) (sym r.0) ∙ has.there))))
-      (λ same. same ∙ has.there) (at_put contexts n has.number new);
-  so = has.so;
-}
+still_put contexts n new P none has = grind (arith, nat_tests, none-some, at_put)
 
 new_put :
     (contexts : Table Context) (n : ℕ) (new : Context) (P : Context → Type 0) → P new → HasContext (put contexts n new) P
 new_put contexts n new P so =
     record { number = n; context = new; there = at_put_same contexts n new; so = so }
-
-put_is :
-    (contexts : Table Context) (n k : ℕ) (new c : Context) → at (put contexts n new) k ≡ Some c
-    → (new ≡ c) ⊎ (at contexts k ≡ Some c)
-put_is contexts n k new c is =
-    ⊎_elim (λ (r : IsPut contexts n new k). inl (same_Some new c (sym r.1 ∙ is))) (λ same. inr (sym same ∙ is))
-    (at_put contexts n k new)
 
 abbrev process_of : Context → ℕ
 process_of c = c.process
@@ -58,14 +43,7 @@ alike_put :
     (contexts : Table Context) (n : ℕ) (new : Context)
     → ((m : ℕ) (d : Context) → at contexts m ≡ Some d → d.process ≡ new.process → d.caller.uid ≡ new.caller.uid)
     → AreAlike contexts → AreAlike (put contexts n new)
-alike_put contexts n new with alike k l c d is there same =
-    ⊎_elim
-    (λ (first : new ≡ c). ⊎_elim (λ (second : new ≡ d). ap uid_of (sym first ∙ second))
-    (λ was. ap uid_of (sym first) ∙ sym (with l d was (sym same ∙ ap process_of (sym first))))
-    (put_is contexts n l new d there))
-    (λ old. ⊎_elim
-    (λ (second : new ≡ d). with k c old (same ∙ ap process_of (sym second)) ∙ ap uid_of second)
-    (λ was. alike k l c d old was same) (put_is contexts n l new d there)) (put_is contexts n k new c is)
+alike_put contexts n new with alike k l c d is there same = grind (arith, nat_tests, put_is)
 
 -- each context was there, of the same process and uid
 abbrev CameFrom : Table Context → Table Context → Type 0
@@ -74,10 +52,7 @@ CameFrom old new =
     → (was : Context) × (at old m ≡ Some was) × (c.process ≡ was.process) × (c.caller.uid ≡ was.caller.uid)
 
 alike_from : (old new : Table Context) → CameFrom old new → AreAlike old → AreAlike new
-alike_from old new from alike = λ k l c d is there same.
-    let a = from k c is in
-    let b = from l d there in
-    a.3 ∙ (alike k l a.0 b.0 a.1 b.1 (sym a.2 ∙ (same ∙ b.2)) ∙ sym b.3)
+alike_from old new from alike = grind (arith, nat_tests)
 
 changed_from :
     (f : Context → Context) (o : Option Context) (c : Context) → StaysWhose f → option_map f o ≡ Some c
@@ -89,9 +64,7 @@ changed_from f (Some v) c stays h =
 
 alter_from :
     (contexts : Table Context) (n : ℕ) (f : Context → Context) → StaysWhose f → CameFrom contexts (alter contexts n f)
-alter_from contexts n f stays = λ m c is.
-    ⊎_elim (λ (r : IsChanged contexts n f m). changed_from f (at contexts m) c stays (sym r.1 ∙ is))
-    (λ same. (c, sym same ∙ is, refl, refl)) (at_change contexts n m f)
+alter_from contexts n f stays = grind (arith, nat_tests, changed_from, at_change)
 
 map_from :
     (contexts : Table Context) (f : Context → Context) → StaysWhose f → CameFrom contexts (map_values f contexts)
@@ -115,12 +88,7 @@ still_alter contexts n f P stays has =
 still_map :
     (contexts : Table Context) (f : Context → Context) (P : Context → Type 0) → ((v : Context) → P v → P (f v))
     → HasContext contexts P → HasContext (map_values f contexts) P
-still_map contexts f P stays has = record {
-  number = has.number;
-  context = f has.context;
-  there = at_map f contexts has.number ∙ ap (option_map f) has.there;
-  so = stays has.context has.so;
-}
+still_map contexts f P stays has = grind (arith, nat_tests, at_map)
 
 -- the other contexts of the process go, and its own stays
 execed_has :
@@ -158,23 +126,10 @@ execed_has s number c P is stays moves has =
 entering_alike :
     (s : State) (client : ℕ) (c : Caller) (session : Option ℕ) → Stands s → AreInUse s.contexts s.processes s.uids
     → AreAlike (put s.contexts s.next_context (entering s client c session))
-entering_alike s client c session stands used =
-    alike_put s.contexts s.next_context (entering s client c session)
-    (λ m d is same. absurd (not_there (at s.processes d.process) (own_process_there s m d is stands.placed)
-    (ap (at s.processes) same ∙ stands.housed.no_process s.next_context (omega arith)))) used.alike
-
-pub was_mapped : {X Y : Type 0} (f : X → Y) (o : Option X) → IsSome (option_map f o) → IsSome o
-was_mapped f None h = h
-was_mapped f (Some v) h = refl
+entering_alike s client c session stands used = grind (arith, nat_tests, alike_put, not_there, own_process_there)
 
 was_altered : {X : Type 0} (es : Table X) (n : ℕ) (f : X → X) (k : ℕ) → IsSome (at (alter es n f) k) → IsSome (at es k)
-was_altered es n f k h =
-    ⊎_elim (λ (r : IsChanged es n f k). was_mapped f (at es k) (subst IsSome r.1 h)) (λ same. subst IsSome same h)
-    (at_change es n k f)
-
-kept_is_some : {X : Type 0} (b : Bool) (o : Option X) → IsSome (cond b o None) → (b ≡ true) × IsSome o
-kept_is_some true o h = (refl, h)
-kept_is_some false o h = absurd (true≢false (sym h))
+was_altered es n f k h = grind (arith, nat_tests, was_mapped, at_change)
 
 -- a context with such a process, or of such a uid, is found by a test
 found_process : (contexts : Table Context) (p : ℕ) → IsDistinct contexts → has_process contexts p ≡ true
@@ -242,24 +197,17 @@ left_in_use s client stands used =
     let distinct = filter_distinct (λ e. not (e.1.client == client)) s.contexts all in
     record {
       process = λ p there. found_process contexts p distinct
-          (kept_is_some (has_process contexts p) (at s.processes p)
+          (kept_there (has_process contexts p) (at s.processes p)
           (subst IsSome (at_kept (has_process contexts) s.processes p) there)).0;
       owner = λ uid there. found_uid contexts uid distinct
-          (kept_is_some (has_uid contexts uid) (at s.uids uid)
+          (kept_there (has_uid contexts uid) (at s.uids uid)
           (subst IsSome (at_kept (has_uid contexts) s.uids uid) there)).0;
-      alike = alike_from s.contexts contexts
-          (λ m d there. (d, at_filter_some (λ e. not (e.1.client == client)) s.contexts m d all there, refl, refl))
-          used.alike;
+      alike = grind (arith, nat_tests, alike_from, at_filter_some);
     }
 
 execed_from :
     (s : State) (number : ℕ) (c : Context) → Stands s → CameFrom s.contexts (execed s number c).contexts
-execed_from s number c stands = λ m d there.
-    let one = alter s.contexts number without_thread in
-    let distinct = alter_distinct s.contexts number without_thread
-    (rises_distinct s.contexts stands.housed.contexts_rise) in
-    alter_from s.contexts number without_thread (record { client = λ v. refl; process = λ v. refl; caller = λ v. refl }) m d
-    (at_filter_some _ one m d distinct there)
+execed_from s number c stands = grind (arith, nat_tests, alter_distinct, rises_distinct, alter_from, at_filter_some)
 
 -- whatever an accepted ask does to them
 pub houses_in_use :
@@ -272,10 +220,7 @@ houses_in_use s client context op _ _ _ stands used (Begins c session rings room
     let n = s.next_context in
     let unused = stands.housed.unused n (omega arith) in
     record {
-      process = λ p there. ⊎_elim
-          (λ (r : IsPut s.processes n None p). new_put s.contexts n new (λ v. v.process ≡ p) (sym r.0))
-          (λ same. still_put s.contexts n new (λ v. v.process ≡ p) unused (used.process p (subst IsSome same there)))
-          (at_put s.processes n p None);
+      process = grind (arith, nat_tests, new_put, still_put, at_put);
       owner = λ uid there. ⊎_elim
           (λ (r : IsPut s.uids c.uid rings uid). new_put s.contexts n new (λ v. v.caller.uid ≡ uid) (sym r.0))
           (λ same. still_put s.contexts n new (λ v. v.caller.uid ≡ uid) unused (used.owner uid (subst IsSome same there)))
@@ -283,60 +228,17 @@ houses_in_use s client context op _ _ _ stands used (Begins c session rings room
       alike = entering_alike s client c session stands used;
     }
 houses_in_use s client context op _ _ _ stands used (Enters c session room who left) =
-    let new = entering s client c session in
-    let n = s.next_context in
-    let unused = stands.housed.unused n (omega arith) in
-    record {
-      process = λ p there. ⊎_elim
-          (λ (r : IsPut s.processes n None p). new_put s.contexts n new (λ v. v.process ≡ p) (sym r.0))
-          (λ same. still_put s.contexts n new (λ v. v.process ≡ p) unused (used.process p (subst IsSome same there)))
-          (at_put s.processes n p None);
-      owner = λ uid there. still_put s.contexts n new (λ v. v.caller.uid ≡ uid) unused (used.owner uid there);
-      alike = entering_alike s client c session stands used;
-    }
+    grind (arith, nat_tests, new_put, still_put, at_put, entering_alike)
 houses_in_use s client context op _ _ _ stands used (Threads c room by own left) =
-    let new = without_thread c in
-    let n = s.next_context in
-    let unused = stands.housed.unused n (omega arith) in
-    record {
-      process = λ p there. still_put s.contexts n new (λ v. v.process ≡ p) unused (used.process p there);
-      owner = λ uid there. still_put s.contexts n new (λ v. v.caller.uid ≡ uid) unused (used.owner uid there);
-      alike = alike_put s.contexts n new
-          (λ m d is same. used.alike m context d c is (own_there s client context c own) same) used.alike;
-    }
-houses_in_use s client context op _ _ _ stands used (Alters c f own stays) = record {
-  process = λ p there.
-      still_alter s.contexts context f (λ v. v.process ≡ p) (λ v e. stays.process v ∙ e) (used.process p there);
-  owner = λ uid there. still_alter s.contexts context f (λ v. v.caller.uid ≡ uid)
-      (λ v e. ap (λ (z : Caller). z.uid) (stays.caller v) ∙ e) (used.owner uid there);
-  alike = alike_from s.contexts (alter s.contexts context f) (alter_from s.contexts context f stays) used.alike;
-}
-houses_in_use s client context op _ _ _ stands used (Rings c n own) = record {
-  process = λ p there. used.process p (was_altered s.processes c.process (λ none. Some n) p there);
-  owner = used.owner;
-  alike = used.alike;
-}
+    grind (arith, nat_tests, still_put, alike_put, own_there)
+houses_in_use s client context op _ _ _ stands used (Alters c f own stays) =
+    grind (arith, nat_tests, still_alter, alike_from, alter_from)
+houses_in_use s client context op _ _ _ stands used (Rings c n own) = grind (arith, nat_tests, was_altered)
 houses_in_use s client context op _ _ _ stands used (Execs c by own) =
     let is = own_there s client context c own in
-    record {
-      process = λ p there. execed_has s context c (λ v. v.process ≡ p) is (λ v e. e) (λ m v at_m e same. sym same ∙ e)
-          (used.process p (was_altered s.processes c.process (λ ring. None) p there));
-      owner = λ uid there. execed_has s context c (λ v. v.caller.uid ≡ uid) is (λ v e. e)
-          (λ m v at_m e same. used.alike context m c v is at_m (sym same) ∙ e) (used.owner uid there);
-      alike = alike_from s.contexts (execed s context c).contexts (execed_from s context c stands) used.alike;
-    }
+    grind (arith, nat_tests, execed_has, was_altered, alike_from, execed_from)
 houses_in_use s client context op _ _ _ stands used (Detaches c id gone by own is) =
-    let f = context_without gone.0 in
-    record {
-      process = λ p there. still_map s.contexts f (λ v. v.process ≡ p) (λ v e. e) (used.process p
-          (was_mapped (detached gone.0) (at s.processes p)
-          (subst IsSome (at_map (detached gone.0) s.processes p) there)));
-      owner = λ uid there. still_map s.contexts f (λ v. v.caller.uid ≡ uid) (λ v e. e) (used.owner uid
-          (was_mapped (rings_without gone.0) (at s.uids uid)
-          (subst IsSome (at_map (rings_without gone.0) s.uids uid) there)));
-      alike = alike_from s.contexts (map_values f s.contexts)
-          (map_from s.contexts f (record { client = λ v. refl; process = λ v. refl; caller = λ v. refl })) used.alike;
-    }
+    grind (arith, nat_tests, still_map, was_mapped, at_map, alike_from, map_from)
 houses_in_use s client context op _ _ _ stands used (Exits c by own) =
     exited_in_use s context c stands used (own_there s client context c own)
 houses_in_use s client context op _ _ _ stands used (Departs is) = left_in_use s client stands used

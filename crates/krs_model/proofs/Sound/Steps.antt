@@ -1,16 +1,13 @@
 -- Each step leaves a store sound.
-use Rattle.std.proofs.Common.{[], ◌++◌, ◌∷◌, ◌≡◌, ap, arith, Err, List, Ok, Option, refl, Result, subst, sym}
-use Rattle.std.proofs.Common.{true≢false, ℕ}
+use Rattle.std.proofs.Common.{[], ◌++◌, ◌∷◌, ◌≡◌, ap, append-nil, append_assoc, arith, Err, List, Ok, refl, Result}
+use Rattle.std.proofs.{Common.{subst, sym, true≢false, ℕ}, lemmas.{Bool.Decides.nat_tests, Option.none-some}}
 use Rattle.std.specs.List.Sorted.{IsStrictlySortedBy}
-use Rattle.std.proofs.lemmas.Option.{none-some}
-use Rattle.krs_types.specs.declared.ask.{Answer.Answer, Op.Op}
-use Rattle.krs_types.specs.declared.{context.{Context.Context, UidRings.UidRings}, errno.Errno.Errno, event.Event.Event}
-use Rattle.krs_model.specs.{History.IsLegal, Notes.Posting.{dropped_watches, Post, posted_in}}
-use Rattle.krs_model.specs.{Notes.Telling.notes_of, Orderly.{AreOrderly, Each, IsWatch}, Queues.queues_of}
-use Rattle.krs_model.specs.Reach.{Directly, Further, IsAcyclic, links_of_key_at, Reaches}
-use Rattle.krs_model.specs.{Sound.{AreHoused, AreInUse, IsSound}, State.{Key, Queue, raised, starting_at, State}}
-use Rattle.krs_model.specs.Step.{Ends, outcome_of, posts_by, Serves, Step, watches_left}
-use Rattle.krs_model.specs.{Sweep.{IsSweep, IsSwept}, Table.{IsBelow, Rises, Table}}
+use Rattle.krs_types.specs.declared.{ask.{Answer.Answer, Op.Op}, errno.Errno.Errno, event.Event.Event}
+use Rattle.krs_model.specs.{History.IsLegal, Notes.{Posting.{dropped_watches, Post, posted_in}, Telling.notes_of}}
+use Rattle.krs_model.specs.{Orderly.{AreOrderly, Each, IsWatch}, Queues.queues_of, Reach.{Directly, Further}}
+use Rattle.krs_model.specs.{Reach.{IsAcyclic, links_of_key_at, Reaches}, Sound.{AreHoused, AreInUse, IsSound}}
+use Rattle.krs_model.specs.{State.{Key, Queue, raised, starting_at, State}, Step.{Ends, outcome_of, posts_by, Serves}}
+use Rattle.krs_model.specs.{Step.{Step, watches_left}, Sweep.{IsSweep, IsSwept}, Table.{IsBelow, Rises, Table}}
 use Rattle.krs_model.proofs.Asks.{Effects.effect_of, GreatestSerial.{few_swept, mid_few}, Laws.law_of}
 use Rattle.krs_model.proofs.Notes.Fitting.{ArePosts, each_filter, each_on, FitsRecord, posts_fit}
 use Rattle.krs_model.proofs.Sound.{Changes.{same_stands, Stands, sweep_stands}, InUse.houses_in_use}
@@ -22,43 +19,16 @@ posted_stands : (ps : List Post) (s : State) → Stands s → Stands (posted_in 
 posted_stands ps s stands = same_stands s _ refl refl stands.attached stands.placed stands.housed stands
 
 pub sound_stands : (s : State) → IsSound s → Stands s
-sound_stands s sound = record {
-  acyclic = sound.acyclic;
-  linked = sound.linked;
-  attached = sound.attached;
-  placed = sound.placed;
-  housed = sound.housed;
-  fitting = sound.fitting;
-  rising = sound.rising;
-  once = sound.once;
-  unused = sound.unused;
-}
+sound_stands s sound = search depth 8
 
 stands_sound :
     (s : State) → Stands s → AreInUse s.contexts s.processes s.uids → IsBelow s.keys 2147483648 → IsSwept s
     → AreOrderly (queues_of s) → IsSound s
-stands_sound s stands used few swept orderly = record {
-  acyclic = stands.acyclic;
-  linked = stands.linked;
-  attached = stands.attached;
-  placed = stands.placed;
-  housed = stands.housed;
-  used = used;
-  fitting = stands.fitting;
-  rising = stands.rising;
-  once = stands.once;
-  unused = stands.unused;
-  few = few;
-  swept = swept;
-  orderly = orderly;
-}
+stands_sound s stands used few swept orderly = search depth 8
 
 -- the clock alone
 pub raised_sound : (s : State) (moment : ℕ) → IsSound s → IsSound (raised s moment)
-raised_sound s moment sound =
-    let up = raised s moment in
-    stands_sound up (same_stands s up refl refl sound.attached sound.placed sound.housed (sound_stands s sound))
-    sound.used sound.few (record { keys = sound.swept.keys; watches = sound.swept.watches }) sound.orderly
+raised_sound s moment sound = search (stands_sound, same_stands, sound_stands) depth 8
 
 each_append : (P : queues.Watch → Type 0) (vs ws : List queues.Watch) → Each P vs → Each P ws → Each P (vs ++ ws)
 each_append P [] ws f g = g
@@ -125,9 +95,7 @@ end_sound s new client context op (Err e) sound ends = subst IsSound (sym ends.1
 -- each step leaves a store sound
 pub step_sound : (old new : State) (event : Event) → IsSound old → Step old event new → IsSound new
 unfolding Step
-step_sound old new event sound step =
-    end_sound (raised old event.moment) new event.lane event.ask.context event.ask.op event.reply
-    (raised_sound old event.moment sound) step
+step_sound old new event sound step = grind (arith, nat_tests, end_sound, raised_sound)
 
 -- before the sweep no keyring reaches itself
 pub served_acyclic :
@@ -146,42 +114,11 @@ unfolding IsStrictlySortedBy
 none_rise X = tt
 
 none_housed : AreHoused [] [] [] 1
-none_housed = record {
-  unused = λ k le. refl;
-  no_process = λ k le. refl;
-  owned = λ uid i. absurd (true≢false (sym i));
-  contexts_rise = none_rise Context;
-  processes_rise = none_rise (Option ℕ);
-  uids_rise = none_rise UidRings;
-}
+none_housed = search (true≢false, none_rise) depth 8
 
 -- an empty store is sound
 pub start_sound : (n : ℕ) → IsSound (starting_at n)
-start_sound n = record {
-  acyclic = λ k p. not_linked k k p;
-  linked = λ j k i. absurd (true≢false (sym i));
-  attached = λ k i. absurd (true≢false (sym i));
-  placed = λ p i. absurd (true≢false (sym i));
-  housed = none_housed;
-  used = record {
-    process = λ p there. absurd (true≢false (sym there));
-    owner = λ uid there. absurd (true≢false (sym there));
-    alike = λ m k c d is. absurd (none-some c is);
-  };
-  fitting = λ serial key no. absurd (none-some key no);
-  rising = none_rise Key;
-  once = λ ring name. omega arith;
-  unused = λ k le. refl;
-  few = λ k le. refl;
-  swept = record { keys = λ k there. absurd (true≢false (sym there)); watches = refl };
-  orderly = record {
-    unused = λ k le. refl;
-    distinct = tt;
-    watches = tt;
-    rising = tt;
-    queues = λ k v there. absurd (none-some v there);
-  };
-}
+start_sound n = grind (arith, nat_tests, not_linked, true≢false, none_housed, none-some, none_rise)
 
 -- and so is the end of each legal history
 pub legal_sound :
@@ -190,3 +127,18 @@ unfolding IsLegal
 legal_sound start [] end sound legal = subst IsSound legal sound
 legal_sound start (event ∷ events) end sound legal =
     legal_sound legal.0 events end (step_sound start legal.0 event sound legal.1) legal.2
+
+-- what each step keeps, a legal history keeps
+pub legal_keeps :
+    (P : State → List Event → Type 0)
+    → ((old new : State) (past : List Event) (event : Event) → IsSound old → P old past → Step old event new
+    → P new (past ++ event ∷ []))
+    → (start end : State) (past events : List Event) → IsSound start → P start past → IsLegal start events end
+    → P end (past ++ events)
+unfolding IsLegal
+legal_keeps P step start end past [] sound known legal =
+    subst (P end) (sym (append-nil past)) (subst (λ (s : State). P s past) legal known)
+legal_keeps P step start end past (event ∷ events) sound known legal =
+    subst (P end) (append_assoc past (event ∷ []) events)
+    (legal_keeps P step legal.0 end (past ++ event ∷ []) events (step_sound start legal.0 event sound legal.1)
+    (step start legal.0 past event sound known legal.1) legal.2)

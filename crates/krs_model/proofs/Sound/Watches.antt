@@ -1,9 +1,8 @@
 -- Watches by rising key, then queue.
-use Rattle.std.proofs.Common.{[], ◌∙◌, ◌∷◌, ◌≡◌, ap, Bool, cond, false, filter, is_eq, List, nat_cmp, refl, sym, true}
-use Rattle.std.proofs.Common.{ℕ}
-use Rattle.std.specs.{BTreeMap.is_at, Cmp.then_flip, Ordering.{match_ordering, ordering_reverse, ordering_then}}
-use Rattle.std.specs.declared.cmp.Ordering.TheVariants.{Equal, Greater, Less}
-use Rattle.std.proofs.lemmas.Cmp.{nat_cmp_total}
+use Rattle.std.proofs.Common.{[], ◌∙◌, ◌∷◌, ◌≡◌, ap, arith, Bool, filter, is_eq, List, nat_cmp, refl, sym, ℕ}
+use Rattle.std.proofs.lemmas.{Bool.Decides.nat_tests, Cmp.nat_cmp_total}
+use Rattle.std.specs.{declared.cmp.Ordering.TheVariants.{Equal, Greater, Less}, Ordering.match_ordering}
+use Rattle.std.specs.Ordering.{ordering_then}
 use Rattle.krs_model.specs.{Orderly.{AreRising, Each}, Queues.{place_cmp, Watch, with_watch, without_watch}}
 use Rattle.krs_model.proofs.{Notes.Fitting.{each_filter, each_on}, Tables.Changes.same_at}
 
@@ -12,41 +11,23 @@ IsAfter w v = place_cmp w.0 v.0 ≡ Less
 
 pub filter_rising : (p : Watch → Bool) (ws : List Watch) → AreRising ws → AreRising (filter p ws)
 filter_rising p [] h = tt
-filter_rising p (w ∷ ws) h =
-    elim (p w) as (λ b. AreRising (cond b (w ∷ filter p ws) (filter p ws))) [
-      | true ↦ (each_filter (IsAfter w) p ws h.0, filter_rising p ws h.1)
-      | false ↦ filter_rising p ws h.1
-    ]
+filter_rising p (w ∷ ws) h = grind (arith, nat_tests, each_filter, filter_rising p ws h.1)
 
 pub each_without :
     (P : Watch → Type 0) (ws : List Watch) (key number : ℕ) → Each P ws → Each P (without_watch ws key number)
 each_without P [] key number h = tt
-each_without P (w ∷ ws) key number h =
-    elim (is_at (place_cmp (key, number)) w.0) as (λ b. Each P (cond b ws (w ∷ without_watch ws key number))) [
-      | true ↦ h.1
-      | false ↦ (h.0, each_without P ws key number h.1)
-    ]
+each_without P (w ∷ ws) key number h = grind (arith, nat_tests, each_without P ws key number h.1)
 
 pub without_rising : (ws : List Watch) (key number : ℕ) → AreRising ws → AreRising (without_watch ws key number)
 without_rising [] key number h = tt
-without_rising (w ∷ ws) key number h =
-    elim (is_at (place_cmp (key, number)) w.0) as (λ b. AreRising (cond b ws (w ∷ without_watch ws key number))) [
-      | true ↦ h.1
-      | false ↦ (each_without (IsAfter w) ws key number h.0, without_rising ws key number h.1)
-    ]
+without_rising (w ∷ ws) key number h = grind (arith, nat_tests, each_without, without_rising ws key number h.1)
 
 -- a statement of the places and of the ids of watches
 pub each_with :
     (P : Watch → Type 0) (ws : List Watch) (key number n : ℕ) → P ((key, number), n)
     → ((w : Watch) → P w → P (w.0, n)) → Each P ws → Each P (with_watch ws key number n)
 each_with P [] key number n new again h = (new, tt)
-each_with P (w ∷ ws) key number n new again h =
-    elim (place_cmp (key, number) w.0) as
-    (λ r. Each P (match_ordering r (((key, number), n) ∷ w ∷ ws) ((w.0, n) ∷ ws) (w ∷ with_watch ws key number n))) [
-      | Less ↦ (new, h)
-      | Equal ↦ (again w h.0, h.1)
-      | Greater ↦ (h.0, each_with P ws key number n new again h.1)
-    ]
+each_with P (w ∷ ws) key number n new again h = grind (arith, nat_tests, each_with P ws key number n new again h.1)
 
 same_number : (a b : ℕ) → nat_cmp a b ≡ Equal → a ≡ b
 same_number a b h = same_at a b (ap is_eq h)
@@ -75,10 +56,7 @@ place_trans x y z h k =
     ] refl h
 
 place_flip : (x y : ℕ × ℕ) → place_cmp x y ≡ Greater → place_cmp y x ≡ Less
-place_flip x y h =
-    ap (λ o. ordering_then o (nat_cmp y.1 x.1)) (nat_cmp_total.antisymm y.0 x.0)
-    ∙ (ap (ordering_then (ordering_reverse (nat_cmp x.0 y.0))) (nat_cmp_total.antisymm y.1 x.1)
-    ∙ (then_flip (nat_cmp x.0 y.0) (nat_cmp x.1 y.1) ∙ ap ordering_reverse h))
+place_flip x y h = grind (arith, nat_tests, nat_cmp_total)
 
 pub with_rising : (ws : List Watch) (key number n : ℕ) → AreRising ws → AreRising (with_watch ws key number n)
 with_rising [] key number n h = (tt, tt)

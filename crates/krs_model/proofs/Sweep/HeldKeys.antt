@@ -1,14 +1,15 @@
 -- In an acyclic state a closed choice is that of the held keys.
-use Rattle.std.proofs.Common.{[], ⊎_elim, ◌+◌, ◌==◌, ◌||◌, ◌∙◌, ◌∷◌, ◌≡◌, ◌≤◌, arith, Bool, false, inl, inr, IsSome}
+use Rattle.std.proofs.Common.{[], ⊎_elim, ◌+◌, ◌==◌, ◌||◌, ◌∷◌, ◌≡◌, ◌≤◌, arith, Bool, false, inl, inr, IsSome}
 use Rattle.std.proofs.Common.{length, List, nat_cmp, refl, subst, suc, sym, true, true≢false, zero, ℕ}
-use Rattle.std.specs.{BTreeMap.is_at, Cmp.{eq_by_cmp_equiv, nat_cmp_total}, List.{AllByRecursion, IsDistinct, list_any}}
-use Rattle.std.specs.Ordering.{eq_by_cmp}
-use Rattle.std.proofs.lemmas.{Bool.{cases_eq, Decides.nat_tests}, Map.{Keys.IsDistinct-cons, Steps.length-le_from_keys}}
-use Rattle.krs_model.specs.Anchored.{IsAnchored, IsClosedChoice}
-use Rattle.krs_model.specs.{Levels.is_in, Reach.{Directly, Further, IsAcyclic, links_of_key_at, Reaches}, State.Key}
-use Rattle.krs_model.specs.{Sweep.{Attached, IsHeld, Linked, PicksHeld}, Table.{at, Table}}
-use Rattle.krs_model.proofs.Reach.Acyclic.{reaches_on}
-use Rattle.krs_model.proofs.{Reach.Levels.{or_true, same_is}, Sweep.Laws.linking_is_there, Tables.Changes.same_at}
+use Rattle.std.proofs.lemmas.{Bool.{cases_eq, Decides.nat_tests}, Map.Keys.IsDistinct-cons}
+use Rattle.std.proofs.lemmas.Map.Steps.{length-le_from_keys}
+use Rattle.std.specs.{BTreeMap.is_at, Cmp.{eq_by_cmp_equiv, nat_cmp_total}, List.{AllByRecursion, IsDistinct}}
+use Rattle.std.specs.{List.list_any, Ordering.eq_by_cmp}
+use Rattle.krs_model.specs.{Anchored.{IsAnchored, IsClosedChoice}, Levels.is_in, Reach.{Directly, Further, IsAcyclic}}
+use Rattle.krs_model.specs.{Reach.{links_of_key_at, Reaches}, State.Key, Sweep.{Attached, IsHeld, Linked, PicksHeld}}
+use Rattle.krs_model.specs.Table.{at, Table}
+use Rattle.krs_model.proofs.{Reach.{Acyclic.reaches_on, Levels.{or_true, same_is}}, Sweep.Laws.linking_is_there}
+use Rattle.krs_model.proofs.Tables.Changes.{same_at}
 
 -- the first of a list is in it
 pub in_head : (k : ℕ) (ks : List ℕ) → is_in k (k ∷ ks) ≡ true
@@ -16,38 +17,22 @@ in_head k ks = rw (same_is k k refl) refl
 
 -- another number is not the same by test
 pub other_is : (x k : ℕ) → (x ≡ k → ⊥) → (x == k) ≡ false
-other_is x k h = elim (x == k) as (λ b. (x == k) ≡ b → b ≡ false) [
-  | true ↦ λ t. absurd (h (grind (arith, nat_tests)))
-  | false ↦ λ t. refl
-] refl
+other_is x k h = grind (arith, nat_tests)
 
 -- what is in a list and is not its first is in the rest
 pub in_rest : (q k : ℕ) (ks : List ℕ) → (q ≡ k → ⊥) → is_in q (k ∷ ks) ≡ true → is_in q ks ≡ true
 in_rest q k ks n h = subst (λ b. (b || is_in q ks) ≡ true) (other_is k q (λ s. n (sym s))) h
 
 is_at_other : (q k : ℕ) → (q ≡ k → ⊥) → is_at (nat_cmp q) k ≡ false
-is_at_other q k h = elim (is_at (nat_cmp q) k) as (λ b. is_at (nat_cmp q) k ≡ b → b ≡ false) [
-  | true ↦ λ t. absurd (h (same_at q k t))
-  | false ↦ λ t. refl
-] refl
+is_at_other q k h = grind (arith, nat_tests, same_at)
 
 out_all : (j : ℕ) (vs : List ℕ) → is_in j vs ≡ false → AllByRecursion (λ y. eq_by_cmp nat_cmp j y ≡ false) vs
 out_all j [] h = tt
-out_all j (v ∷ vs) h =
-    elim (v == j) as (λ b. (v == j) ≡ b → (b || is_in j vs) ≡ false
-    → AllByRecursion (λ y. eq_by_cmp nat_cmp j y ≡ false) (v ∷ vs)) [
-      | true ↦ λ t g. absurd (true≢false g)
-      | false ↦ λ t g. (is_at_other j v (λ s. true≢false (sym (same_is v j (sym s)) ∙ t)), out_all j vs g)
-    ] refl h
+out_all j (v ∷ vs) h = grind (arith, nat_tests, true≢false, is_at_other, same_is, out_all j vs)
 
 any_in : (q : ℕ) (vs : List ℕ) → list_any (eq_by_cmp nat_cmp q) vs ≡ true → is_in q vs ≡ true
 any_in q [] h = h
-any_in q (v ∷ vs) h =
-    elim (is_at (nat_cmp q) v) as (λ b. is_at (nat_cmp q) v ≡ b → (b || list_any (eq_by_cmp nat_cmp q) vs) ≡ true
-    → is_in q (v ∷ vs) ≡ true) [
-      | true ↦ λ t g. rw (same_is v q (sym (same_at q v t))) refl
-      | false ↦ λ t g. or_true (v == q) (is_in q vs) (any_in q vs g)
-    ] refl h
+any_in q (v ∷ vs) h = grind (arith, nat_tests, same_is, same_at, or_true, any_in q vs)
 
 -- Back from a key that stays along what anchors it: each key is new, as no key reaches itself, so that the way ends at
 -- an attachment after as many steps as there are keys. `vs` are the keys on the way so far, all reached from `k`.

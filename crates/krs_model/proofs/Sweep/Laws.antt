@@ -1,8 +1,8 @@
 -- Laws of sweeps.
-use Rattle.std.proofs.Common.{[], ◌∙◌, ◌∷◌, ◌≡◌, ap, Bool, cond, false, filter, find, is_some, IsSome, List, nat_cmp}
+use Rattle.std.proofs.Common.{[], ◌∙◌, ◌∷◌, ◌≡◌, ap, arith, Bool, cond, false, filter, find, IsSome, List, nat_cmp}
 use Rattle.std.proofs.Common.{None, Option, refl, Some, subst, sym, true, true≢false, ℕ}
+use Rattle.std.proofs.lemmas.{Bool.Decides.nat_tests, Option.{none-some, same_Some}}
 use Rattle.std.specs.BTreeMap.{is_at}
-use Rattle.std.proofs.lemmas.Option.{none-some, same_Some}
 use Rattle.krs_model.specs.{Levels.is_in, State.{Key, State}, Sweep.{AllHeld, Attached, IsHeld, IsSweep, IsSwept}}
 use Rattle.krs_model.specs.{Sweep.{Linked, links_of_key, live_watches, PicksHeld, roots}, Table.{at, Table}}
 use Rattle.krs_model.proofs.Tables.Changes.{at_kept, is_at_same}
@@ -13,12 +13,7 @@ filter_all (x ∷ xs) = ap (λ ys. x ∷ ys) (filter_all xs)
 
 filter_twice : {X : Type 0} (p : X → Bool) (xs : List X) → filter p (filter p xs) ≡ filter p xs
 filter_twice p [] = refl
-filter_twice p (x ∷ xs) =
-    elim (p x) as (λ b. p x ≡ b → filter p (cond b (x ∷ filter p xs) (filter p xs)) ≡ cond b (x ∷ filter p xs)
-    (filter p xs)) [
-      | true ↦ λ t. rw t (ap (λ ys. x ∷ ys) (filter_twice p xs))
-      | false ↦ λ t. filter_twice p xs
-    ] refl
+filter_twice p (x ∷ xs) = grind (arith, nat_tests, filter_twice p xs)
 
 -- a swept state is its own sweep
 pub swept_sweep : (s : State) → IsSwept s → IsSweep s s
@@ -44,7 +39,7 @@ kept_held rs old kept picks _ (Linked j k held i) =
     Linked j k (kept_held rs old kept picks j held)
     (subst (λ (o : Option Key). is_in k (links_of_key o) ≡ true) (sym same) i)
 
-kept_there : (b : Bool) (o : Option Key) → IsSome (cond b o None) → (b ≡ true) × IsSome o
+pub kept_there : {X : Type 0} (b : Bool) (o : Option X) → IsSome (cond b o None) → (b ≡ true) × IsSome o
 kept_there true o h = (refl, h)
 kept_there false o h = absurd (true≢false (sym h))
 
@@ -62,15 +57,7 @@ all_held old new keys watches e held = subst AllHeld (sym e) held
 
 -- a sweep leaves a swept state
 pub sweep_swept : (old new : State) → IsSweep old new → IsSwept new
-sweep_swept old new s =
-    let here : (k : ℕ) → IsSome (at new.keys k) → IsHeld new.keys (roots old) k =
-    rw s.keys (picked_swept (roots old) old.keys s.kept s.picks) in
-    let same : new.watches ≡ live_watches new.keys old.watches = ap (λ (t : State). t.watches) s.rest in
-    record {
-      keys = all_held old new new.keys (live_watches new.keys old.watches) s.rest here;
-      watches = ap (live_watches new.keys) same
-          ∙ (filter_twice (λ (w : (ℕ × ℕ) × ℕ). is_some (at new.keys w.0.0)) old.watches ∙ sym same);
-    }
+sweep_swept old new s = grind (arith, nat_tests, picked_swept, all_held, filter_twice)
 
 -- the entries of a table are there
 abbrev pub AreThere : Table Key → Table Key → Type 0
@@ -93,22 +80,12 @@ there_self (e ∷ es) = (rw (is_at_same e.0) refl, there_cons e es es (there_sel
 pub found_there : (p : ℕ × Key → Bool) (all es : Table Key) (e : ℕ × Key) → AreThere all es → find p es ≡ Some e
     → IsSome (at all e.0)
 found_there p all [] e there h = absurd (none-some e h)
-found_there p all (d ∷ es) e there h =
-    elim (p d) as (λ b. cond b (Some d) (find p es) ≡ Some e → IsSome (at all e.0)) [
-      | true ↦ λ is. subst (λ (x : ℕ × Key). IsSome (at all x.0)) (same_Some d e is) there.0
-      | false ↦ λ later. found_there p all es e there.1 later
-    ] h
+found_there p all (d ∷ es) e there h = grind (arith, nat_tests, same_Some, found_there p all es e there.1)
 
 same_filter : (p q : ℕ → Bool) (all es : Table Key) → ((k : ℕ) → IsSome (at all k) → p k ≡ q k) → AreThere all es
     → filter (λ e. p e.0) es ≡ filter (λ e. q e.0) es
 same_filter p q all [] same there = refl
-same_filter p q all (e ∷ es) same there =
-    rw (same e.0 there.0)
-    (elim (q e.0) as (λ b. cond b (e ∷ filter (λ d. p d.0) es) (filter (λ d. p d.0) es) ≡ cond b
-    (e ∷ filter (λ d. q d.0) es) (filter (λ d. q d.0) es)) [
-      | true ↦ ap (λ ds. e ∷ ds) (same_filter p q all es same there.1)
-      | false ↦ same_filter p q all es same there.1
-    ])
+same_filter p q all (e ∷ es) same there = grind (arith, nat_tests, same_filter p q all es same there.1)
 
 both_ways : (a b : Bool) → (a ≡ true → b ≡ true) → (b ≡ true → a ≡ true) → a ≡ b
 both_ways true b f g = sym (f refl)

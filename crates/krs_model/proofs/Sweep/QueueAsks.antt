@@ -1,13 +1,13 @@
 -- An ask of queues leaves a swept state: keys and attachments stay, and watches are at keys that are there.
-use Rattle.std.proofs.Common.{[], ◌==◌, ◌∙◌, ◌∷◌, ◌≡◌, ◌⊎◌, ap, arith, Bool, cond, false, filter, inl, inr, is_some}
-use Rattle.std.proofs.Common.{IsSome, length, List, not, refl, sym, true, true≢false, ℕ}
+use Rattle.std.proofs.Common.{[], ◌∙◌, ◌∷◌, ◌≡◌, ◌⊎◌, ap, arith, Bool, cond, false, filter, inl, inr, is_some, IsSome}
+use Rattle.std.proofs.Common.{length, List, not, refl, sym, true, true≢false, ℕ}
 use Rattle.std.proofs.lemmas.List.Filters.{length-filter_both}
 use Rattle.krs_types.specs.declared.ask.{Answer.Answer, Op.{Op, TheVariants.Leave}}
-use Rattle.krs_model.specs.{Notes.Telling.{ended_by, named}, Orderly.Each, Queues.Watch, Sound.IsSound}
-use Rattle.krs_model.specs.{State.{Key, State}, Sweep.{IsSwept, live_watches}, Table.{at, Table}}
+use Rattle.krs_model.specs.{Notes.Telling.{ended_by, named}, Orderly.Each, Queues.Watch, Sound.IsSound, State.Key}
+use Rattle.krs_model.specs.{State.State, Sweep.{IsSwept, live_watches}, Table.{at, Table}}
 use Rattle.krs_model.proofs.Asks.Effects.{Closes, Effect, Filters, is_of_queues, Leaves, OfKeys, Opens, Reads}
-use Rattle.krs_model.proofs.Asks.Effects.{Unwatches, Watches}
-use Rattle.krs_model.proofs.{Notes.Fitting.each_filter, Sound.{Queues.ended_set, Watches.{each_with, each_without}}}
+use Rattle.krs_model.proofs.{Asks.Effects.{Unwatches, Watches}, Notes.Fitting.each_filter, Sound.Queues.ended_set}
+use Rattle.krs_model.proofs.Sound.Watches.{each_with, each_without}
 
 -- the key of a watch is there
 abbrev pub IsLive : Table Key → Watch → Type 0
@@ -33,10 +33,7 @@ live_each keys (w ∷ ws) h =
 
 pub each_live : (keys : Table Key) (ws : List Watch) → Each (IsLive keys) ws → live_watches keys ws ≡ ws
 each_live keys [] h = refl
-each_live keys (w ∷ ws) h =
-    let more = each_live keys ws h.1 in
-    ap (λ (b : Bool). cond b (w ∷ live_watches keys ws) (live_watches keys ws)) h.0
-    ∙ ap (λ (vs : List Watch). w ∷ vs) more
+each_live keys (w ∷ ws) h = search (each_live keys ws h.1) depth 8
 
 -- what is left after an ask of queues but LEAVE is swept
 pub effect_swept :
@@ -51,25 +48,13 @@ effect_swept s client context _ _ _ sound (Filters number entries queue there) o
 effect_swept s client context _ _ _ sound (Reads number room queue there) of_queues not_leave =
     record { keys = sound.swept.keys; watches = sound.swept.watches }
 effect_swept s client context _ _ _ sound (Closes number queue there) of_queues not_leave =
-    let live = live_each s.keys s.watches sound.swept.watches in
-    record {
-      keys = sound.swept.keys;
-      watches = each_live s.keys _ (each_filter (IsLive s.keys) (λ w. not (w.0.1 == number)) s.watches live);
-    }
+    search (live_each, each_live, each_filter) depth 8
 effect_swept s client context _ _ _ sound
     (Watches id watch_id number key n queue here there asked small) of_queues not_leave =
-    let live = live_each s.keys s.watches sound.swept.watches in
-    record {
-      keys = sound.swept.keys;
-      watches = each_live s.keys _ (each_with (IsLive s.keys) s.watches key number n here (λ w is. is) live);
-    }
+    search (live_each, each_live, each_with) depth 8
 effect_swept s client context _ _ _ sound
     (Unwatches id watch_id number key n queue here names there asked is) of_queues not_leave =
-    let live = live_each s.keys s.watches sound.swept.watches in
-    record {
-      keys = sound.swept.keys;
-      watches = each_live s.keys _ (each_without (IsLive s.keys) s.watches key number live);
-    }
+    search (live_each, each_live, each_without) depth 8
 effect_swept s client context _ _ _ sound Leaves of_queues not_leave = absurd (not_leave refl)
 
 -- an ask that ends one watch, and leaves a swept state

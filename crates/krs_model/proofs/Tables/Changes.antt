@@ -1,32 +1,24 @@
 -- Laws of tables: what is at a number after a change there.
-use Rattle.std.proofs.Common.{[], ◌+◌, ◌<◌, ◌∙◌, ◌∷◌, ◌≡◌, ◌⊎◌, ap, arith, Bool, cond, false, filter, inl, inr, is_eq}
+use Rattle.std.proofs.Common.{[], ◌+◌, ◌<◌, ◌==◌, ◌∙◌, ◌∷◌, ◌≡◌, ◌⊎◌, ap, arith, Bool, cond, false, filter, inl, inr}
 use Rattle.std.proofs.Common.{nat_cmp, None, option_map, refl, Some, subst, sym, true, ℕ}
-use Rattle.std.specs.{BTreeMap.is_at, Cmp.{ranked, unsigned_tied}, Map.set_value, Ordering.match_ordering}
-use Rattle.std.specs.declared.cmp.Ordering.TheVariants.{Equal, Greater, Less}
 use Rattle.std.proofs.lemmas.{Bool.Decides.nat_tests, Map.Entries.lookup-filter-keys}
+use Rattle.std.specs.{BTreeMap.is_at, Cmp.unsigned_tied, Map.set_value}
 use Rattle.krs_model.specs.Table.{alter, at, IsBelow, map_values, put, Table, without}
+
+-- the two tests of one number agree
+pub same_test : (q k : ℕ) → is_at (nat_cmp q) k ≡ (k == q)
+same_test q k = grind (arith, nat_tests, unsigned_tied q k)
 
 -- a value that is written back changed
 pub alter_some : {X : Type 0} (es : Table X) (k : ℕ) (f : X → X) (v : X) → at es k ≡ Some v
     → set_value (is_at (nat_cmp k)) es (f v) ≡ alter es k f
 alter_some [] k f v h = refl
-alter_some (e ∷ es) k f v h =
-    elim (is_at (nat_cmp k) e.0) as (λ b. cond b (Some e.1) (at es k) ≡ Some v
-    → cond b ((e.0, f v) ∷ es) (e ∷ set_value (is_at (nat_cmp k)) es (f v))
-    ≡ cond b ((e.0, f e.1) ∷ es) (e ∷ alter es k f)) [
-      | true ↦ λ q. grind arith
-      | false ↦ λ q. ap (λ zs. e ∷ zs) (alter_some es k f v q)
-    ] h
+alter_some (e ∷ es) k f v h = grind (arith, nat_tests, alter_some es k f v)
 
 -- nothing is there
 pub alter_none : {X : Type 0} (es : Table X) (k : ℕ) (f : X → X) → at es k ≡ None → alter es k f ≡ es
 alter_none [] k f h = refl
-alter_none (e ∷ es) k f h =
-    elim (is_at (nat_cmp k) e.0) as (λ b. cond b (Some e.1) (at es k) ≡ None
-    → cond b ((e.0, f e.1) ∷ es) (e ∷ alter es k f) ≡ e ∷ es) [
-      | true ↦ λ q. cc
-      | false ↦ λ q. ap (λ zs. e ∷ zs) (alter_none es k f q)
-    ] h
+alter_none (e ∷ es) k f h = grind (arith, nat_tests, alter_none es k f)
 
 -- a number is at itself
 pub is_at_same : (k : ℕ) → is_at (nat_cmp k) k ≡ true
@@ -37,29 +29,13 @@ same_at q k h = grind (arith, nat_tests, unsigned_tied q k)
 
 pub at_alter_none : {X : Type 0} (es : Table X) (k q : ℕ) (f : X → X) → at es q ≡ None → at (alter es k f) q ≡ None
 at_alter_none [] k q f h = refl
-at_alter_none (e ∷ es) k q f h =
-    elim (is_at (nat_cmp q) e.0) as (λ b. cond b (Some e.1) (at es q) ≡ None → is_at (nat_cmp q) e.0 ≡ b
-    → at (alter (e ∷ es) k f) q ≡ None) [
-      | true ↦ λ n t. cc
-      | false ↦ λ n t. elim (is_at (nat_cmp k) e.0) as (λ d. at (cond d ((e.0, f e.1) ∷ es) (e ∷ alter es k f))
-          q ≡ None) [
-            | true ↦ rw t n
-            | false ↦ rw t (at_alter_none es k q f n)
-          ]
-    ] h refl
+at_alter_none (e ∷ es) k q f h = grind (arith, nat_tests, at_alter_none es k q f)
 
 -- what is put there
 pub at_put_other : {X : Type 0} (es : Table X) (k q : ℕ) (v : X) → is_at (nat_cmp q) k ≡ false
     → at (put es k v) q ≡ at es q
 at_put_other [] k q v h = rw h refl
-at_put_other (e ∷ es) k q v h =
-    elim (nat_cmp k e.0) as (λ r. nat_cmp k e.0 ≡ r
-    → at (match_ordering r ((k, v) ∷ e ∷ es) ((e.0, v) ∷ es) (e ∷ put es k v)) q ≡ at (e ∷ es) q) [
-      | Less ↦ λ t. rw h refl
-      | Equal ↦ λ t. let same : k ≡ e.0 =
-          ranked k e.0 Equal (sym t) in let no : is_at (nat_cmp q) e.0 ≡ false = rw (← same) h in rw no refl
-      | Greater ↦ λ t. ap (λ o. cond (is_at (nat_cmp q) e.0) (Some e.1) o) (at_put_other es k q v h)
-    ] refl
+at_put_other (e ∷ es) k q v h = grind (arith, nat_tests, at_put_other es k q v h)
 
 pub at_put_none : {X : Type 0} (es : Table X) (k q : ℕ) (v : X) → k < q → at es q ≡ None → at (put es k v) q ≡ None
 at_put_none es k q v lt h = let apart : is_at (nat_cmp q) k ≡ false = grind (arith, nat_tests, unsigned_tied q k) in
@@ -68,13 +44,7 @@ at_put_none es k q v lt h = let apart : is_at (nat_cmp q) k ≡ false = grind (a
 -- what is put where nothing was is taken out again
 pub without_put : {X : Type 0} (es : Table X) (k : ℕ) (v : X) → at es k ≡ None → without (put es k v) k ≡ es
 without_put [] k v h = rw (is_at_same k) refl
-without_put (e ∷ es) k v h =
-    elim (nat_cmp k e.0) as (λ r. nat_cmp k e.0 ≡ r → cond (is_eq r) (Some e.1) (at es k) ≡ None
-    → without (match_ordering r ((k, v) ∷ e ∷ es) ((e.0, v) ∷ es) (e ∷ put es k v)) k ≡ e ∷ es) [
-      | Less ↦ λ t n. rw (is_at_same k) refl
-      | Equal ↦ λ t n. cc
-      | Greater ↦ λ t n. rw t (ap (λ zs. e ∷ zs) (without_put es k v n))
-    ] refl h
+without_put (e ∷ es) k v h = grind (arith, nat_tests, is_at_same, without_put es k v)
 
 -- the number after the last one given
 pub below_put : {X : Type 0} (es fs : Table X) (n : ℕ) (v : X) → fs ≡ put es n v → IsBelow es n → IsBelow fs (n + 1)
@@ -83,15 +53,7 @@ below_put es fs n v e below = λ q h. ap (λ zs. at zs q) e ∙ at_put_none es n
 pub at_filter_none : {X : Type 0} (p : ℕ × X → Bool) (es : Table X) (q : ℕ) → at es q ≡ None
     → at (filter p es) q ≡ None
 at_filter_none p [] q h = refl
-at_filter_none p (e ∷ es) q h =
-    elim (is_at (nat_cmp q) e.0) as (λ b. is_at (nat_cmp q) e.0 ≡ b → cond b (Some e.1) (at es q) ≡ None
-    → at (cond (p e) (e ∷ filter p es) (filter p es)) q ≡ None) [
-      | true ↦ λ t n. cc
-      | false ↦ λ t n. elim (p e) as (λ d. at (cond d (e ∷ filter p es) (filter p es)) q ≡ None) [
-        | true ↦ rw t (at_filter_none p es q n)
-        | false ↦ at_filter_none p es q n
-      ]
-    ] refl h
+at_filter_none p (e ∷ es) q h = grind (arith, nat_tests, at_filter_none p es q)
 
 -- what is taken out leaves the numbers that were not given
 pub below_filter : {X : Type 0} (p : ℕ × X → Bool) (es fs : Table X) (n : ℕ) → fs ≡ filter p es → IsBelow es n
@@ -101,56 +63,28 @@ below_filter p es fs n e below = λ q h. ap (λ zs. at zs q) e ∙ at_filter_non
 -- a map's values seen through f
 pub at_map : {X Y : Type 0} (f : X → Y) (es : Table X) (k : ℕ) → at (map_values f es) k ≡ option_map f (at es k)
 at_map f [] k = refl
-at_map f (e ∷ es) k =
-    elim (is_at (nat_cmp k) e.0) as (λ b. cond b (Some (f e.1)) (at (map_values f es) k) ≡ option_map f
-    (cond b (Some e.1) (at es k))) [
-      | true ↦ refl
-      | false ↦ at_map f es k
-    ]
+at_map f (e ∷ es) k = grind (arith, nat_tests, at_map f es k)
 
 pub put_map : {X Y : Type 0} (f : X → Y) (es : Table X) (k : ℕ) (v : X)
     → map_values f (put es k v) ≡ put (map_values f es) k (f v)
 put_map f [] k v = refl
-put_map f (e ∷ es) k v =
-    elim (nat_cmp k e.0) as (λ r. map_values f (match_ordering r ((k, v) ∷ e ∷ es) ((e.0, v) ∷ es) (e ∷ put es k v))
-    ≡ match_ordering r ((k, f v) ∷ (e.0, f e.1) ∷ map_values f es) ((e.0, f v) ∷ map_values f es)
-    ((e.0, f e.1) ∷ put (map_values f es) k (f v))) [
-      | Less ↦ refl
-      | Equal ↦ refl
-      | Greater ↦ ap (λ zs. (e.0, f e.1) ∷ zs) (put_map f es k v)
-    ]
+put_map f (e ∷ es) k v = grind (arith, nat_tests, put_map f es k v)
 
 pub without_map : {X Y : Type 0} (f : X → Y) (es : Table X) (k : ℕ)
     → map_values f (without es k) ≡ without (map_values f es) k
 without_map f [] k = refl
-without_map f (e ∷ es) k =
-    elim (is_at (nat_cmp k) e.0) as (λ b. map_values f (cond b es (e ∷ without es k)) ≡ cond b (map_values f es)
-    ((e.0, f e.1) ∷ without (map_values f es) k)) [
-      | true ↦ refl
-      | false ↦ ap (λ zs. (e.0, f e.1) ∷ zs) (without_map f es k)
-    ]
+without_map f (e ∷ es) k = grind (arith, nat_tests, without_map f es k)
 
 -- a change that is another change through f
 pub alter_map : {X Y : Type 0} (f : X → Y) (es : Table X) (k : ℕ) (g : X → X) (h : Y → Y)
     → ((v : X) → at es k ≡ Some v → f (g v) ≡ h (f v)) → map_values f (alter es k g) ≡ alter (map_values f es) k h
 alter_map {X = X} f [] k g h same = refl
-alter_map {X = X} f (e ∷ es) k g h same =
-    elim (is_at (nat_cmp k) e.0) as (λ b. ((v : X) → cond b (Some e.1) (at es k) ≡ Some v → f (g v) ≡ h (f v))
-    → map_values f (cond b ((e.0, g e.1) ∷ es) (e ∷ alter es k g))
-    ≡ cond b ((e.0, h (f e.1)) ∷ map_values f es) ((e.0, f e.1) ∷ alter (map_values f es) k h)) [
-      | true ↦ λ s. ap (λ y. (e.0, y) ∷ map_values f es) (s e.1 refl)
-      | false ↦ λ s. ap (λ zs. (e.0, f e.1) ∷ zs) (alter_map f es k g h s)
-    ] same
+alter_map {X = X} f (e ∷ es) k g h same = grind (arith, nat_tests, alter_map f es k g h)
 
 pub filter_map_keys : {X Y : Type 0} (f : X → Y) (es : Table X) (kept : ℕ → Bool)
     → map_values f (filter (λ e. kept e.0) es) ≡ filter (λ e. kept e.0) (map_values f es)
 filter_map_keys f [] kept = refl
-filter_map_keys f (e ∷ es) kept =
-    elim (kept e.0) as (λ b. map_values f (cond b (e ∷ filter (λ d. kept d.0) es) (filter (λ d. kept d.0) es)) ≡ cond
-    b ((e.0, f e.1) ∷ filter (λ d. kept d.0) (map_values f es)) (filter (λ d. kept d.0) (map_values f es))) [
-      | true ↦ ap (λ zs. (e.0, f e.1) ∷ zs) (filter_map_keys f es kept)
-      | false ↦ filter_map_keys f es kept
-    ]
+filter_map_keys f (e ∷ es) kept = grind (arith, nat_tests, filter_map_keys f es kept)
 
 here : (k q : ℕ) → k ≡ q → is_at (nat_cmp k) q ≡ true
 here k q h = subst (λ (z : ℕ). is_at (nat_cmp k) z ≡ true) h (is_at_same k)
@@ -158,34 +92,17 @@ here k q h = subst (λ (z : ℕ). is_at (nat_cmp k) z ≡ true) h (is_at_same k)
 -- what is put is there
 pub at_put_same : {X : Type 0} (es : Table X) (k : ℕ) (v : X) → at (put es k v) k ≡ Some v
 at_put_same [] k v = rw (is_at_same k) refl
-at_put_same (e ∷ es) k v =
-    elim (nat_cmp k e.0) as (λ r. nat_cmp k e.0 ≡ r
-    → at (match_ordering r ((k, v) ∷ e ∷ es) ((e.0, v) ∷ es) (e ∷ put es k v)) k ≡ Some v) [
-      | Less ↦ λ t. rw (is_at_same k) refl
-      | Equal ↦ λ t. ap (λ b. cond b (Some v) (at es k)) (here k e.0 (ranked k e.0 Equal (sym t)))
-      | Greater ↦ λ t. rw t (at_put_same es k v)
-    ] refl
+at_put_same (e ∷ es) k v = grind (arith, nat_tests, is_at_same, here, at_put_same es k v)
 
 -- what is at a number after a change at another, or there
 pub at_alter_other : {X : Type 0} (es : Table X) (k q : ℕ) (f : X → X) → is_at (nat_cmp q) k ≡ false
     → at (alter es k f) q ≡ at es q
 at_alter_other [] k q f h = refl
-at_alter_other (e ∷ es) k q f h =
-    elim (is_at (nat_cmp k) e.0) as (λ b. is_at (nat_cmp k) e.0 ≡ b
-    → at (cond b ((e.0, f e.1) ∷ es) (e ∷ alter es k f)) q ≡ at (e ∷ es) q) [
-      | true ↦ λ t. let same : k ≡ e.0 =
-          same_at k e.0 t in let no : is_at (nat_cmp q) e.0 ≡ false = rw (← same) h in rw no refl
-      | false ↦ λ t. ap (λ o. cond (is_at (nat_cmp q) e.0) (Some e.1) o) (at_alter_other es k q f h)
-    ] refl
+at_alter_other (e ∷ es) k q f h = grind (arith, nat_tests, same_at, at_alter_other es k q f h)
 
 pub at_alter_same : {X : Type 0} (es : Table X) (k : ℕ) (f : X → X) → at (alter es k f) k ≡ option_map f (at es k)
 at_alter_same [] k f = refl
-at_alter_same (e ∷ es) k f =
-    elim (is_at (nat_cmp k) e.0) as (λ b. is_at (nat_cmp k) e.0 ≡ b
-    → at (cond b ((e.0, f e.1) ∷ es) (e ∷ alter es k f)) k ≡ option_map f (cond b (Some e.1) (at es k))) [
-      | true ↦ λ t. rw t refl
-      | false ↦ λ t. rw t (at_alter_same es k f)
-    ] refl
+at_alter_same (e ∷ es) k f = grind (arith, nat_tests, at_alter_same es k f)
 
 -- what is kept by its number
 pub at_kept : {X : Type 0} (kept : ℕ → Bool) (es : Table X) (k : ℕ)
@@ -200,28 +117,10 @@ at_or_apart q k = elim (is_at (nat_cmp q) k) as (λ b. is_at (nat_cmp q) k ≡ b
 -- what is taken out leaves what was not there
 pub at_without_none : {X : Type 0} (es : Table X) (k q : ℕ) → at es q ≡ None → at (without es k) q ≡ None
 at_without_none [] k q h = refl
-at_without_none (e ∷ es) k q h =
-    elim (is_at (nat_cmp q) e.0) as (λ b. is_at (nat_cmp q) e.0 ≡ b → cond b (Some e.1) (at es q) ≡ None
-    → at (without (e ∷ es) k) q ≡ None) [
-      | true ↦ λ t n. cc
-      | false ↦ λ t n. elim (is_at (nat_cmp k) e.0) as (λ d. at (cond d es (e ∷ without es k)) q ≡ None) [
-        | true ↦ n
-        | false ↦ rw t (at_without_none es k q n)
-      ]
-    ] refl h
+at_without_none (e ∷ es) k q h = grind (arith, nat_tests, at_without_none es k q)
 
 -- what is at another number than that which is taken out
 pub at_without_other : {X : Type 0} (es : Table X) (k q : ℕ) → is_at (nat_cmp q) k ≡ false
     → at (without es k) q ≡ at es q
 at_without_other [] k q apart = refl
-at_without_other (e ∷ es) k q apart =
-    elim (is_at (nat_cmp k) e.0) as (λ b. is_at (nat_cmp k) e.0 ≡ b
-    → at (cond b es (e ∷ without es k)) q ≡ at (e ∷ es) q) [
-      | true ↦ λ here. let away =
-          subst (λ (j : ℕ). is_at (nat_cmp q) j ≡ false) (same_at k e.0 here) apart in rw away refl
-      | false ↦ λ there. elim (is_at (nat_cmp q) e.0) as (λ b. cond b (Some e.1) (at (without es k) q) ≡ cond b
-          (Some e.1) (at es q)) [
-            | true ↦ refl
-            | false ↦ at_without_other es k q apart
-          ]
-    ] refl
+at_without_other (e ∷ es) k q apart = grind (arith, nat_tests, here, same_at, at_without_other es k q apart)

@@ -1,7 +1,7 @@
 -- How many elements of a list pass a test.
-use Rattle.std.proofs.Common.{[], ⊎_elim, ◌+◌, ◌==◌, ◌||◌, ◌∙◌, ◌∷◌, ◌≡◌, ◌≤◌, ◌⊎◌, ap, arith, Bool, cond, count_by}
-use Rattle.std.proofs.Common.{false, filter, inl, inr, List, refl, sym, true, true≢false, ℕ}
-use Rattle.std.proofs.lemmas.{Bool.Decides.nat_tests, List.Sums.sum_by-cons}
+use Rattle.std.proofs.Common.{[], ⊎_elim, ◌+◌, ◌==◌, ◌∙◌, ◌∷◌, ◌≡◌, ◌≤◌, ◌⊎◌, ap, arith, Bool, cond, count_by, false}
+use Rattle.std.proofs.{Common.{filter, List, refl, sym, true, true≢false, ℕ}, lemmas.Bool.Decides.nat_tests}
+use Rattle.std.proofs.lemmas.List.Sums.{sum_by-cons}
 use Rattle.krs_model.specs.{Levels.is_in, Linking.with_link}
 use Rattle.krs_model.proofs.Reach.Levels.{or_true, same_is, true_or}
 
@@ -24,10 +24,7 @@ pub count_on :
     (p q : ℕ → Bool) (xs : List ℕ) → ((k : ℕ) → is_in k xs ≡ true → p k ≡ true → q k ≡ true)
     → count_by p xs ≤ count_by q xs
 count_on p q [] on = omega arith
-count_on p q (x ∷ xs) on =
-    let here = one_at_most (p x) (q x) (on x (rw (same_is x x refl) refl)) in
-    let later = count_on p q xs (λ k i. on k (or_true (x == k) (is_in k xs) i)) in
-    omega (arith, count_cons p x xs, count_cons q x xs)
+count_on p q (x ∷ xs) on = grind (arith, nat_tests, one_at_most, same_is, or_true, count_cons, count_on p q xs)
 
 -- of each sort no more in a list than in the other
 abbrev pub IsPart : List ℕ → List ℕ → Type 0
@@ -42,49 +39,25 @@ in_counted k (x ∷ xs) h =
 
 counted_in : (k : ℕ) (xs : List ℕ) → 1 ≤ count_by (λ q. q == k) xs → is_in k xs ≡ true
 counted_in k [] h = absurd (omega arith)
-counted_in k (x ∷ xs) h =
-    elim (x == k) as (λ b. (x == k) ≡ b → (b || is_in k xs) ≡ true) [
-      | true ↦ λ e. refl
-      | false ↦ λ e. counted_in k xs (omega (arith, count_no (λ q. q == k) x xs e))
-    ] refl
+counted_in k (x ∷ xs) h = grind (arith, nat_tests, count_no, counted_in k xs)
 
 -- what is in a part is in the whole
 pub part_in : (xs ys : List ℕ) (k : ℕ) → IsPart xs ys → is_in k xs ≡ true → is_in k ys ≡ true
-part_in xs ys k part h =
-    let some = in_counted k xs h in
-    let few = part (λ q. q == k) in
-    counted_in k ys (omega arith)
+part_in xs ys k part h = grind (arith, nat_tests, in_counted, counted_in)
 
 pub none_part : (ys : List ℕ) → IsPart [] ys
 none_part ys = λ p. omega arith
 
 pub filter_part : (kept : ℕ → Bool) (xs : List ℕ) → IsPart (filter kept xs) xs
 filter_part kept [] = λ p. omega arith
-filter_part kept (x ∷ xs) = λ p. elim (kept x) as
-    (λ b. count_by p (cond b (x ∷ filter kept xs) (filter kept xs)) ≤ count_by p (x ∷ xs)) [
-      | true ↦ omega (arith, count_cons p x xs, count_cons p x (filter kept xs), filter_part kept xs p)
-      | false ↦ omega (arith, count_cons p x xs, filter_part kept xs p)
-    ]
+filter_part kept (x ∷ xs) = grind (arith, nat_tests, count_cons, filter_part kept xs)
 
 -- what is linked after a further link was linked, or is the further one
 pub in_with_link :
     (displaced : ℕ → Bool) (xs : List ℕ) (n k : ℕ) → is_in k (with_link displaced xs n) ≡ true
     → (is_in k xs ≡ true) ⊎ (k ≡ n)
-in_with_link displaced [] n k h =
-    ⊎_elim (λ (e : (n == k) ≡ true). inr (grind (arith, nat_tests)))
-    (λ (no : false ≡ true). absurd (true≢false (sym no)))
-    (true_or (n == k) false h)
-in_with_link displaced (x ∷ xs) n k h =
-    elim (displaced x) as (λ b. is_in k (cond b (n ∷ xs) (x ∷ with_link displaced xs n)) ≡ true
-    → (((x == k) || is_in k xs) ≡ true) ⊎ (k ≡ n)) [
-      | true ↦ λ i. ⊎_elim (λ (e : (n == k) ≡ true). inr (grind (arith, nat_tests)))
-          (λ (later : is_in k xs ≡ true). inl (or_true (x == k) (is_in k xs) later)) (true_or (n == k) (is_in k xs) i)
-      | false ↦ λ i. ⊎_elim (λ (e : (x == k) ≡ true). inl (rw e refl))
-          (λ (later : is_in k (with_link displaced xs n) ≡ true).
-          ⊎_elim (λ (was : is_in k xs ≡ true). inl (or_true (x == k) (is_in k xs) was)) (λ (e : k ≡ n). inr e)
-          (in_with_link displaced xs n k later))
-          (true_or (x == k) (is_in k (with_link displaced xs n)) i)
-    ] h
+in_with_link displaced [] n k h = grind (arith, nat_tests, true≢false, true_or)
+in_with_link displaced (x ∷ xs) n k h = grind (arith, nat_tests, or_true, true_or, in_with_link displaced xs n k)
 
 -- a further link of another sort
 other_linked :
@@ -92,11 +65,7 @@ other_linked :
     → count_by p (with_link displaced xs n) ≤ count_by p xs
 other_linked displaced p [] n other = omega (arith, count_no p n [] other)
 other_linked displaced p (x ∷ xs) n other =
-    elim (displaced x) as (λ b. count_by p (cond b (n ∷ xs) (x ∷ with_link displaced xs n)) ≤ count_by p (x ∷ xs)) [
-      | true ↦ omega (arith, count_no p n xs other, count_cons p x xs)
-      | false ↦ let later = other_linked displaced p xs n other in
-          omega (arith, later, count_cons p x xs, count_cons p x (with_link displaced xs n))
-    ]
+    grind (arith, nat_tests, count_no, count_cons, other_linked displaced p xs n other)
 
 -- a further link that displaces those of its sort
 same_linked :
@@ -105,21 +74,11 @@ same_linked :
     → count_by p (with_link displaced xs n) ≤ 1
 same_linked displaced p [] n mine alike few = omega (arith, count_yes p n [] mine)
 same_linked displaced p (x ∷ xs) n mine alike few =
-    let first : p x ≡ displaced x = alike x (rw (same_is x x refl) refl) in
-    let rest : (k : ℕ) → is_in k xs ≡ true → p k ≡ displaced k = λ k i. alike k (or_true (x == k) (is_in k xs) i) in
-    elim (displaced x) as (λ b. p x ≡ b → count_by p (cond b (n ∷ xs) (x ∷ with_link displaced xs n)) ≤ 1) [
-      | true ↦ λ e. omega (arith, few, count_yes p n xs mine, count_yes p x xs e)
-      | false ↦ λ e. let later = same_linked displaced p xs n mine rest (omega (arith, few, count_no p x xs e)) in
-          omega (arith, later, count_no p x (with_link displaced xs n) e)
-    ] first
+    grind (arith, nat_tests, same_is, or_true, count_yes, count_no, same_linked displaced p xs n mine)
 
 -- a further link leaves one at most of each sort, where it displaces its own
 pub one_linked :
     (displaced p : ℕ → Bool) (xs : List ℕ) (n : ℕ)
     → (p n ≡ true → (k : ℕ) → is_in k xs ≡ true → p k ≡ displaced k) → count_by p xs ≤ 1
     → count_by p (with_link displaced xs n) ≤ 1
-one_linked displaced p xs n alike few =
-    elim (p n) as (λ b. p n ≡ b → count_by p (with_link displaced xs n) ≤ 1) [
-      | true ↦ λ mine. same_linked displaced p xs n mine (alike mine) few
-      | false ↦ λ other. omega (arith, other_linked displaced p xs n other)
-    ] refl
+one_linked displaced p xs n alike few = grind (arith, nat_tests, same_linked, other_linked)

@@ -1,9 +1,7 @@
 -- Entries of tables in which no number stands twice: where they are found, and where they stay.
-use Rattle.std.proofs.Common.{[], ⊎_elim, ◌||◌, ◌∙◌, ◌∷◌, ◌≡◌, ap, Bool, cond, false, filter, IsSome, nat_cmp, None}
-use Rattle.std.proofs.Common.{Option, refl, Some, subst, sym, true, true≢false, ℕ}
-use Rattle.std.specs.BTreeMap.{is_at}
+use Rattle.std.proofs.Common.{[], ⊎_elim, ◌∷◌, ◌≡◌, arith, Bool, cond, false, filter, IsSome, None, refl, Some, sym}
+use Rattle.std.proofs.{Common.{true, true≢false, ℕ}, lemmas.{Bool.Decides.nat_tests, Option.{none-some, same_Some}}}
 use Rattle.std.specs.{List.{AllByRecursion, list_any, Sorted.IsStrictlySortedBy}, Map.{keys_of, values_of}}
-use Rattle.std.proofs.lemmas.Option.{none-some, same_Some}
 use Rattle.krs_model.specs.Table.{at, IsDistinct, Rises, Table, without}
 use Rattle.krs_model.proofs.Tables.Changes.{at_or_apart, at_without_other, is_at_same, same_at}
 use Rattle.krs_model.proofs.Tables.{Distinct.at_without_same, Rising.Above}
@@ -28,17 +26,7 @@ pub record IsEntry {X : Type 0} (es : Table X) (P : X → Type 0) : Type 0 where
 -- the entry of a first number, or a later one
 pub later_entry :
     {X : Type 0} (P : X → Type 0) (e : ℕ × X) (es : Table X) → IsDistinct (e ∷ es) → IsEntry es P → IsEntry (e ∷ es) P
-later_entry {X} P e es distinct entry = record {
-  number = entry.number;
-  value = entry.value;
-  there = elim (is_at (nat_cmp entry.number) e.0) as
-      (λ b. is_at (nat_cmp entry.number) e.0 ≡ b → cond b (Some e.1) (at es entry.number) ≡ Some entry.value) [
-        | true ↦ λ t. absurd (none-some entry.value (sym distinct.0
-            ∙ (ap (at es) (sym (same_at entry.number e.0 t)) ∙ entry.there)))
-        | false ↦ λ t. entry.there
-      ] refl;
-  holds = entry.holds;
-}
+later_entry {X} P e es distinct entry = grind (arith, nat_tests, none-some, same_at)
 
 pub first_entry : {X : Type 0} (P : X → Type 0) (e : ℕ × X) (es : Table X) → P e.1 → IsEntry (e ∷ es) P
 first_entry {X} P e es h = record { number = e.0; value = e.1; there = rw (is_at_same e.0) refl; holds = h }
@@ -49,48 +37,21 @@ pub find_entry :
     → IsEntry es (λ v. test v ≡ true)
 find_entry test [] distinct h = absurd (true≢false (sym h))
 find_entry test (e ∷ es) distinct h =
-    elim (test e.1) as (λ b. test e.1 ≡ b → IsEntry (e ∷ es) (λ v. test v ≡ true)) [
-      | true ↦ λ t. first_entry (λ v. test v ≡ true) e es t
-      | false ↦ λ t. later_entry (λ v. test v ≡ true) e es distinct (find_entry test es distinct.1
-          (ap (λ (b : Bool). b || list_any test (values_of es)) (sym t) ∙ h))
-    ] refl
+    grind (arith, nat_tests, first_entry, later_entry, find_entry test es distinct.1)
 
 -- a value that passes a test is among those that are tested
 pub entry_passes :
     {X : Type 0} (test : X → Bool) (es : Table X) (k : ℕ) (v : X) → at es k ≡ Some v → test v ≡ true
     → list_any test (values_of es) ≡ true
 entry_passes test [] k v there h = absurd (none-some v there)
-entry_passes test (e ∷ es) k v there h =
-    elim (test e.1) as (λ b. test e.1 ≡ b → list_any test (values_of (e ∷ es)) ≡ true) [
-      | true ↦ λ t. rw t refl
-      | false ↦ λ t. rw t (elim (is_at (nat_cmp k) e.0) as (λ b. cond b (Some e.1) (at es k) ≡ Some v
-          → list_any test (values_of es) ≡ true) [
-            | true ↦ λ same. absurd (true≢false (sym h ∙ (ap test (sym (same_Some e.1 v same)) ∙ t)))
-            | false ↦ λ later. entry_passes test es k v later h
-          ] there)
-    ] refl
+entry_passes test (e ∷ es) k v there h = grind (arith, nat_tests, true≢false, same_Some, entry_passes test es k v)
 
 -- an entry that passes stays
 pub filter_still :
     {X : Type 0} (p : ℕ × X → Bool) (es : Table X) (k : ℕ) (v : X) → at es k ≡ Some v → p (k, v) ≡ true
     → at (filter p es) k ≡ Some v
 filter_still p [] k v there h = absurd (none-some v there)
-filter_still p (e ∷ es) k v there h =
-    elim (is_at (nat_cmp k) e.0) as (λ b. is_at (nat_cmp k) e.0 ≡ b → cond b (Some e.1) (at es k) ≡ Some v
-    → at (filter p (e ∷ es)) k ≡ Some v) [
-      | true ↦ λ t is.
-          let value : e.1 ≡ v = same_Some e.1 v is in
-          let number : k ≡ e.0 = same_at k e.0 t in
-          let passes : p e ≡ true =
-          ap (λ (n : ℕ). p (n, e.1)) (sym number) ∙ (ap (λ (x : _). p (k, x)) value ∙ h) in
-          rw (passes, t) is
-      | false ↦ λ t is.
-          let later = filter_still p es k v is h in
-          elim (p e) as (λ c. at (cond c (e ∷ filter p es) (filter p es)) k ≡ Some v) [
-            | true ↦ rw t later
-            | false ↦ later
-          ]
-    ] refl there
+filter_still p (e ∷ es) k v there h = grind (arith, nat_tests, same_Some, same_at, filter_still p es k v)
 
 -- what is left where an entry goes unless it stays was there; and that entry stays where it is left
 pub record IsLeft {X : Type 0} (es : Table X) (k : ℕ) (stays : Bool) (q : ℕ) : Type 0 where
@@ -102,13 +63,7 @@ pub left_unless :
     → IsLeft es k stays q
 left_unless es k q true distinct there = record { was = there; same = λ e. refl }
 left_unless es k q false distinct there =
-    ⊎_elim
-    (λ (e : q ≡ k). absurd (true≢false (sym (subst (λ (o : Option _). IsSome o)
-    (ap (at (without es k)) e ∙ at_without_same es k distinct) there))))
-    (λ apart. record {
-      was = subst (λ (o : Option _). IsSome o) (at_without_other es k q apart) there;
-      same = λ e. absurd (true≢false (sym (ap (λ (n : ℕ). is_at (nat_cmp n) k) e ∙ is_at_same k) ∙ apart));
-    }) (at_or_apart q k)
+    grind (arith, nat_tests, true≢false, at_without_same, at_without_other, is_at_same, at_or_apart)
 
 -- another entry stays
 pub still_unless :
@@ -120,6 +75,4 @@ still_unless es k q false other =
 -- what is left was there
 pub without_was :
     {X : Type 0} (es : Table X) (k q : ℕ) (v : X) → IsDistinct es → at (without es k) q ≡ Some v → at es q ≡ Some v
-without_was es k q v distinct h =
-    ⊎_elim (λ (e : q ≡ k). absurd (none-some v (sym (ap (at (without es k)) e ∙ at_without_same es k distinct) ∙ h)))
-    (λ apart. sym (at_without_other es k q apart) ∙ h) (at_or_apart q k)
+without_was es k q v distinct h = grind (arith, nat_tests, none-some, at_without_same, at_without_other, at_or_apart)

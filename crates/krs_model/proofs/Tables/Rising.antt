@@ -1,17 +1,14 @@
 -- Tables in which numbers rise.
-use Rattle.std.proofs.Common.{[], ◌<◌, ◌∷◌, ◌≡◌, ap, arith, Bool, cond, false, filter, List, nat_cmp, refl, subst, sym}
-use Rattle.std.proofs.Common.{true, ℕ}
-use Rattle.std.specs.{BTreeMap.is_at, Cmp.{nat_cmp_is, ranked}, List.{AllByRecursion, Sorted.IsStrictlySortedBy}}
-use Rattle.std.specs.{Map.keys_of, Ordering.match_ordering, declared.cmp.Ordering.TheVariants.{Equal, Greater, Less}}
+use Rattle.std.proofs.Common.{[], ◌<◌, ◌∷◌, ◌≡◌, ap, arith, Bool, cond, false, filter, List, nat_cmp, refl, subst}
+use Rattle.std.proofs.{Common.{sym, true, ℕ}, lemmas.Bool.Decides.nat_tests}
+use Rattle.std.specs.{BTreeMap.is_at, Cmp.{nat_cmp_is, ranked}, declared.cmp.Ordering.TheVariants.{Equal, Greater}}
+use Rattle.std.specs.{declared.cmp.Ordering.TheVariants.Less, List.{AllByRecursion, Sorted.IsStrictlySortedBy}}
+use Rattle.std.specs.{Map.keys_of, Ordering.match_ordering}
 use Rattle.krs_model.specs.Table.{alter, map_values, put, Rises, Table, without}
 
 keys_alter : {X : Type 0} (es : Table X) (k : ℕ) (f : X → X) → keys_of (alter es k f) ≡ keys_of es
 keys_alter [] k f = refl
-keys_alter (e ∷ es) k f =
-    elim (is_at (nat_cmp k) e.0) as (λ b. keys_of (cond b ((e.0, f e.1) ∷ es) (e ∷ alter es k f)) ≡ e.0 ∷ keys_of es) [
-      | true ↦ refl
-      | false ↦ ap (λ ks. e.0 ∷ ks) (keys_alter es k f)
-    ]
+keys_alter (e ∷ es) k f = grind (arith, nat_tests, keys_alter es k f)
 
 pub alter_rises : {X : Type 0} (es : Table X) (k : ℕ) (f : X → X) → Rises es → Rises (alter es k f)
 alter_rises es k f rises = subst (IsStrictlySortedBy nat_cmp) (sym (keys_alter es k f)) rises
@@ -31,11 +28,7 @@ all_filter :
     {X : Type 0} (P : ℕ → Type 0) (p : ℕ × X → Bool) (es : Table X) → AllByRecursion P (keys_of es)
     → AllByRecursion P (keys_of (filter p es))
 all_filter P p [] all = all
-all_filter P p (e ∷ es) all =
-    elim (p e) as (λ b. AllByRecursion P (keys_of (cond b (e ∷ filter p es) (filter p es)))) [
-      | true ↦ (all.0, all_filter P p es all.1)
-      | false ↦ all_filter P p es all.1
-    ]
+all_filter P p (e ∷ es) all = grind (arith, nat_tests, all_filter P p es all.1)
 
 pub filter_rises : {X : Type 0} (p : ℕ × X → Bool) (es : Table X) → Rises es → Rises (filter p es)
 unfolding IsStrictlySortedBy
@@ -75,21 +68,13 @@ less_above m n h = sym (nat_cmp_is m n Less h)
 all_above :
     (m n : ℕ) (ks : List ℕ) → m < n → AllByRecursion (Above n) ks → AllByRecursion (Above m) ks
 all_above m n [] less all = all
-all_above m n (k ∷ ks) less all =
-    let more : n < k = above_less n k all.0 in
-    (less_above m k (omega arith), all_above m n ks less all.1)
+all_above m n (k ∷ ks) less all = grind (arith, nat_tests, above_less, less_above, all_above m n ks less all.1)
 
 all_put :
     {X : Type 0} (P : ℕ → Type 0) (es : Table X) (k : ℕ) (v : X) → P k → AllByRecursion P (keys_of es)
     → AllByRecursion P (keys_of (put es k v))
 all_put P [] k v here all = (here, tt)
-all_put P (e ∷ es) k v here all =
-    elim (nat_cmp k e.0) as
-    (λ r. AllByRecursion P (keys_of (match_ordering r ((k, v) ∷ e ∷ es) ((e.0, v) ∷ es) (e ∷ put es k v)))) [
-      | Less ↦ (here, all)
-      | Equal ↦ all
-      | Greater ↦ (all.0, all_put P es k v here all.1)
-    ]
+all_put P (e ∷ es) k v here all = grind (arith, nat_tests, all_put P es k v here all.1)
 
 pub put_rises : {X : Type 0} (es : Table X) (k : ℕ) (v : X) → Rises es → Rises (put es k v)
 unfolding IsStrictlySortedBy

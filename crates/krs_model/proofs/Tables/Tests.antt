@@ -1,6 +1,5 @@
 -- Laws of tests that agree on a list.
-use Rattle.std.proofs.Common.{[], ◌==◌, ◌||◌, ◌∙◌, ◌∷◌, ◌≡◌, ap, Bool, cond, filter, find, List, Option, refl, Some}
-use Rattle.std.proofs.Common.{true, ℕ}
+use Rattle.std.proofs.Common.{[], ◌==◌, ◌∷◌, ◌≡◌, Bool, filter, find, List, refl, true, ℕ}
 use Rattle.std.specs.List.{list_any}
 use Rattle.krs_model.specs.Levels.{is_in}
 use Rattle.krs_model.proofs.Reach.Levels.{or_true, same_is}
@@ -17,18 +16,12 @@ agree_rest x xs p q agree = λ k i. agree k (or_true (x == k) (is_in k xs) i)
 
 pub filter_agree : (p q : ℕ → Bool) (xs : List ℕ) → AgreeOn xs p q → filter p xs ≡ filter q xs
 filter_agree p q [] agree = refl
-filter_agree p q (x ∷ xs) agree =
-    ap (λ (b : Bool). cond b (x ∷ filter p xs) (filter p xs)) (agree_first x xs p q agree)
-    ∙ ap (λ (ys : List ℕ). cond (q x) (x ∷ ys) ys) (filter_agree p q xs (agree_rest x xs p q agree))
+filter_agree p q (x ∷ xs) agree = rw (agree_first x xs p q agree, filter_agree p q xs (agree_rest x xs p q agree))
 
 pub find_agree : (p q : ℕ → Bool) (xs : List ℕ) → AgreeOn xs p q → find p xs ≡ find q xs
 find_agree p q [] agree = refl
-find_agree p q (x ∷ xs) agree =
-    ap (λ (b : Bool). cond b (Some x) (find p xs)) (agree_first x xs p q agree)
-    ∙ ap (λ (o : Option ℕ). cond (q x) (Some x) o) (find_agree p q xs (agree_rest x xs p q agree))
+find_agree p q (x ∷ xs) agree = rw (agree_first x xs p q agree, find_agree p q xs (agree_rest x xs p q agree))
 
 pub any_agree : (p q : ℕ → Bool) (xs : List ℕ) → AgreeOn xs p q → list_any p xs ≡ list_any q xs
 any_agree p q [] agree = refl
-any_agree p q (x ∷ xs) agree =
-    ap (λ (b : Bool). b || list_any p xs) (agree_first x xs p q agree)
-    ∙ ap (λ (b : Bool). q x || b) (any_agree p q xs (agree_rest x xs p q agree))
+any_agree p q (x ∷ xs) agree = rw (agree_first x xs p q agree, any_agree p q xs (agree_rest x xs p q agree))
