@@ -2,7 +2,8 @@ ghost use Rattle.std.specs.Prelude.{[], ◌≡◌, ◌≤◌, IfOk, IfSome, opti
 ghost use Rattle.krs_model.specs.{Asks.Changing.changed, Lookup.{context_of, look_up, serial_of}, Outcome.Is};
 ghost use Rattle.krs_model.specs.{Possession.{possessed, process_ring}, Reach.{IsAcyclic, links_of_key_at}};
 ghost use Rattle.krs_model.specs.{State.{raised, starting_at}, Sweep.live_watches, Table.at};
-ghost use Rattle.krs_keys.specs.{Changes.meant_change, Keys.{FindsByName, seen}};
+ghost use Rattle.krs_keys.specs.{Changes.meant_change, Keys.{AreFit, FindsByName, name_at, seen}};
+ghost use Rattle.krs_walk.specs.Seeking.{is_possessed};
 ghost use Rattle.krs_tables.specs.{Granting.grants_to, Linked.name_in, Serving.SweepsOut};
 
 use krs_ctx::Contexts;
@@ -10,7 +11,7 @@ use krs_hold::Holders;
 use krs_keys::{Change, Key, KeyTable};
 use krs_links::{HashedName, Links, NameHasher, Seed};
 use krs_types::{Context, Errno, KeyId, Kind, Name, Serial, Want};
-use krs_walk::Walker;
+use krs_walk::{Sought, Walker};
 use krs_watch::{Memory, WatchQueues};
 use std::alloc::{AllocError, Global};
 use std::marker::Model;
@@ -90,46 +91,30 @@ impl Tables {
         requires { name_in self.now serial ≡ Some name.now }
         ensures { result ≡ possessed self.now context.now serial }
     {
-        let ring = self.process_ring(context.process);
-        if self
-            .walker
-            .possesses_hinted(&self.keys, context, ring, self.clock, name, serial)
-        {
-            return true;
-        }
-        self.possesses_unhinted(context, serial, name)
+        let sought = Sought {
+            keys: &self.keys,
+            context,
+            process_ring: self.process_ring(context.process),
+            clock: self.clock,
+            name,
+            serial,
+        };
+        self.walker.possesses_hinted(&sought) || self.possesses_unhinted(&sought)
     }
 
-    /// The same of a key that no hint finds: where that takes a look at many keyrings, it may soon be known to be out of
-    /// their reach.
+    /// The same of a key that no hint finds: where that takes a look at many keyrings, it may be known first that it is out
+    /// of their reach.
     #[inline(never)]
-    #[tactic(auto, unfolding(krs_model::specs::Possession::possessed))]
-    fn possesses_unhinted(&self, context: &Context, serial: Serial, name: &HashedName) -> bool
-        requires { name_in self.now serial ≡ Some name.now }
-        ensures { result ≡ possessed self.now context.now serial }
+    fn possesses_unhinted(&self, sought: &Sought<'_>) -> bool
+        requires fit { AreFit sought.now.keys.now.keys }
+        requires name { name_at sought.now.keys.now.keys sought.now.serial ≡ Some sought.now.name.now }
+        requires here { is_possessed sought.now ≡ possessed self.now sought.now.context.now sought.now.serial }
+        ensures { result ≡ possessed self.now sought.now.context.now sought.now.serial }
     {
-        let ring = self.process_ring(context.process);
-        match self
-            .walker
-            .possesses_soon(&self.keys, context, ring, self.clock, name, serial)
-        {
-            Some(possessed) => possessed,
-            None => self.possesses_among_many(context, serial, name),
+        if let Some(possessed) = self.walker.possesses_soon(sought) {
+            return possessed;
         }
-    }
-
-    /// The same, where it does take such a look.
-    #[tactic(auto, unfolding(krs_model::specs::Possession::possessed))]
-    fn possesses_among_many(&self, context: &Context, serial: Serial, name: &HashedName) -> bool
-        requires { name_in self.now serial ≡ Some name.now }
-        ensures { result ≡ possessed self.now context.now serial }
-    {
-        if self.is_apart(context, serial) {
-            return false;
-        }
-        let ring = self.process_ring(context.process);
-        self.walker
-            .possesses_named(&self.keys, context, ring, self.clock, name, serial)
+        !self.is_apart(sought.context, sought.serial) && self.walker.possesses_named(sought)
     }
 
     /// The serial that an id stands for.

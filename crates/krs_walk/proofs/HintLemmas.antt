@@ -1,10 +1,9 @@
 -- What a hint that the keys bear out shows of the levels below an attached keyring.
-use Rattle.std.proofs.Common.{[], ◌+◌, ◌∙◌, ◌∷◌, ◌≡◌, ◌≤◌, ap, arith, Bool, false, List, Option, suc, sym, true, ℕ}
+use Rattle.std.proofs.Common.{[], ◌+◌, ◌∙◌, ◌∷◌, ◌≡◌, ◌≤◌, ap, arith, Bool, false, List, suc, sym, true, ℕ}
 use Rattle.std.specs.List.{list_any}
-use Rattle.krs_types.specs.declared.context.Context.{Context}
-use Rattle.krs_model.specs.{Levels.{is_in, level, levels, search_depth}, Possession.attached_with, State.Key}
-use Rattle.krs_model.specs.{Table.Table}
-use Rattle.krs_walk.specs.Walks.{followed_rings, follows_link_to, is_linked, is_linked_within}
+use Rattle.krs_model.specs.Levels.{is_in, level, levels, search_depth}
+use Rattle.krs_walk.specs.Seeking.{heads, is_linked_anywhere, links_it, nested, one_links}
+use Rattle.krs_walk.specs.declared.possession.Sought.{Sought}
 use Rattle.krs_walk.proofs.DepthLemmas.{any_deeper, any_heads}
 use Rattle.krs_walk.proofs.{ListsLemmas.{any_at, or_left, or_right}, RoundsLemmas.any_up}
 
@@ -37,11 +36,7 @@ within_more p f heads n m up h =
     sym (any_heads p f heads m) ∙ any_up p f heads n m up (any_heads p f heads n ∙ h)
 
 -- what the two nearest levels link is linked
-pub near_linked : (keys : Table Key) (clock : ℕ) (c : Context) (ring : Option ℕ) (serial : ℕ)
-    → list_any (is_linked_within keys clock c.caller serial 2) (attached_with c ring) ≡ true
-    → is_linked keys clock c ring serial ≡ true
-near_linked keys clock c ring serial near =
-    let test = follows_link_to keys clock c.caller serial in
-    let rings = followed_rings keys clock c.caller in
-    any_up test rings (attached_with c ring) 2 search_depth (omega arith)
-    (any_heads test rings (attached_with c ring) 2 ∙ near)
+pub near_linked : (s : Sought) → one_links s 2 (heads s) ≡ true → is_linked_anywhere s ≡ true
+near_linked s near =
+    any_up (links_it s) (nested s) (heads s) 2 search_depth (omega arith)
+    (any_heads (links_it s) (nested s) (heads s) 2 ∙ near)

@@ -14,7 +14,8 @@ use Rattle.krs_links.specs.Links.{LinkList, nested, serial_named, serials}
 use Rattle.krs_keys.specs.Keys.{AreFit, AreNamed, name_at, named_links_of_content, OnlyRingsLink, seen, shown}
 use Rattle.krs_keys.specs.declared.key.Key.{Key}
 use Rattle.krs_keys.proofs.KeysLemmas.{serials-content}
-use Rattle.krs_walk.specs.Walks.{followed_rings, is_found, is_linked}
+use Rattle.krs_walk.specs.Seeking.{heads, is_linked_anywhere, is_possessed}
+use Rattle.krs_walk.specs.{Walks.{followed_rings, is_found, is_linked}, declared.possession.Sought.Sought}
 use Rattle.krs_walk.proofs.{CycleLemmas.levels_up, KeyringsLemmas.nested_serials}
 use Rattle.krs_walk.proofs.LevelsLemmas.{Fewer, in_flat_map, levels_fewer, levels_from, levels_next}
 use Rattle.krs_walk.proofs.ListsLemmas.{any_at, in_at, in_head, in_left, in_none, in_one, in_right, in_tail, is_same}
@@ -231,9 +232,13 @@ head_possessed keys clock c ring serial only h =
     possession_splits keys clock c ring serial only ∙ or_left (is_in serial (attached_with c ring))
     (is_linked keys clock c ring serial) h
 
--- any other is where it is linked
-pub linked_possessed : (keys : Table model.Key) (clock : ℕ) (c : Context) (ring : Option ℕ) (serial : ℕ)
-    → OnlyRingsLink keys → is_in serial (attached_with c ring) ≡ false
-    → possessed_with keys clock c ring serial ≡ is_linked keys clock c ring serial
-linked_possessed keys clock c ring serial only h =
-    possession_splits keys clock c ring serial only ∙ ap (λ b. b || is_linked keys clock c ring serial) h
+-- what is looked for is possessed where it is attached, and else where it is linked
+pub attached_possessed :
+    (s : Sought) → OnlyRingsLink (shown s.keys.now.keys) → is_in s.serial (heads s) ≡ true → is_possessed s ≡ true
+attached_possessed s only = head_possessed (shown s.keys.now.keys) s.clock s.context.now s.process_ring s.serial only
+
+pub linked_possessed : (s : Sought) → OnlyRingsLink (shown s.keys.now.keys) → is_in s.serial (heads s) ≡ false
+    → is_possessed s ≡ is_linked_anywhere s
+linked_possessed s only h =
+    possession_splits (shown s.keys.now.keys) s.clock s.context.now s.process_ring s.serial only
+    ∙ ap (λ b. b || is_linked_anywhere s) h

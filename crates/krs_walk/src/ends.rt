@@ -1,8 +1,7 @@
 //! Where the levels of nested keyrings end below those that are attached, and whether they have many.
 ghost use Rattle.std.specs.Prelude.{[], ◌≡◌, flat_map, option_to_list, true};
-ghost use Rattle.krs_model.specs.Possession.{attached_with};
-ghost use Rattle.krs_keys.specs.Keys.{AreFit, shown};
-ghost use Rattle.krs_walk.specs.Walks.{followed_rings};
+ghost use Rattle.krs_keys.specs.Keys.{AreFit};
+ghost use Rattle.krs_walk.specs.Seeking.{heads, nested};
 
 use crate::possession::{Sought, followed_rings};
 use krs_types::Serial;
@@ -14,10 +13,7 @@ impl Sought<'_> {
     /// Whether no followed keyring is nested deeper than in the two nearest levels, so that these have answered.
     pub(crate) fn ends_near(&self) -> bool
         requires fit { AreFit self.now.keys.now.keys }
-        ensures { result ≡ true → flat_map
-            (followed_rings (shown self.now.keys.now.keys) self.now.clock self.now.context.now.caller)
-            (flat_map (followed_rings (shown self.now.keys.now.keys) self.now.clock self.now.context.now.caller)
-            (attached_with self.now.context.now self.now.process_ring)) ≡ [] }
+        ensures { result ≡ true → flat_map (nested self.now) (flat_map (nested self.now) (heads self.now)) ≡ [] }
     {
         self.one_ends_near(self.context.thread)
             && self.one_ends_near(self.process_ring)
@@ -27,10 +23,7 @@ impl Sought<'_> {
     /// The same of one keyring, where there is one.
     fn one_ends_near(&self, ring: Option<Serial>) -> bool
         requires fit { AreFit self.now.keys.now.keys }
-        ensures { result ≡ true → flat_map
-            (followed_rings (shown self.now.keys.now.keys) self.now.clock self.now.context.now.caller)
-            (flat_map (followed_rings (shown self.now.keys.now.keys) self.now.clock self.now.context.now.caller)
-            (option_to_list ring)) ≡ [] }
+        ensures { result ≡ true → flat_map (nested self.now) (flat_map (nested self.now) (option_to_list ring)) ≡ [] }
     {
         match ring {
             Some(ring) => self.nests_no_deeper(ring),
@@ -41,9 +34,7 @@ impl Sought<'_> {
     /// Whether what a keyring nests nests no other.
     fn nests_no_deeper(&self, ring: Serial) -> bool
         requires fit { AreFit self.now.keys.now.keys }
-        ensures { result ≡ true → flat_map
-            (followed_rings (shown self.now.keys.now.keys) self.now.clock self.now.context.now.caller)
-            (followed_rings (shown self.now.keys.now.keys) self.now.clock self.now.context.now.caller ring) ≡ [] }
+        ensures { result ≡ true → flat_map (nested self.now) (nested self.now ring) ≡ [] }
     {
         let caller = &self.context.caller;
         let rings = followed_rings(self.keys, caller, self.clock, ring);

@@ -1,9 +1,9 @@
 //! Which keyrings a key hangs below, by the hints of those that link it. A hint is followed only where the keys bear it out.
-ghost use Rattle.std.specs.{Prelude.{◌+◌, ◌≡◌, IfSome, option_to_list, slice_get, true}, List.list_any};
-ghost use Rattle.krs_model.specs.{Levels.is_in, Possession.attached_with};
+ghost use Rattle.std.specs.Prelude.{◌+◌, ◌≡◌, IfSome, option_to_list, true};
+ghost use Rattle.krs_model.specs.Levels.{is_in};
 ghost use Rattle.krs_links.specs.Links.{serials};
-ghost use Rattle.krs_keys.specs.Keys.{AreFit, named_links_of_content, shown};
-ghost use Rattle.krs_walk.specs.Walks.{followed_rings, follows_link_to, HangsBelow, is_linked, is_linked_within};
+ghost use Rattle.krs_keys.specs.Keys.{AreFit, named_links_of_content};
+ghost use Rattle.krs_walk.specs.Seeking.{Hangs, heads, is_linked_anywhere, links_it, nested, one_links};
 
 use crate::possession::{NEAR_LEVELS, Sought, followed_rings, is_followed};
 use krs_keys::{Key, LinkHint};
@@ -13,9 +13,7 @@ impl Sought<'_> {
     /// Whether a hint of it leads to a link of it in a keyring of the two nearest levels.
     pub(crate) fn is_hinted(&self) -> bool
         requires fit { AreFit self.now.keys.now.keys }
-        ensures { result ≡ true → list_any
-            (is_linked_within (shown self.now.keys.now.keys) self.now.clock self.now.context.now.caller self.now.serial 2)
-            (attached_with self.now.context.now self.now.process_ring) ≡ true }
+        ensures { result ≡ true → one_links self.now 2 (heads self.now) ≡ true }
     {
         let (first, second) = self.keys.link_hints(self.serial);
         self.leads_near(first) || self.leads_near(second)
@@ -25,9 +23,7 @@ impl Sought<'_> {
     #[inline(always)]
     fn leads_near(&self, hint: LinkHint) -> bool
         requires fit { AreFit self.now.keys.now.keys }
-        ensures { result ≡ true → list_any
-            (is_linked_within (shown self.now.keys.now.keys) self.now.clock self.now.context.now.caller self.now.serial 2)
-            (attached_with self.now.context.now self.now.process_ring) ≡ true }
+        ensures { result ≡ true → one_links self.now 2 (heads self.now) ≡ true }
     {
         match hint.ring() {
             Some(ring) => self.is_reached(ring) && self.links_at(ring, hint.place()),
@@ -39,9 +35,7 @@ impl Sought<'_> {
     /// attached keyring.
     pub(crate) fn is_hinted_far(&self) -> bool
         requires fit { AreFit self.now.keys.now.keys }
-        ensures { result ≡ true →
-            is_linked (shown self.now.keys.now.keys) self.now.clock self.now.context.now self.now.process_ring self.now.serial
-            ≡ true }
+        ensures { result ≡ true → is_linked_anywhere self.now ≡ true }
     {
         let (first, second) = self.keys.link_hints(self.serial);
         self.leads_far(first) || self.leads_far(second)
@@ -50,9 +44,7 @@ impl Sought<'_> {
     /// Whether this hint does.
     fn leads_far(&self, hint: LinkHint) -> bool
         requires fit { AreFit self.now.keys.now.keys }
-        ensures { result ≡ true →
-            is_linked (shown self.now.keys.now.keys) self.now.clock self.now.context.now self.now.process_ring self.now.serial
-            ≡ true }
+        ensures { result ≡ true → is_linked_anywhere self.now ≡ true }
     {
         let Some(ring) = hint.ring() else {
             return false;
@@ -67,9 +59,7 @@ impl Sought<'_> {
     /// Whether hints lead up from a keyring, over so many others at most, to one that is attached or nested in such a one.
     fn climbs(&self, ring: Serial, others: u8) -> bool
         requires fit { AreFit self.now.keys.now.keys }
-        ensures { result ≡ true →
-            HangsBelow (shown self.now.keys.now.keys) self.now.clock self.now.context.now.caller self.now.serial ring (others + 1)
-            (attached_with self.now.context.now self.now.process_ring) }
+        ensures { result ≡ true → Hangs self.now ring (others + 1) (heads self.now) }
     {
         if self.is_reached(ring) {
             return true;
@@ -86,8 +76,7 @@ impl Sought<'_> {
     /// A keyring that is followed, and nests this one, by a hint.
     fn above(&self, ring: Serial) -> Option<Serial>
         requires fit { AreFit self.now.keys.now.keys }
-        ensures { IfSome result (λ above. is_in ring
-            (followed_rings (shown self.now.keys.now.keys) self.now.clock self.now.context.now.caller above) ≡ true) }
+        ensures { IfSome result (λ above. is_in ring (nested self.now above) ≡ true) }
     {
         let (first, second) = self.keys.link_hints(ring);
         let above = first.ring().or(second.ring())?;
@@ -102,9 +91,7 @@ impl Sought<'_> {
     #[inline(always)]
     fn is_reached(&self, ring: Serial) -> bool
         requires fit { AreFit self.now.keys.now.keys }
-        ensures { result ≡ true →
-            HangsBelow (shown self.now.keys.now.keys) self.now.clock self.now.context.now.caller self.now.serial ring 1
-            (attached_with self.now.context.now self.now.process_ring) }
+        ensures { result ≡ true → Hangs self.now ring 1 (heads self.now) }
     {
         self.one_reaches(self.context.session, ring)
             || self.one_reaches(self.process_ring, ring)
@@ -115,9 +102,7 @@ impl Sought<'_> {
     #[inline(always)]
     fn one_reaches(&self, attached: Option<Serial>, ring: Serial) -> bool
         requires fit { AreFit self.now.keys.now.keys }
-        ensures { result ≡ true →
-            HangsBelow (shown self.now.keys.now.keys) self.now.clock self.now.context.now.caller self.now.serial ring 1
-            (option_to_list attached) }
+        ensures { result ≡ true → Hangs self.now ring 1 (option_to_list attached) }
     {
         match attached {
             Some(head) => head == ring || self.nests(head, ring),
@@ -129,8 +114,7 @@ impl Sought<'_> {
     #[inline(always)]
     fn nests(&self, above: Serial, ring: Serial) -> bool
         requires fit { AreFit self.now.keys.now.keys }
-        ensures { result ≡ is_in ring
-            (followed_rings (shown self.now.keys.now.keys) self.now.clock self.now.context.now.caller above) }
+        ensures { result ≡ is_in ring (nested self.now above) }
     {
         has(
             followed_rings(self.keys, &self.context.caller, self.clock, above),
@@ -143,8 +127,7 @@ impl Sought<'_> {
     #[inline(always)]
     fn links_at(&self, ring: Serial, place: usize) -> bool
         requires fit { AreFit self.now.keys.now.keys }
-        ensures { result ≡ true →
-            follows_link_to (shown self.now.keys.now.keys) self.now.clock self.now.context.now.caller self.now.serial ring ≡ true }
+        ensures { result ≡ true → links_it self.now ring ≡ true }
     {
         match self.keys.get(ring) {
             Some(holder) if is_followed(holder, &self.context.caller, self.clock) => {

@@ -5,6 +5,7 @@ ghost use Rattle.krs_links.specs.Links.{serials};
 ghost use Rattle.krs_keys.specs.Keys.{AreFit, AreNamed, name_at, named_links_of_content, seen};
 ghost use Rattle.krs_walk.specs.Searching.{is_held, searcher_for, sought_behind, sought_in};
 
+use crate::Sought;
 use crate::possession::find_in;
 use crate::search::Search;
 use bitflags::Flags;
@@ -86,14 +87,14 @@ impl Search<'_> {
         requires key { at self.now.keys.now.keys serial ≡ Some key.now }
         ensures { result ≡ is_held self.now serial }
     {
-        self.walker.possesses_key(
-            self.keys,
-            self.context,
-            self.process_ring,
-            self.clock,
-            key,
+        self.walker.possesses_named(&Sought {
+            keys: self.keys,
+            context: self.context,
+            process_ring: self.process_ring,
+            clock: self.clock,
+            name: &key.name,
             serial,
-        )
+        })
     }
 
     /// Whether a key grants SEARCH, as one that is possessed or not.

@@ -17,5 +17,6 @@ mod search;
 mod visits;
 mod walker;
 
+pub use possession::Sought;
 use visits::Visits;
 pub use walker::Walker;

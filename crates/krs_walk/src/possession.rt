@@ -1,10 +1,10 @@
 ghost use Rattle.std.specs.Prelude.{[], ◌≡◌, ◌≤◌, drop, false, IfOk, IfSome, length, OnOk, option_to_list, Some, true};
 ghost use Rattle.std.specs.List.{list_any};
-ghost use Rattle.krs_model.specs.{Levels.is_in, Possession.{attached_with, is_followed, possessed_with}, Table.at};
+ghost use Rattle.krs_model.specs.{Levels.is_in, Possession.{attached_with, is_followed, possessed_with}};
 ghost use Rattle.krs_links.specs.Links.{serial_named};
 ghost use Rattle.krs_keys.specs.Keys.{AreFit, name_at, named_links_of_content, seen, shown};
-ghost use Rattle.krs_walk.specs.{Lists.join, Walks.followed_rings};
-ghost use Rattle.krs_walk.specs.Walks.{follows_link_to, is_found, is_linked, is_linked_within, with_next};
+ghost use Rattle.krs_walk.specs.Seeking.{heads, is_linked_anywhere, is_possessed, links_it, links_within, nested};
+ghost use Rattle.krs_walk.specs.{Lists.join, Seeking.one_links, Walks.{followed_rings, is_found, with_next}};
 
 use crate::keyrings::rings_in;
 use crate::visits::NoRoom;
@@ -17,6 +17,17 @@ use krs_types::{Caller, Context, Rights, SEARCH_DEPTH, Serial};
 /// So many levels of keyrings are asked first, by `is_linked_near`: a key is mostly linked by an attached keyring, or by
 /// one that it links, as the session keyring links the user keyring.
 pub(crate) const NEAR_LEVELS: u8 = 2;
+
+/// A key that is looked for: among which keys, by which context, its process's keyring, when, and its name and serial.
+#[derive(Clone, Copy)]
+pub struct Sought<'a> {
+    pub keys: &'a KeyTable,
+    pub context: &'a Context,
+    pub process_ring: Option<Serial>,
+    pub clock: u64,
+    pub name: &'a HashedName,
+    pub serial: Serial,
+}
 
 impl Walker {
     /// Whether a context, whose process has this keyring, possesses a key. keyrings(7), "Possession"; profile, search
@@ -34,139 +45,66 @@ impl Walker {
     {
         keys.only_keyrings_link();
         match keys.get(serial) {
-            Some(key) => {
-                self.possesses_named(keys, context, process_ring, clock, &key.name, serial)
-            }
+            Some(key) => self.possesses_named(&Sought {
+                keys,
+                context,
+                process_ring,
+                clock,
+                name: &key.name,
+                serial,
+            }),
             None => is_attached(context, &process_ring, serial),
         }
     }
 
-    /// The same of a key that is at hand.
-    pub fn possesses_key(
-        &self,
-        keys: &KeyTable,
-        context: &Context,
-        process_ring: Option<Serial>,
-        clock: u64,
-        key: &Key,
-        serial: Serial,
-    ) -> bool
-        requires fit { AreFit keys.now.keys }
-        requires key { at keys.now.keys serial ≡ Some key.now }
-        ensures { result ≡ possessed_with (shown keys.now.keys) clock context.now process_ring serial }
-    {
-        self.possesses_named(keys, context, process_ring, clock, &key.name, serial)
-    }
-
     /// The same of a key whose name is at hand: what links it has that name.
-    pub fn possesses_named(
-        &self,
-        keys: &KeyTable,
-        context: &Context,
-        process_ring: Option<Serial>,
-        clock: u64,
-        name: &HashedName,
-        serial: Serial,
-    ) -> bool
-        requires fit { AreFit keys.now.keys }
-        requires name { name_at keys.now.keys serial ≡ Some name.now }
-        ensures { result ≡ possessed_with (shown keys.now.keys) clock context.now process_ring serial }
+    pub fn possesses_named(&self, sought: &Sought<'_>) -> bool
+        requires fit { AreFit sought.now.keys.now.keys }
+        requires name { name_at sought.now.keys.now.keys sought.now.serial ≡ Some sought.now.name.now }
+        ensures { result ≡ is_possessed sought.now }
     {
-        keys.only_keyrings_link();
-        if is_attached(context, &process_ring, serial) {
-            return true;
-        }
-        let sought = Sought {
-            keys,
-            context,
-            process_ring,
-            clock,
-            name,
-            serial,
-        };
-        sought.is_linked(self)
+        sought.keys.only_keyrings_link();
+        sought.is_attached() || sought.is_linked(self)
     }
 
     /// Whether it is attached, or hints lead to a link of it at once.
-    pub fn possesses_hinted(
-        &self,
-        keys: &KeyTable,
-        context: &Context,
-        process_ring: Option<Serial>,
-        clock: u64,
-        name: &HashedName,
-        serial: Serial,
-    ) -> bool
-        requires fit { AreFit keys.now.keys }
-        requires name { name_at keys.now.keys serial ≡ Some name.now }
-        ensures { result ≡ true →
-            possessed_with (shown keys.now.keys) clock context.now process_ring serial ≡ true }
+    pub fn possesses_hinted(&self, sought: &Sought<'_>) -> bool
+        requires fit { AreFit sought.now.keys.now.keys }
+        requires name { name_at sought.now.keys.now.keys sought.now.serial ≡ Some sought.now.name.now }
+        ensures { result ≡ true → is_possessed sought.now ≡ true }
     {
-        keys.only_keyrings_link();
-        if is_attached(context, &process_ring, serial) {
-            return true;
-        }
-        let sought = Sought {
-            keys,
-            context,
-            process_ring,
-            clock,
-            name,
-            serial,
-        };
-        sought.is_hinted()
+        sought.keys.only_keyrings_link();
+        sought.is_attached() || sought.is_hinted()
     }
 
     /// Whether it is possessed, where that takes a look at few keyrings: else none. No hint of it is looked at.
-    pub fn possesses_soon(
-        &self,
-        keys: &KeyTable,
-        context: &Context,
-        process_ring: Option<Serial>,
-        clock: u64,
-        name: &HashedName,
-        serial: Serial,
-    ) -> Option<bool>
-        requires fit { AreFit keys.now.keys }
-        requires name { name_at keys.now.keys serial ≡ Some name.now }
-        ensures { IfSome result (λ b. b ≡
-            possessed_with (shown keys.now.keys) clock context.now process_ring serial) }
+    pub fn possesses_soon(&self, sought: &Sought<'_>) -> Option<bool>
+        requires fit { AreFit sought.now.keys.now.keys }
+        requires name { name_at sought.now.keys.now.keys sought.now.serial ≡ Some sought.now.name.now }
+        ensures { IfSome result (λ b. b ≡ is_possessed sought.now) }
     {
-        keys.only_keyrings_link();
-        if is_attached(context, &process_ring, serial) {
+        sought.keys.only_keyrings_link();
+        if sought.is_attached() {
             return Some(true);
         }
-        let sought = Sought {
-            keys,
-            context,
-            process_ring,
-            clock,
-            name,
-            serial,
-        };
         sought.is_linked_soon(self)
     }
 }
 
-/// A key that is looked for: among which keys, by which context, its process's keyring, when, and its name and serial.
-#[derive(Clone, Copy)]
-pub(crate) struct Sought<'a> {
-    pub(crate) keys: &'a KeyTable,
-    pub(crate) context: &'a Context,
-    pub(crate) process_ring: Option<Serial>,
-    pub(crate) clock: u64,
-    pub(crate) name: &'a HashedName,
-    pub(crate) serial: Serial,
-}
-
 impl Sought<'_> {
+    /// Whether it is attached.
+    fn is_attached(&self) -> bool
+        ensures { result ≡ is_in self.now.serial (heads self.now) }
+    {
+        is_attached(self.context, &self.process_ring, self.serial)
+    }
+
     /// Whether a followed keyring of the first `SEARCH_DEPTH` levels links it. Hints are followed first: they mostly lead
     /// to the link at once, however many keyrings there are.
     fn is_linked(&self, walker: &Walker) -> bool
         requires fit { AreFit self.now.keys.now.keys }
         requires name { name_at self.now.keys.now.keys self.now.serial ≡ Some self.now.name.now }
-        ensures { result ≡
-            is_linked (shown self.now.keys.now.keys) self.now.clock self.now.context.now self.now.process_ring self.now.serial }
+        ensures { result ≡ is_linked_anywhere self.now }
     {
         if self.is_hinted() {
             return true;
@@ -179,8 +117,7 @@ impl Sought<'_> {
     fn is_linked_unhinted(&self, walker: &Walker) -> bool
         requires fit { AreFit self.now.keys.now.keys }
         requires name { name_at self.now.keys.now.keys self.now.serial ≡ Some self.now.name.now }
-        ensures { result ≡
-            is_linked (shown self.now.keys.now.keys) self.now.clock self.now.context.now self.now.process_ring self.now.serial }
+        ensures { result ≡ is_linked_anywhere self.now }
     {
         match self.is_linked_soon(walker) {
             Some(linked) => linked,
@@ -193,8 +130,7 @@ impl Sought<'_> {
     fn is_linked_by_walk(&self, walker: &Walker) -> bool
         requires fit { AreFit self.now.keys.now.keys }
         requires name { name_at self.now.keys.now.keys self.now.serial ≡ Some self.now.name.now }
-        ensures { result ≡
-            is_linked (shown self.now.keys.now.keys) self.now.clock self.now.context.now self.now.process_ring self.now.serial }
+        ensures { result ≡ is_linked_anywhere self.now }
     {
         if self.is_linked_near() {
             return true;
@@ -206,8 +142,7 @@ impl Sought<'_> {
     fn is_linked_soon(&self, walker: &Walker) -> Option<bool>
         requires fit { AreFit self.now.keys.now.keys }
         requires name { name_at self.now.keys.now.keys self.now.serial ≡ Some self.now.name.now }
-        ensures { IfSome result (λ b. b ≡
-            is_linked (shown self.now.keys.now.keys) self.now.clock self.now.context.now self.now.process_ring self.now.serial) }
+        ensures { IfSome result (λ b. b ≡ is_linked_anywhere self.now) }
     {
         if self.nests_many(0) {
             return self.is_linked_by_hints();
@@ -222,8 +157,7 @@ impl Sought<'_> {
     #[inline(never)]
     fn is_linked_by_hints(&self) -> Option<bool>
         requires fit { AreFit self.now.keys.now.keys }
-        ensures { IfSome result (λ b. b ≡
-            is_linked (shown self.now.keys.now.keys) self.now.clock self.now.context.now self.now.process_ring self.now.serial) }
+        ensures { IfSome result (λ b. b ≡ is_linked_anywhere self.now) }
     {
         if self.is_hinted_far() {
             return Some(true);
@@ -236,11 +170,8 @@ impl Sought<'_> {
     fn is_linked_far(&self, walker: &Walker) -> Option<bool>
         requires fit { AreFit self.now.keys.now.keys }
         requires name { name_at self.now.keys.now.keys self.now.serial ≡ Some self.now.name.now }
-        requires near { list_any
-            (is_linked_within (shown self.now.keys.now.keys) self.now.clock self.now.context.now.caller self.now.serial 2)
-            (attached_with self.now.context.now self.now.process_ring) ≡ false }
-        ensures { IfSome result (λ b. b ≡
-            is_linked (shown self.now.keys.now.keys) self.now.clock self.now.context.now self.now.process_ring self.now.serial) }
+        requires near { one_links self.now 2 (heads self.now) ≡ false }
+        ensures { IfSome result (λ b. b ≡ is_linked_anywhere self.now) }
     {
         if self.ends_near() {
             return Some(false);
@@ -258,11 +189,8 @@ impl Sought<'_> {
     fn is_linked_by_levels(&self, walker: &Walker) -> bool
         requires fit { AreFit self.now.keys.now.keys }
         requires name { name_at self.now.keys.now.keys self.now.serial ≡ Some self.now.name.now }
-        requires near { list_any
-            (is_linked_within (shown self.now.keys.now.keys) self.now.clock self.now.context.now.caller self.now.serial 2)
-            (attached_with self.now.context.now self.now.process_ring) ≡ false }
-        ensures { result ≡
-            is_linked (shown self.now.keys.now.keys) self.now.clock self.now.context.now self.now.process_ring self.now.serial }
+        requires near { one_links self.now 2 (heads self.now) ≡ false }
+        ensures { result ≡ is_linked_anywhere self.now }
     {
         let mut seen = walker.take(&walker.followed);
         let linked = self.is_linked_below(&mut seen);
@@ -277,12 +205,9 @@ impl Sought<'_> {
     fn is_linked_below(&self, seen: &mut Visits) -> Result<bool, NoRoom>
         requires fit { AreFit self.now.keys.now.keys }
         requires name { name_at self.now.keys.now.keys self.now.serial ≡ Some self.now.name.now }
-        requires near { list_any
-            (is_linked_within (shown self.now.keys.now.keys) self.now.clock self.now.context.now.caller self.now.serial 2)
-            (attached_with self.now.context.now self.now.process_ring) ≡ false }
+        requires near { one_links self.now 2 (heads self.now) ≡ false }
         requires seen { seen.old ≡ [] }
-        ensures { IfOk result (λ b. b ≡
-            is_linked (shown self.now.keys.now.keys) self.now.clock self.now.context.now self.now.process_ring self.now.serial) }
+        ensures { IfOk result (λ b. b ≡ is_linked_anywhere self.now) }
     {
         let caller = &self.context.caller;
         join_attached(seen, self.context, self.process_ring)?;
@@ -303,9 +228,7 @@ impl Sought<'_> {
     fn is_linked_near(&self) -> bool
         requires fit { AreFit self.now.keys.now.keys }
         requires name { name_at self.now.keys.now.keys self.now.serial ≡ Some self.now.name.now }
-        ensures { result ≡ list_any
-            (is_linked_within (shown self.now.keys.now.keys) self.now.clock self.now.context.now.caller self.now.serial 2)
-            (attached_with self.now.context.now self.now.process_ring) }
+        ensures { result ≡ one_links self.now 2 (heads self.now) }
     {
         self.one_links_near(self.context.thread)
             || self.one_links_near(self.process_ring)
@@ -316,9 +239,7 @@ impl Sought<'_> {
     fn one_links_near(&self, ring: Option<Serial>) -> bool
         requires fit { AreFit self.now.keys.now.keys }
         requires name { name_at self.now.keys.now.keys self.now.serial ≡ Some self.now.name.now }
-        ensures { result ≡ list_any
-            (is_linked_within (shown self.now.keys.now.keys) self.now.clock self.now.context.now.caller self.now.serial 2)
-            (option_to_list ring) }
+        ensures { result ≡ one_links self.now 2 (option_to_list ring) }
     {
         match ring {
             Some(ring) => self.links_near(ring),
@@ -330,8 +251,7 @@ impl Sought<'_> {
     fn links_near(&self, ring: Serial) -> bool
         requires fit { AreFit self.now.keys.now.keys }
         requires name { name_at self.now.keys.now.keys self.now.serial ≡ Some self.now.name.now }
-        ensures { result ≡
-            is_linked_within (shown self.now.keys.now.keys) self.now.clock self.now.context.now.caller self.now.serial 2 ring }
+        ensures { result ≡ links_within self.now 2 ring }
     {
         let (linked, rings) = self.look_into(ring);
         if linked {
@@ -350,9 +270,7 @@ impl Sought<'_> {
     fn is_linked_within_reach(&self, depth: u8) -> bool
         requires fit { AreFit self.now.keys.now.keys }
         requires name { name_at self.now.keys.now.keys self.now.serial ≡ Some self.now.name.now }
-        ensures { result ≡ list_any
-            (is_linked_within (shown self.now.keys.now.keys) self.now.clock self.now.context.now.caller self.now.serial depth)
-            (attached_with self.now.context.now self.now.process_ring) }
+        ensures { result ≡ one_links self.now depth (heads self.now) }
     {
         self.one_leads_to(self.context.thread, depth)
             || self.one_leads_to(self.process_ring, depth)
@@ -363,9 +281,7 @@ impl Sought<'_> {
     fn one_leads_to(&self, ring: Option<Serial>, depth: u8) -> bool
         requires fit { AreFit self.now.keys.now.keys }
         requires name { name_at self.now.keys.now.keys self.now.serial ≡ Some self.now.name.now }
-        ensures { result ≡ list_any
-            (is_linked_within (shown self.now.keys.now.keys) self.now.clock self.now.context.now.caller self.now.serial depth)
-            (option_to_list ring) }
+        ensures { result ≡ one_links self.now depth (option_to_list ring) }
     {
         match ring {
             Some(ring) => self.is_linked_within(ring, depth),
@@ -377,8 +293,7 @@ impl Sought<'_> {
     fn is_linked_within(&self, ring: Serial, depth: u8) -> bool
         requires fit { AreFit self.now.keys.now.keys }
         requires name { name_at self.now.keys.now.keys self.now.serial ≡ Some self.now.name.now }
-        ensures { result ≡
-            is_linked_within (shown self.now.keys.now.keys) self.now.clock self.now.context.now.caller self.now.serial depth ring }
+        ensures { result ≡ links_within self.now depth ring }
     {
         if depth == 0 {
             return false;
@@ -400,9 +315,7 @@ impl Sought<'_> {
         requires fit { AreFit self.now.keys.now.keys }
         requires name { name_at self.now.keys.now.keys self.now.serial ≡ Some self.now.name.now }
         requires start { start ≤ length seen.now }
-        ensures { result ≡ list_any
-            (follows_link_to (shown self.now.keys.now.keys) self.now.clock self.now.context.now.caller self.now.serial)
-            (drop start seen.now) }
+        ensures { result ≡ list_any (links_it self.now) (drop start seen.now) }
     {
         for place in start..seen.len() {
             if self.links_key(seen.at(place)) {
@@ -417,10 +330,8 @@ impl Sought<'_> {
     fn look_into(&self, ring: Serial) -> (bool, &[Serial])
         requires fit { AreFit self.now.keys.now.keys }
         requires name { name_at self.now.keys.now.keys self.now.serial ≡ Some self.now.name.now }
-        ensures linked { result.0 ≡
-            follows_link_to (shown self.now.keys.now.keys) self.now.clock self.now.context.now.caller self.now.serial ring }
-        ensures rings { result.1.now ≡
-            followed_rings (shown self.now.keys.now.keys) self.now.clock self.now.context.now.caller ring }
+        ensures linked { result.0 ≡ links_it self.now ring }
+        ensures rings { result.1.now ≡ nested self.now ring }
     {
         match self.keys.get(ring) {
             Some(holder) if is_followed(holder, &self.context.caller, self.clock) => {
@@ -435,8 +346,7 @@ impl Sought<'_> {
     fn links_key(&self, ring: Serial) -> bool
         requires fit { AreFit self.now.keys.now.keys }
         requires name { name_at self.now.keys.now.keys self.now.serial ≡ Some self.now.name.now }
-        ensures { result ≡
-            follows_link_to (shown self.now.keys.now.keys) self.now.clock self.now.context.now.caller self.now.serial ring }
+        ensures { result ≡ links_it self.now ring }
     {
         match self.keys.get(ring) {
             Some(holder) if is_followed(holder, &self.context.caller, self.clock) => {

@@ -8,3 +8,8 @@ pub possesses_hinted-requires-clause-name : goal.possesses_hinted-requires-claus
 possesses_hinted-requires-clause-name c =
     name_kept c.self.inside c.args.serial c.args.name.now
     (subst (λ (t : State). name_in t c.args.serial ≡ Some c.args.name.now) (sym c.self.view_is) c.requires)
+
+pub possesses_unhinted-requires-clause-name : goal.possesses_unhinted-requires-clause-name
+possesses_unhinted-requires-clause-name c =
+    name_kept c.self.inside c.args.serial c.args.name.now
+    (subst (λ (t : State). name_in t c.args.serial ≡ Some c.args.name.now) (sym c.self.view_is) c.requires)

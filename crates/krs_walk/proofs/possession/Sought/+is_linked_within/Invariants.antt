@@ -1,7 +1,5 @@
 use Rattle.std.proofs.Common.{◌-◌, ◌≡◌, drop}
-use Rattle.std.specs.List.{list_any}
-use Rattle.krs_keys.specs.Keys.{shown}
-use Rattle.krs_walk.specs.Walks.{is_linked_within}
+use Rattle.krs_walk.specs.Seeking.{links_within, one_links}
 use Rattle.krs_walk.proofs.possession.Sought.+is_linked_within.Given as goal
 
 abbrev pub decreases-is_linked_within : goal.decreases-is_linked_within
@@ -9,6 +7,4 @@ decreases-is_linked_within l = l.depth
 
 abbrev pub invariant-loop-nested : goal.invariant-loop-nested
 invariant-loop-nested l =
-    list_any (is_linked_within (shown l.self.keys.now.keys) l.self.clock l.self.context.now.caller l.self.serial (l.depth - 1))
-    (drop l.nested-index l.rings)
-    ≡ is_linked_within (shown l.self.keys.now.keys) l.self.clock l.self.context.now.caller l.self.serial l.depth l.fn.ring
+    one_links l.self (l.depth - 1) (drop l.nested-index l.rings) ≡ links_within l.self l.depth l.fn.ring

@@ -8,37 +8,39 @@ use Rattle.krs_walk.proofs.possession.Sought.look_into.Goals as goal
 
 pub returns-in-Some-clause-linked : goal.returns-in-Some-clause-linked
 returns-in-Some-clause-linked c =
-    c.is_some-linked.ensures ∙ followed_links c.args.self.now.keys.now.keys c.args.self.now.clock c.args.self.now.context.now.caller c.args.ring c.args.self.now.serial
-    c.in-Some.holder.now c.args.self.now.name.now c.link_place.result c.requires.fit
-    (sym c.get.ensures ∙ ap option_copied c.in-Some.is) (sym c.is_followed.ensures ∙ c.if-is_followed.true)
-    c.requires.name c.link_place.ensures.there c.link_place.ensures.none
+    let s = c.args.self.now in
+    c.is_some-linked.ensures
+    ∙ followed_links s.keys.now.keys s.clock s.context.now.caller c.args.ring s.serial c.in-Some.holder.now s.name.now
+    c.link_place.result c.requires.fit (sym c.get.ensures ∙ ap option_copied c.in-Some.is)
+    (sym c.is_followed.ensures ∙ c.if-is_followed.true) c.requires.name c.link_place.ensures.there c.link_place.ensures.none
 
 pub returns-in-Some-clause-rings : goal.returns-in-Some-clause-rings
 returns-in-Some-clause-rings c =
-    c.rings_in.ensures ∙ followed_nested c.args.self.now.keys.now.keys c.args.self.now.clock c.args.self.now.context.now.caller c.args.ring
-    c.in-Some.holder.now c.requires.fit
+    let s = c.args.self.now in
+    c.rings_in.ensures
+    ∙ followed_nested s.keys.now.keys s.clock s.context.now.caller c.args.ring c.in-Some.holder.now c.requires.fit
     (sym c.get.ensures ∙ ap option_copied c.in-Some.is) (sym c.is_followed.ensures ∙ c.if-is_followed.true)
 
 pub returns-in_default-clause-linked : goal.returns-in_default-clause-linked
 returns-in_default-clause-linked c =
-    let keys = c.args.self.now.keys.now.keys in
+    let s = c.args.self.now in
     elim c.in_default.branch [
-      | in_default-via-in-Some+else-is_followed w ↦ ap (is_in c.args.self.now.serial)
-          (sym (unfollowed keys c.args.self.now.clock c.args.self.now.context.now.caller c.args.ring w.in-Some.holder.now
+      | in_default-via-in-Some+else-is_followed w ↦ ap (is_in s.serial)
+          (sym (unfollowed s.keys.now.keys s.clock s.context.now.caller c.args.ring w.in-Some.holder.now
           (sym c.get.ensures ∙ ap option_copied w.in-Some.is) (sym w.is_followed.ensures ∙ w.if-is_followed.false)))
-      | in_default-via-in_default w ↦ ap (is_in c.args.self.now.serial)
-          (sym (followed_absent keys c.args.self.now.clock c.args.self.now.context.now.caller c.args.ring
+      | in_default-via-in_default w ↦ ap (is_in s.serial)
+          (sym (followed_absent s.keys.now.keys s.clock s.context.now.caller c.args.ring
           (sym c.get.ensures ∙ ap option_copied w.in_default.is)))
     ]
 
 pub returns-in_default-clause-rings : goal.returns-in_default-clause-rings
 returns-in_default-clause-rings c =
-    let keys = c.args.self.now.keys.now.keys in
+    let s = c.args.self.now in
     elim c.in_default.branch [
-      | in_default-via-in-Some+else-is_followed w ↦ ap (filter (λ k. is_ring (at (shown keys) k)))
-          (sym (unfollowed keys c.args.self.now.clock c.args.self.now.context.now.caller c.args.ring w.in-Some.holder.now
+      | in_default-via-in-Some+else-is_followed w ↦ ap (filter (λ k. is_ring (at (shown s.keys.now.keys) k)))
+          (sym (unfollowed s.keys.now.keys s.clock s.context.now.caller c.args.ring w.in-Some.holder.now
           (sym c.get.ensures ∙ ap option_copied w.in-Some.is) (sym w.is_followed.ensures ∙ w.if-is_followed.false)))
-      | in_default-via-in_default w ↦ ap (filter (λ k. is_ring (at (shown keys) k)))
-          (sym (followed_absent keys c.args.self.now.clock c.args.self.now.context.now.caller c.args.ring
+      | in_default-via-in_default w ↦ ap (filter (λ k. is_ring (at (shown s.keys.now.keys) k)))
+          (sym (followed_absent s.keys.now.keys s.clock s.context.now.caller c.args.ring
           (sym c.get.ensures ∙ ap option_copied w.in_default.is)))
     ]
