@@ -9,7 +9,7 @@ use Rattle.krs_world.specs.{Knowing.one, World.IsUnanswered, declared.view.{Cell
 use Rattle.krs_world.proofs.Between.{collected_between, posted_between, real_time_between}
 use Rattle.krs_world.proofs.Keeping.{prefix_more, prefix_self}
 use Rattle.krs_desk.specs.Between.{KeepsCollectedBetween, KeepsPostedBetween, KeepsRealTimeBetween, RefusesRevoked}
-use Rattle.krs_desk.specs.{Moves.{after, IsMadeAt, Move}, Parts.{cell_of, sight, views_of}, Rule.CellIs}
+use Rattle.krs_desk.specs.{Moves.{after, IsMadeAt, Move}, Parts.{cell_of, views_of}, Rule.CellIs}
 use Rattle.krs_desk.specs.declared.{slot.SlotValue.SlotValue, word.TheConstants.{ANSWERED, TURN}}
 use Rattle.krs_desk.proofs.{Seen.{legal_cut, not_read_revoked}, TurnSteps.view_at}
 use Rattle.krs_desk.specs.Moves as move
@@ -38,31 +38,28 @@ pub real_time : (a : State) → KeepsRealTimeBetween a
 real_time a s s' front q q' e more r later shown at idle there lane mine =
     real_time_between a (slice_index s.words TURN) (slice_index s'.words TURN) r.home later.home r.cell later.cell
     (views_of s.views) (views_of s'.views) front at.0 there.0 q q' e more r.history later.history shown.0 shown.1
-    (view_at s.views at.0 (sight (one a q) at.1) at.2) idle (view_at s'.views there.0 (sight (one a q') there.1) there.2)
-    lane mine
+    (view_at s.views at.0 at.2) idle (view_at s'.views there.0 there.2) lane mine
 
 pub collected : (a : State) → KeepsCollectedBetween a
 collected a s s' front q q' e more r later shown at not there lane mine =
     collected_between a (slice_index s.words TURN) (slice_index s'.words TURN) r.home later.home r.cell later.cell
     (views_of s.views) (views_of s'.views) front at.0 there.0 q q' e more r.history later.history shown.0 shown.1
-    (view_at s.views at.0 (sight (one a q) at.1) at.2)
+    (view_at s.views at.0 at.2)
     (unanswered (slice_index s.words (cell_of q.lane)) (get_elem? s.homes (cell_of q.lane)) (r.cell q.lane) not
-    (r.cells q.lane))
-    (view_at s'.views there.0 (sight (one a q') there.1) there.2) lane mine
+    (r.cells q.lane)) (view_at s'.views there.0 there.2) lane mine
 
 pub posted : (a : State) → KeepsPostedBetween a
 posted a s s' front q q' m ask reply r later shown at not there lane mine answered =
     posted_between a (slice_index s.words TURN) (slice_index s'.words TURN) r.home later.home r.cell later.cell
     (views_of s.views) (views_of s'.views) front at.0 there.0 q q' m ask reply r.history later.history shown.0 shown.1
-    (view_at s.views at.0 (sight (one a q) at.1) at.2)
+    (view_at s.views at.0 at.2)
     (unanswered (slice_index s.words (cell_of q.lane)) (get_elem? s.homes (cell_of q.lane)) (r.cell q.lane) not
-    (r.cells q.lane))
-    (view_at s'.views there.0 (sight (one a q') there.1) there.2) lane mine answered
+    (r.cells q.lane)) (view_at s'.views there.0 there.2) lane mine answered
 
 pub refuses_revoked : (a : State) → StaysUnread a → RefusesRevoked a
 refuses_revoked a unread s s' front serial q q' e more r later shown revoked at not there lane mine =
     let t = (collected a s s' front q q' e more r later shown at not there lane mine).1 in
-    let known = later.history.each there.0 (one a q') (view_at s'.views there.0 (sight (one a q') there.1) there.2) in
+    let known = later.history.each there.0 (one a q') (view_at s'.views there.0 there.2) in
     let cut = legal_cut a later.history.last q'.seen known.seen.0
     (subst (λ (l : List Event). IsLegal a l later.history.last) (sym known.seen.1) later.history.legal) in
     let front_is : front ++ t.0 ≡ revoked.0 ++ revoked.1 ∷ (revoked.2 ++ t.0) =
@@ -77,8 +74,7 @@ refuses_revoked a unread s s' front serial q q' e more r later shown revoked at 
     )
 
 -- what a lane had seen begins what it has seen after a step
-pub seen_by :
-    (made : Step SlotValue) (found : Option ℕ) (p : Part) (m : Move)
+pub seen_by : (made : Step SlotValue) (found : Option ℕ) (p : Part) (m : Move)
     → ((log : List Event) → p.holding ≡ Some log → Begins p.seen log) → IsMadeAt made found p m
     → Begins p.seen (after p m).seen
 seen_by made found p move.stays held is = prefix_self p.seen

@@ -21,8 +21,7 @@ use Rattle.krs_world.proofs.Seating as seating
 use Rattle.krs_world.specs.declared.view.Cell.TheVariants as cells
 
 -- each of the lanes' slots is empty
-empties :
-    (n lane : ℕ) → lane < length (map some (replicate n Empty))
+empties : (n lane : ℕ) → lane < length (map some (replicate n Empty))
     → get_elem? (map some (replicate n Empty)) lane ≡ some (some Empty)
 empties zero lane lt = absurd (omega arith)
 empties (suc n) zero lt = refl
@@ -40,9 +39,7 @@ first_housed : (n : ℕ) (a : State) (j : ℕ) (v : Sight) → get_elem? (first_
 first_housed n a zero v e = subst (AreHoused n) (some-injective (first_sight a) v e) tt
 first_housed n a (suc j) v e = absurd (some-ne-none v (sym e))
 
-begins :
-    (a : State) (lanes : ℕ) (ws : List ℕ) → length ws ≡ lanes + 1 → get_or ws 0 0 ≡ 2 → AreZero ws
-    → InOneOrder a
+begins : (a : State) (lanes : ℕ) (ws : List ℕ) → length ws ≡ lanes + 1 → get_or ws 0 0 ≡ 2 → AreZero ws → InOneOrder a
     record { words = ws; homes = some (Home a) ∷ map some (replicate lanes Empty); views = first_sight a ∷ [] }
 begins a lanes ws wide two zeros = let count = homes_count lanes in record {
   wide = wide ∙ omega arith;
@@ -56,8 +53,7 @@ begins a lanes ws wide two zeros = let count = homes_count lanes in record {
     λ lt. after_first (some (Home a)) (map some (replicate lanes Empty)) lane ∙ empties lanes lane (omega arith),
   );
   housed = λ j v e. first_housed (length ws) a j v e;
-  history =
-      subst (λ (n : ℕ). OneHistory a n (Some a) (λ _. cells.Empty) (view a (Opening 0) ∷ [])) (sym two)
+  history = subst (λ (n : ℕ). OneHistory a n (Some a) (λ _. cells.Empty) (view a (Opening 0) ∷ [])) (sym two)
       (seating.begins a);
 }
 
@@ -66,24 +62,19 @@ pub begins_at :
     → length ws ≡ lanes + 1 → get_or ws 0 0 ≡ 2 → AreZero ws → InOneOrder a (opening vs slots (first_sight a))
 begins_at a lanes ws vs slots same is wide two zeros =
     subst (λ (z : List ℕ × List SlotValue). InOneOrder a (opening z.0 z.1 (first_sight a)))
-    (λ i. (sym same i, sym is i))
-    (begins a lanes ws wide two zeros)
+    (λ i. (sym same i, sym is i)) (begins a lanes ws wide two zeros)
 
 -- the turn is freed
-pub opens_at :
-    (key a : State) (n : ℕ) (slots id : ℕ) (m : Me) → m ≡ (sight (view a (Opening n)) false, [])
+pub opens_at : (key a : State) (n : ℕ) (slots id : ℕ) (m : Me) → m ≡ (sight (view a (Opening n)) false, [])
     → Allows (InOneOrder key) slots id m 0 (λ _. 0) (λ _. stored_told opens_told (step slots 0 0 0 none) m 0)
-opens_at key a n slots id m is =
-    subst
-    (λ (z : Me). Allows (InOneOrder key) slots id z 0 (λ _. 0) (λ _. stored_told opens_told (step slots 0 0 0 none) z 0))
-    (sym is)
-    (λ s r len at small.
+opens_at key a n slots id m is = subst
+    (λ (z : Me). Allows (InOneOrder key) slots id z 0 (λ _. 0)
+    (λ _. stored_told opens_told (step slots 0 0 0 none) z 0))
+    (sym is) (λ s r len at small.
     let views : List View = views_of s.views in
     let e : a ≡ key = opening_is key a (Opening n) false s id r at (λ e. cc) in
     let from = subst (λ (k : State). OneHistory k (turn s) r.home r.cell views) (sym e) r.history in
-    let h =
-    seating.opens a (turn s) r.home r.cell views id n from
-    (view_at s.views id (sight (view a (Opening n)) false) at) in (
+    let h = seating.opens id from (view_at s.views id at) in (
       spent a,
       keeps,
       tt,
@@ -94,47 +85,38 @@ opens_at key a n slots id m is =
 
 -- an empty cell stays empty
 same_cells : (cell : ℕ → Cell) (lane : ℕ) → cell lane ≡ cells.Empty → celled cell lane cells.Empty ≡ cell
-same_cells cell lane empty =
-    λ i l. (dite (ℕ_discrete l lane)
-    (λ (e : l ≡ lane). ap (celled cell lane cells.Empty) e
+same_cells cell lane empty = λ i l. (dite (ℕ_discrete l lane) (λ (e : l ≡ lane). ap (celled cell lane cells.Empty) e
     ∙ (law.celled_here cell lane cells.Empty ∙ (sym empty ∙ ap cell (sym e))))
     (λ not. law.celled_else cell lane l cells.Empty not)) i
 
 -- a new seat gets its lane's slot
-picked :
-    (a : State) (slots id lane : ℕ) → lane + 1 < slots
+picked : (a : State) (slots id lane : ℕ) → lane + 1 < slots
     → Allows (InOneOrder a) slots id (dealt a (fresh lane), []) (lane + 1) (λ n. n)
     (λ n. moved_told picks_told (step slots (lane + 1) 0 0 none) (dealt a (fresh lane), []) n)
 picked a slots id lane room s r len at small =
     let p : Part = fresh lane in
     let views : List View = views_of s.views in
-    let is : get_elem? views id ≡ some (one a p) = view_at s.views id (dealt a p) at in
+    let is : get_elem? views id ≡ some (one a p) = view_at s.views id at in
     let free = r.laid id lane (dealt a p) at (refl, refl) in
-    let k = law.own a views id p is (turn s) r.home r.cell r.history in
+    let k = law.own id is r.history in
     let word : get_or s.words (lane + 1) 0 ≡ 0 =
     subst (CellIs (get_or s.words (lane + 1) 0) (get_elem? s.homes (lane + 1))) free.0 (r.cells lane) in
-    let h =
-    law.stays a views id p is (turn s) r.home r.cell r.history p refl refl (λ e. e) k in (
+    let h = law.stays id is r.history p refl refl (λ e. e) k in (
       sat a p,
       takes (lane + 1) Empty,
       free.1 (omega arith),
       moved_cell a s r lane (get_or s.words (lane + 1) 0) none cells.Empty id a p (omega arith)
-          (let wide = r.wide in omega arith) word
-          (λ j l v not e lies. lies_apart a s r id p is j l v not e lies)
+          (let wide = r.wide in omega arith) word (λ j l v not e lies. lies_apart a s r id p is j l v not e lies)
           (subst (λ (c : ℕ → Cell). OneHistory a (turn s) r.home c (set views id (one a p)))
           (sym (same_cells r.cell lane free.0)) h),
       (refl, (refl, (move.stays, (refl, (get_or s.words (lane + 1) 0, refl, λ e. omega arith), refl), refl))),
     )
 
-pub picks_at :
-    (key a : State) (slots id lane : ℕ) (m : Me) → m ≡ (dealt a (fresh lane), []) → lane + 1 < slots
+pub picks_at : (key a : State) (slots id lane : ℕ) (m : Me) → m ≡ (dealt a (fresh lane), []) → lane + 1 < slots
     → Allows (InOneOrder key) slots id m (lane + 1) (λ n. n) (moved_told picks_told (step slots (lane + 1) 0 0 none) m)
-picks_at key a slots id lane m is room =
-    subst
-    (λ (z : Me).
+picks_at key a slots id lane m is room = subst (λ (z : Me).
     Allows (InOneOrder key) slots id z (lane + 1) (λ n. n) (moved_told picks_told (step slots (lane + 1) 0 0 none) z))
-    (sym is)
-    (λ s r len at small.
+    (sym is) (λ s r len at small.
     let e : a ≡ key = opening_is key a (One (fresh lane)) true s id r at (λ e. cc) in
     let t = picked a slots id lane room s (subst (λ (k : State). InOneOrder k s) (sym e) r) len at small in (
       t.0,
@@ -144,8 +126,7 @@ picks_at key a slots id lane m is room =
       t.4,
     ))
 
-pub picked_is :
-    (a : State) (slots lane found : ℕ) (m n : Me) → m ≡ (dealt a (fresh lane), [])
+pub picked_is : (a : State) (slots lane found : ℕ) (m n : Me) → m ≡ (dealt a (fresh lane), [])
     → picks_told (step slots (lane + 1) 0 0 none) m found n
     → n ≡ (sat a (fresh lane), hand_of (fresh lane).flight (fresh lane).lane)
 picked_is a slots lane found m n is told = told ∙ ap (λ (k : Me). (sight k.0.view false, (lane + 1, Empty) ∷ k.1)) is

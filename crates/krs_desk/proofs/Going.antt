@@ -1,5 +1,5 @@
 -- What stays of a table's cells, turn and history where what its lanes know of their calls stays.
-use Rattle.std.proofs.Common.{[], ◌++◌, ◌+◌, ◌<◌, ◌∙◌, ◌∷◌, ◌≡◌, ◌≤◌, ap, append-nil, append_assoc, arith, get_or}
+use Rattle.std.proofs.Common.{[], ◌++◌, ◌+◌, ◌<◌, ◌∙◌, ◌∷◌, ◌≡◌, ap, arith, get_or}
 use Rattle.std.proofs.Common.{length, length-append, List, lt_of_not-le, None, Option, refl, Some, subst, sym, ℕ}
 use lib.ListN.{get_elem?}
 use mathlib.Core.Logic.{dite}
@@ -9,12 +9,10 @@ use Rattle.krs_model.specs.{History.{event_of, IsLegal}, Lists.Begins, State.Sta
 use Rattle.krs_model.proofs.History.Determined.{one_history}
 use Rattle.krs_world.specs.{History.Fits, Knowing.{events_of, flight, service}, World.World, declared.view.Cell.Cell}
 use Rattle.krs_world.specs.declared.view.{Flight.Flight, Part.Part}
-use Rattle.krs_desk.specs.{Machine.IsSeatedIn, Parts.views_of, Rule.{CellIs, InOneOrder}, Running.Board}
-use Rattle.krs_desk.proofs.Adding.{counts, last_same, no_shorter}
-use Rattle.krs_desk.proofs.Agreeing.{Agrees, holder_there, known_at, seat_there, Slot}
+use Rattle.krs_desk.specs.{Machine.IsSeatedIn, Parts.views_of, Rule.{CellIs, InOneOrder, Slot}, Running.Board}
+use Rattle.krs_desk.proofs.Adding.{counts, last_same, none_more}
+use Rattle.krs_desk.proofs.Agreeing.{Agrees, holder_there, known_at, seat_there}
 use Rattle.krs_desk.proofs.{Running.{begins_log, log_grows, seen_sits, sits_seen, within}, TurnSteps.turn}
-use Rattle.krs_desk.specs.Moves as move
-use Rattle.krs_world.proofs.Keeping as law
 use Rattle.krs_world.specs.declared.view.Cell.TheVariants as cells
 
 -- Cells.
@@ -31,8 +29,7 @@ pub one_call : (f g : Flight) → ◌≡◌ {A = Option Flight} (Some f) (Some g
 one_call f g e = cc
 
 -- The cell of a lane is what the history and its call in flight say, but for whether it is served.
-cell_same :
-    (c c' : Cell) (log log' : List Event) (p p' : Part) → Fits log p c → Fits log' p' c' → p'.flight ≡ p.flight
+cell_same : (c c' : Cell) (log log' : List Event) (p p' : Part) → Fits log p c → Fits log' p' c' → p'.flight ≡ p.flight
     → p'.mine ≡ p.mine → events_of p'.lane log' ≡ events_of p.lane log
     → ((m : ℕ) (ask : Ask) → c ≡ cells.Serving m ask → c' ≡ cells.Serving m ask)
     → ((m : ℕ) (ask : Ask) → c' ≡ cells.Serving m ask → c ≡ cells.Serving m ask) → c' ≡ c
@@ -66,7 +63,7 @@ cell_same (cells.Answered m ask r) (cells.Answered m' ask' r') log log' p p' f f
     last_same p.mine e' e (ap (λ (z : List Event). z ++ e' ∷ []) (sym mine) ∙ (sym f'.2 ∙ (ev ∙ f.2))) in
     ap (λ (x : Event). cells.Answered x.moment x.ask x.reply) same
 
-module _ (a : State) (s new : Board) (r : InOneOrder a s) (r' : InOneOrder a new) where
+module _ {a : State} {s new : Board} (r : InOneOrder a s) (r' : InOneOrder a new) where
   abbrev pub Was : Part → Type 0
   Was p = IsSeatedIn (views_of s.views) p
 
@@ -78,30 +75,27 @@ module _ (a : State) (s new : Board) (r : InOneOrder a s) (r' : InOneOrder a new
   SameCalls u = (t : Part) × Was t × (u.lane ≡ t.lane) × (u.flight ≡ t.flight) × (u.mine ≡ t.mine)
 
   abbrev pub KeepsServed : ℕ → Type 0
-  KeepsServed l =
-      ((m : ℕ) (ask : Ask) → r.cell l ≡ cells.Serving m ask → r'.cell l ≡ cells.Serving m ask)
+  KeepsServed l = ((m : ℕ) (ask : Ask) → r.cell l ≡ cells.Serving m ask → r'.cell l ≡ cells.Serving m ask)
       × ((m : ℕ) (ask : Ask) → r'.cell l ≡ cells.Serving m ask → r.cell l ≡ cells.Serving m ask)
 
   pub cell_stays : (l : ℕ) → KeepsServed l → events_of l r'.history.log ≡ events_of l r.history.log
       → ((t : Part) → Was t → (u : Part) × Is u × (u.lane ≡ t.lane))
       → ((u : Part) → Is u → u.lane ≡ l → SameCalls u) → r'.cell l ≡ r.cell l
-  cell_stays l served ev forth back =
-      dite (dec_le r'.history.dealt l)
+  cell_stays l served ev forth back = dite (dec_le r'.history.dealt l)
       (λ le. (r'.history.undealt l le).0 ∙ sym (dite (dec_le r.history.dealt l) (λ is. (r.history.undealt l is).0)
       (λ nle.
-      let t = seat_there a s r l (lt_of_not-le nle) in
+      let t = seat_there r l (lt_of_not-le nle) in
       let u = forth t.0 t.1 in
-      let given = (known_at a new r' u.0 u.1).given in
+      let given = (known_at r' u.1).given in
       let same : u.0.lane ≡ l = u.2 ∙ t.2 in
       let less : l < r'.history.dealt = subst (λ (n : ℕ). n < r'.history.dealt) same given in
-      absurd (omega arith))))
-      (λ nle.
-      let u = seat_there a new r' l (lt_of_not-le nle) in
+      absurd (omega arith)))) (λ nle.
+      let u = seat_there r' l (lt_of_not-le nle) in
       let t = back u.0 u.1 u.2 in
       let at : t.0.lane ≡ l = sym t.2 ∙ u.2 in
       cell_same (r.cell l) (r'.cell l) r.history.log r'.history.log t.0 u.0
-      (subst (λ (n : ℕ). Fits r.history.log t.0 (r.cell n)) at (known_at a s r t.0 t.1).fits)
-      (subst (λ (n : ℕ). Fits r'.history.log u.0 (r'.cell n)) u.2 (known_at a new r' u.0 u.1).fits) t.3 t.4
+      (subst (λ (n : ℕ). Fits r.history.log t.0 (r.cell n)) at (known_at r t.1).fits)
+      (subst (λ (n : ℕ). Fits r'.history.log u.0 (r'.cell n)) u.2 (known_at r' u.1).fits) t.3 t.4
       (ap (λ (n : ℕ). events_of n r'.history.log) u.2
       ∙ (ev ∙ ap (λ (n : ℕ). events_of n r.history.log) (sym at))) served.0 served.1)
 
@@ -110,13 +104,11 @@ module _ (a : State) (s new : Board) (r : InOneOrder a s) (r' : InOneOrder a new
   pub same_serving : turn new ≡ turn s
       → ((t : Part) → Was t → (u : Part) × Is u × (u.holding ≡ t.holding) × (u.serving ≡ t.serving))
       → r'.history.serving ≡ r.history.serving
-  same_serving same forth =
-      dite (ℕ_discrete (turn s) 1)
-      (λ out.
-      let t = holder_there a s r out in
+  same_serving same forth = dite (ℕ_discrete (turn s) 1) (λ out.
+      let t = holder_there r out in
       let u = forth t.0 t.1 in
-      let k = (known_at a s r t.0 t.1).holding r.history.log t.2 in
-      let k' = (known_at a new r' u.0 u.1).holding r.history.log (u.2 ∙ t.2) in
+      let k = (known_at r t.1).holding r.history.log t.2 in
+      let k' = (known_at r' u.1).holding r.history.log (u.2 ∙ t.2) in
       sym k'.same_service ∙ (u.3 ∙ k.same_service))
       (λ not. r'.history.unserved (λ e. not (sym same ∙ e)) ∙ sym (r.history.unserved not))
 
@@ -128,38 +120,12 @@ module _ (a : State) (s new : Board) (r : InOneOrder a s) (r' : InOneOrder a new
 
   -- The history.
 
-  more_none : (rest : List Event) → r.history.log ++ rest ≡ r'.history.log
-      → ((l : ℕ) → length (events_of l r.history.log) ≡ length (events_of l r'.history.log))
-      → r'.history.log ≡ r.history.log
-  more_none [] e same = sym e ∙ append-nil r.history.log
-  more_none (x ∷ more) e same =
-      let l : ℕ = x.lane in
-      let old : List Event = events_of l r.history.log in
-      let longer : List Event = events_of l r'.history.log in
-      let b : Begins (r.history.log ++ x ∷ []) r'.history.log =
-      (more, append_assoc r.history.log (x ∷ []) more ∙ e) in
-      let has : Begins (old ++ x ∷ []) longer =
-      subst (λ (z : List Event). Begins z longer) (law.own_event l r.history.log x refl)
-      (law.events_prefix l (r.history.log ++ x ∷ []) r'.history.log b) in
-      let long : length (old ++ x ∷ []) ≤ length longer = no_shorter (old ++ x ∷ []) longer has in
-      let sum : length (old ++ x ∷ []) ≡ length old + 1 = length-append old (x ∷ []) in
-      let no : length old ≡ length longer = same l in
-      absurd (omega arith)
-
   -- where all words of cells stay, and each lane knows of as many calls, it has no other call
   pub same_log : ((l : ℕ) → get_or new.words (l + 1) 0 ≡ get_or s.words (l + 1) 0)
       → ((u : Part) → Is u → SameCalls u) → Begins r.history.log r'.history.log → r'.history.log ≡ r.history.log
   same_log words back grows =
-      more_none grows.0 grows.1 (λ l.
-      dite (dec_le r'.history.dealt l)
-      (λ le.
-      let short : length (events_of l r.history.log) ≤ length (events_of l r'.history.log) =
-      no_shorter (events_of l r.history.log) (events_of l r'.history.log)
-      (law.events_prefix l r.history.log r'.history.log grows) in
-      let none : length (events_of l r'.history.log) ≡ 0 = ap length (r'.history.undealt l le).1 in
-      omega arith)
-      (λ nle.
-      let u = seat_there a new r' l (lt_of_not-le nle) in
+      none_more r.history.log r'.history.log grows r'.history.dealt (λ l le. (r'.history.undealt l le).1) (λ l lt.
+      let u = seat_there r' l lt in
       let t = back u.0 u.1 in
       let n : ℕ = t.0.lane in
       let at : n ≡ l = sym t.2 ∙ u.2 in
@@ -167,18 +133,16 @@ module _ (a : State) (s new : Board) (r : InOneOrder a s) (r' : InOneOrder a new
       subst (λ (k : ℕ). length (events_of k r.history.log) ≡ length (events_of k r'.history.log)) at
       (counts (get_or s.words (n + 1) 0) (get_elem? s.homes (n + 1)) slot (r.cell n) (r'.cell n) r.history.log
       r'.history.log t.0 u.0 t.2 t.4 (r.cells n)
-      (subst (λ (x : ℕ). CellIs x slot (r'.cell n)) (words n) (r'.cells n)) (known_at a s r t.0 t.1).fits
-      (subst (λ (k : ℕ). Fits r'.history.log u.0 (r'.cell k)) t.2 (known_at a new r' u.0 u.1).fits))))
+      (subst (λ (x : ℕ). CellIs x slot (r'.cell n)) (words n) (r'.cells n)) (known_at r t.1).fits
+      (subst (λ (k : ℕ). Fits r'.history.log u.0 (r'.cell k)) t.2 (known_at r' u.1).fits)))
 
   -- where the seats are those that there were, it is no longer
   pub log_back : ((p : Part) → Is p → Was p) → Begins r'.history.log r.history.log
-  log_back back =
-      log_grows a new s r' r
-      (λ front was.
+  log_back back = log_grows a new s r' r (λ front was.
       let t = seen_sits was.2 was.1.stands was.4 in
       let f = back t.0 (was.0, was.1, was.3, t.1) in
       (f.0, f.1, t.0.seen, f.2, sits_seen t.0 f.1.stands f.3, subst (Begins front) (sym t.2) was.5))
-      (λ p l is held. begins_log l r.history.log ((within a s r p (back p is)).held l held))
+      (λ p l is held. begins_log l r.history.log ((within r (back p is)).held l held))
 
   -- The whole table.
 

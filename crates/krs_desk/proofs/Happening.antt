@@ -86,8 +86,7 @@ splits_happen s id v at = record { id = id; v = v; at = at; words = refl; views 
 joins_happen : JoinsHappen
 joins_happen s id other v w both how at apart there =
     let was : get_elem? s.views other ≡ some w = sym (law.set_else s.views id other both apart) ∙ there in
-    ⊎_elim
-    (λ (t : AreOnes v w × (both ≡ both_sights v w)). record {
+    ⊎_elim (λ (t : AreOnes v w × (both ≡ both_sights v w)). record {
       id = id;
       other = other;
       v = v;
@@ -101,8 +100,7 @@ joins_happen s id other v w both how at apart there =
       how = inl (t.0.0.0, t.0.0.1, t.1);
       words = refl;
       views = refl;
-    })
-    (λ (t : IsSpentFor v w × (both ≡ settled_sight v w)). record {
+    }) (λ (t : IsSpentFor v w × (both ≡ settled_sight v w)). record {
       id = id;
       other = other;
       v = v;

@@ -6,7 +6,7 @@ use Rattle.atomic_table.specs.{Seated.TableId, Table.{rest, step, turned}}
 use mathlib.Core.{Logic.dite, Option.none}
 use native.Mathlib.Decide.{ℕ_discrete}
 use Rattle.krs_types.specs.declared.{ask.{Answer.Answer, Ask.Ask}, errno.Errno.Errno, event.Event.Event}
-use Rattle.krs_model.specs.{History.{event_of, IsLegal}, Lists.Begins, Sound.IsSound, State.State, Step.Step}
+use Rattle.krs_model.specs.{History.{event_of, IsLegal}, Lists.Begins, State.State, Step.Step}
 use Rattle.krs_model.proofs.History.Legal.{legal_more}
 use Rattle.krs_world.specs.Knowing.{answered, events_of, grabbed, looked_at, put_none, taken}
 use Rattle.krs_world.specs.declared.view.{Flight.Flight, Part.Part}
@@ -19,33 +19,17 @@ use Rattle.krs_desk.proofs.Seats.{same_store}
 
 -- The turn is had.
 
--- a token that just had the turn may serve
-pub had_held : (lane : ℕ) (idle : Bool) (m n : Me) → IsSeated lane idle m → Holds m n → HoldsAll n
-had_held lane idle m n seated had =
-    subst (λ (z : Me). HoldsAll z) (sym had.has)
-    record {
-      log = had.log;
-      last = had.last;
-      has = ap (λ (k : Me). (sat (opening m) (taken (part m) had.log), (0, Home had.last) ∷ k.1)) seated.rests.0;
-      held = refl;
-      legal = had.found.legal;
-      unserving = seated.unserving;
-    }
-
-pub had_hand :
-    (lane : ℕ) (idle : Bool) (m n : Me) → IsSeated lane idle m → Holds m n → idle ≡ is_free (part n).flight
-had_hand lane idle m n seated had = seated.tells ∙ ap (λ (k : Me). is_free (part k).flight) (sym had.has)
+pub had_hand : {lane : ℕ} {idle : Bool} {m n : Me} → IsSeated lane idle m → Holds m n → idle ≡ is_free (part n).flight
+had_hand seated had = seated.tells ∙ ap (λ (k : Me). is_free (part k).flight) (sym had.has)
 
 -- The store that lies behind another slot.
 
 -- what a turn of the slots in hand leaves in front
-pub behind :
-    (m n : Me) (x : ℕ × SlotValue) (store : State) → HasBehind m x store → n ≡ (m.0, turned m.1)
+pub behind : (m n : Me) (x : ℕ × SlotValue) (store : State) → HasBehind m x store → n ≡ (m.0, turned m.1)
     → n ≡ (m.0, (0, Home store) ∷ (hand_of (part m).flight (part m).lane ++ x ∷ []))
 behind m n x store has is = is ∙ ap (λ c. (m.0, turned c)) has
 
-in_front :
-    (idle : Bool) (f : Option Flight) (lane : ℕ) (x y : ℕ × SlotValue) → idle ≡ is_free f
+in_front : (idle : Bool) (f : Option Flight) (lane : ℕ) (x y : ℕ × SlotValue) → idle ≡ is_free f
     → turned_back idle (y ∷ (hand_of f lane ++ x ∷ [])) ≡ x ∷ y ∷ hand_of f lane
 in_front idle None lane x y e = ap (λ b. turned_back b (y ∷ (hand_of None lane ++ x ∷ []))) e
 in_front idle (Some call) lane x y e = ap (λ b. turned_back b (y ∷ (hand_of (Some call) lane ++ x ∷ []))) e
@@ -72,10 +56,8 @@ served_behind idle m n k w event hand e s is x store has =
 -- One lane.
 
 -- the value of a slot in hand that was told is the one that was read
-pub slot_is :
-    (n : Me) (v : SlotValue) (i : ℕ) (x : SlotValue) (c : List (ℕ × SlotValue)) → n.1 ≡ (i, v) ∷ c
-    → n.1 ≡ (i, x) ∷ rest n.1
-    → x ≡ v
+pub slot_is : (n : Me) (v : SlotValue) (i : ℕ) (x : SlotValue) (c : List (ℕ × SlotValue)) → n.1 ≡ (i, v) ∷ c
+    → n.1 ≡ (i, x) ∷ rest n.1 → x ≡ v
 slot_is n v i x c told read =
     let both : (i, v) ∷ c ≡ (i, x) ∷ rest n.1 = sym told ∙ read in
     let head : ◌≡◌ {A = ℕ × SlotValue} (i, v) (i, x) = cc in
@@ -94,27 +76,20 @@ read_is a p lane i n x m m' ask ask' c is slot read =
     is ∙ (λ k. (sat a (grabbed p lane (same.0 k) (same.1 k)), (i, Asked (same.0 k) (same.1 k)) ∷ c))
 
 -- the ask of a call that was taken up is out of its slot, which lies before the store
-pub emptied :
-    (m n w : Me) (lane moment : ℕ) (ask : Ask) → (h : HoldsAll m)
+pub emptied : (m n w : Me) (lane moment : ℕ) (ask : Ask) → (h : HoldsAll m)
     → n ≡ (sat (opening m) (grabbed (part m) lane moment ask), (lane + 1, Asked moment ask) ∷ m.1)
-    → w ≡ (n.0, (lane + 1, Empty) ∷ rest n.1)
-    → w ≡ (
+    → w ≡ (n.0, (lane + 1, Empty) ∷ rest n.1) → w ≡ (
       sat (opening m) (grabbed (part m) lane moment ask),
       (lane + 1, Empty) ∷ (0, Home h.last) ∷ hand_of (part m).flight (part m).lane,
     )
-emptied m n w lane moment ask h e is =
-    is ∙ (ap (λ (k : Me). (k.0, (lane + 1, Empty) ∷ rest k.1)) e
+emptied m n w lane moment ask h e is = is ∙ (ap (λ (k : Me). (k.0, (lane + 1, Empty) ∷ rest k.1)) e
     ∙ ap (λ (k : Me). (sat (opening m) (grabbed (part m) lane moment ask), (lane + 1, Empty) ∷ k.1)) h.has)
 
-pub lies_behind :
-    (m w : Me) (lane moment : ℕ) (ask : Ask) → (h : HoldsAll m)
-    → w ≡ (
-      sat (opening m) (grabbed (part m) lane moment ask),
-      (lane + 1, Empty) ∷ (0, Home h.last) ∷ hand_of (part m).flight (part m).lane,
-    )
-    → HasBehind w (lane + 1, Empty) h.last
-lies_behind m w lane moment ask h is =
-    subst (λ (z : Me). HasBehind z (lane + 1, Empty) h.last) (sym is) refl
+pub lies_behind : (m w : Me) (lane moment : ℕ) (ask : Ask) → (h : HoldsAll m) → w ≡ (
+  sat (opening m) (grabbed (part m) lane moment ask),
+  (lane + 1, Empty) ∷ (0, Home h.last) ∷ hand_of (part m).flight (part m).lane,
+) → HasBehind w (lane + 1, Empty) h.last
+lies_behind m w lane moment ask h is = subst (λ (z : Me). HasBehind z (lane + 1, Empty) h.last) (sym is) refl
 
 -- the reply lies in that slot, and the store was served
 pub replied :
@@ -122,17 +97,14 @@ pub replied :
     → w ≡ (
       sat (opening m) (grabbed (part m) lane moment ask),
       (lane + 1, Empty) ∷ (0, Home h.last) ∷ hand_of (part m).flight (part m).lane,
-    )
-    → k ≡ (w.0, (lane + 1, Empty) ∷ (0, Home after) ∷ hand_of (part w).flight (part w).lane)
-    → v ≡ (k.0, (lane + 1, Replied reply) ∷ rest k.1)
-    → v ≡ (
+    ) → k ≡ (w.0, (lane + 1, Empty) ∷ (0, Home after) ∷ hand_of (part w).flight (part w).lane)
+    → v ≡ (k.0, (lane + 1, Replied reply) ∷ rest k.1) → v ≡ (
       sat (opening m) (grabbed (part m) lane moment ask),
       (lane + 1, Replied reply) ∷ (0, Home after) ∷ rest m.1,
     )
 replied m w k v lane moment ask reply after h e e' is =
     let q : Part = grabbed (part m) lane moment ask in
-    is ∙ (ap (λ (z : Me). (z.0, (lane + 1, Replied reply) ∷ rest z.1)) e'
-    ∙ (ap
+    is ∙ (ap (λ (z : Me). (z.0, (lane + 1, Replied reply) ∷ rest z.1)) e' ∙ (ap
     (λ (z : Me). (z.0, (lane + 1, Replied reply) ∷ (0, Home after) ∷ hand_of (part z).flight (part z).lane)) e
     ∙ ap (λ (c : List (ℕ × SlotValue)). (sat (opening m) q, (lane + 1, Replied reply) ∷ (0, Home after) ∷ c))
     (sym (ap (λ (z : Me). rest z.1) h.has))))
@@ -148,18 +120,14 @@ answered_is a slots lane m ask reply p c log n w is held told =
 
 -- the store lies before the slots that the token has besides
 pub in_hand : (m : Me) → (h : HoldsAll m) → m ≡ (sat (opening m) (part m), (0, Home h.last) ∷ rest m.1)
-in_hand m h =
-    h.has ∙ ap (λ c. (sat (opening m) (part m), (0, Home h.last) ∷ c)) (sym (ap (λ (k : Me). rest k.1) h.has))
+in_hand m h = h.has ∙ ap (λ c. (sat (opening m) (part m), (0, Home h.last) ∷ c)) (sym (ap (λ (k : Me). rest k.1) h.has))
 
 -- one event was added, and the lane's cell was looked at
-pub serves_one :
-    (m : Me) (lane moment : ℕ) (ask : Ask) (reply : Result Answer Errno) (next : State) (w : Me)
-    → (h : HoldsAll m)
-    → w ≡ (
+pub serves_one : (m : Me) (lane moment : ℕ) (ask : Ask) (reply : Result Answer Errno) (next : State) (w : Me)
+    → (h : HoldsAll m) → w ≡ (
       sat (opening m) (answered (grabbed (part m) lane moment ask) h.log (event_of lane moment ask reply)),
       (0, Home next) ∷ rest m.1,
-    )
-    → Step h.last (event_of lane moment ask reply) next → ServesLane m lane 1 w
+    ) → Step h.last (event_of lane moment ask reply) next → ServesLane m lane 1 w
 serves_one m lane moment ask reply next w h is does =
     let p : Part = part m in
     let e : Event = event_of lane moment ask reply in
@@ -196,8 +164,7 @@ done_if true d e = refl
 done_if false d e = e
 
 -- the lane's cell was looked at, and no event was added
-pub serves_none :
-    (m : Me) (lane x : ℕ) (w : Me) → (h : HoldsAll m)
+pub serves_none : (m : Me) (lane x : ℕ) (w : Me) → (h : HoldsAll m)
     → w ≡ (sat (opening m) (looked_at (part m) lane ((eqb x 3) && (eqb lane (part m).lane))), m.1)
     → (lane ≡ (part m).lane → (part m).flight ≢ None → x ≡ 3) → ServesLane m lane 0 w
 serves_none m lane x w h is three =
@@ -225,8 +192,7 @@ serves_none m lane x w h is three =
         unserving = h.unserving;
         checked = refl;
         own = λ same has.
-            let both : b ≡ true =
-            (λ i. (eqb (three same has i) 3) && (eqb lane p.lane)) ∙ eq-eqb lane p.lane same in
+            let both : b ≡ true = (λ i. (eqb (three same has i) 3) && (eqb lane p.lane)) ∙ eq-eqb lane p.lane same in
             ap (λ c. cond c true p.done) both;
         done = λ yes. done_if b p.done yes;
       },
@@ -275,13 +241,11 @@ stays_on p q r first second = record {
   found = second.found ∙ first.found;
 }
 
-goes_on :
-    (a : State) (p q r : Part) (j k lane : ℕ) (store next : State) → Progress a p j lane q store
+goes_on : (a : State) (p q r : Part) (j k lane : ℕ) (store next : State) → Progress a p j lane q store
     → Served a q lane k r next → Progress a p (j + k) (lane + 1) r next
 goes_on a p q r j k lane store next g s =
     let base : List Event = held_of p.holding in
-    let same : s.log ≡ base ++ g.events =
-    ap held_of (sym s.held ∙ g.holds) in
+    let same : s.log ≡ base ++ g.events = ap held_of (sym s.held ∙ g.holds) in
     let all : s.log ++ s.events ≡ base ++ (g.events ++ s.events) =
     ap (λ l. l ++ s.events) same ∙ append_assoc base g.events s.events in
     record {
@@ -291,17 +255,14 @@ goes_on a p q r j k lane store next g s =
       answers = length-append g.events s.events ∙ (λ i. g.answers i + s.answers i);
       stays = stays_on p q r g.stays s.stays;
       unserving = s.unserving;
-      checked =
-          s.checked
-          ∙ (ap (λ l. l ++ lane ∷ []) g.checked
+      checked = s.checked ∙ (ap (λ l. l ++ lane ∷ []) g.checked
           ∙ (append_assoc p.checked (below lane) (lane ∷ []) ∙ ap (λ l. p.checked ++ l) (sym (below_more lane))));
       done = λ lt has. dite (ℕ_discrete lane p.lane)
           (λ (e : lane ≡ p.lane). s.own (e ∙ sym g.stays.same_lane) (λ no. has (sym g.stays.flight ∙ no)))
           (λ ne. s.done (g.done (omega arith) has));
     }
 
-pub goes_at :
-    (m n w : Me) (j k lane : ℕ) → Goes m j lane n → ServesLane n lane k w → Goes m (j + k) (lane + 1) w
+pub goes_at : (m n w : Me) (j k lane : ℕ) → Goes m j lane n → ServesLane n lane k w → Goes m (j + k) (lane + 1) w
 goes_at m n w j k lane g s =
     let same : opening n ≡ opening m = ap opening g.1 in
     let behind : rest n.1 ≡ rest m.1 = ap (λ (z : Me). rest z.1) g.1 in (
@@ -327,27 +288,22 @@ held_at m n j lane h g =
 
 -- The turn is given back.
 
-pub brought_is :
-    (m w : Me) (slots : ℕ) → HoldsAll m → brings_told (step slots 0 1 0 none) m 1 w
+pub brought_is : (m w : Me) (slots : ℕ) → HoldsAll m → brings_told (step slots 0 1 0 none) m 1 w
     → w ≡ (sat (opening m) (put_none (part m) (held_of (part m).holding)), rest m.1)
-brought_is m w slots h told =
-    (told h.log h.held).0
+brought_is m w slots h told = (told h.log h.held).0
     ∙ ap (λ l. (sat (opening m) (put_none (part m) l), rest m.1)) (sym (ap held_of h.held))
 
 pub brought_mine :
     (m w : Me) (slots : ℕ) → HoldsAll m → brings_told (step slots 0 1 0 none) m 1 w → (part m).flight ≡ None
     → events_of (part m).lane (held_of (part m).holding) ≡ (part m).mine
-brought_mine m w slots h told quiet =
-    ap (λ l. events_of (part m).lane (held_of l)) h.held ∙ (told h.log h.held).1 quiet
+brought_mine m w slots h told quiet = ap (λ l. events_of (part m).lane (held_of l)) h.held ∙ (told h.log h.held).1 quiet
 
 -- what the caller is told
-helped_part :
-    (table desk : TableId) (a b : ℕ) (m : Me) (log : List Event) (q : Part) (count : ℕ) (next : State)
+helped_part : (table desk : TableId) (a b : ℕ) (m : Me) (log : List Event) (q : Part) (count : ℕ) (next : State)
     → (part m).lane < lanes_of desk
     → Begins (part m).seen log → Progress (opening m) (taken (part m) log) count (lanes_of desk) q next
     → (q.flight ≡ None → events_of q.lane (held_of q.holding) ≡ q.mine) → (c : List (ℕ × SlotValue))
-    → Helps desk (sitting_of table a m) count
-    (sitting_of table b (sat (opening m) (put_none q (held_of q.holding)), c))
+    → Helps desk (sitting_of table a m) count (sitting_of table b (sat (opening m) (put_none q (held_of q.holding)), c))
 helped_part table desk a b m log q count next within seen g own c =
     let all : held_of q.holding ≡ log ++ g.events = ap held_of g.holds in record {
       same_table = refl;
@@ -369,12 +325,12 @@ helped_part table desk a b m log q count next within seen g own c =
     }
 
 pub helped :
-    (table same_table desk : TableId) (a b : ℕ) (m n k w : Me) (s : Sitting) (count : ℕ) → sitting_of table a m ≡ s
+    {table same_table desk : TableId} {a b : ℕ} {m n k w : Me} {s : Sitting} {count : ℕ} → sitting_of table a m ≡ s
     → same_table ≡ table → (part m).lane < lanes_of desk → (h : Holds m n) → Goes n count (lanes_of desk) k
     → w ≡ (sat (opening k) (put_none (part k) (held_of (part k).holding)), rest k.1)
     → ((part k).flight ≡ None → events_of (part k).lane (held_of (part k).holding) ≡ (part k).mine)
     → Helps desk s count (sitting_of same_table b w)
-helped table same_table desk a b m n k w s count view same within h g is own =
+helped {table} {desk = desk} {a} {b} {m} {n} {k} {w} {count = count} view same within h g is own =
     let open_is : opening n ≡ opening m = ap opening h.has in
     let open_k : opening k ≡ opening m = ap opening g.1 ∙ open_is in
     let p_is : part n ≡ taken (part m) h.log = ap part h.has in
@@ -385,45 +341,15 @@ helped table same_table desk a b m n k w s count view same within h g is own =
     subst (λ (z : Sitting × Sitting). Helps desk z.0 count z.1) (λ i. (view i, sitting_of (sym same i) b (sym w_is i)))
     (helped_part table desk a b m h.log (part k) count g.0 within h.found.seen going own (rest k.1))
 
-pub helped_seated :
-    (lane : ℕ) (idle : Bool) (m n k w : Me) (count lanes : ℕ) → IsSeated lane idle m → (h : Holds m n)
-    → Goes n count lanes k → w ≡ (sat (opening k) (put_none (part k) (held_of (part k).holding)), rest k.1)
-    → IsSeated lane idle w
-helped_seated lane idle m n k w count lanes seated h g is =
-    let slots : rest k.1 ≡ hand_of (part m).flight (part m).lane =
-    ap (λ (z : Me). rest z.1) g.1 ∙ (ap (λ (z : Me). rest z.1) h.has ∙ ap (λ (z : Me). z.1) seated.rests.0) in
-    let open_k : opening k ≡ opening m = ap opening g.1 ∙ ap opening h.has in
-    let flight_is : (part k).flight ≡ (part m).flight = g.2.stays.flight ∙ ap (λ (z : Me). (part z).flight) h.has in
-    let lane_is : (part k).lane ≡ (part m).lane = g.2.stays.same_lane ∙ ap (λ (z : Me). (part z).lane) h.has in
-    let held : held_of (part k).holding ≡ held_of (part n).holding ++ g.2.events = ap held_of g.2.holds in
-    subst (λ (z : Me). IsSeated lane idle z) (sym is)
-    record {
-      rests = (
-        λ i. (
-          sat (opening k) (put_none (part k) (held_of (part k).holding)),
-          (slots ∙ (λ j. hand_of (sym flight_is j) (sym lane_is j))) i,
-        ),
-        refl,
-      );
-      unserving = g.2.unserving;
-      tells = seated.tells ∙ ap (λ f. is_free f) (sym flight_is);
-      numbered = seated.numbered ∙ sym lane_is;
-      sound = subst (λ (z : State). IsSound z) (sym open_k) seated.sound;
-      last = g.0;
-      legal =
-          subst (λ (z : State × List Event). IsLegal z.0 z.1 g.0)
-          (λ i. (sym (ap opening g.1) i, sym held i)) g.2.legal;
-    }
-
 -- a token that did not change
 pub held_on : (m n : Me) → n ≡ m → HoldsAll m → HoldsAll n
 held_on m n same h = subst (λ (z : Me). HoldsAll z) (sym same) h
 
 -- the lane of a seat is one of its desk's
 pub within :
-    (lane : ℕ) (idle : Bool) (m : Me) (table desk : TableId) → IsSeated lane idle m → HasSlot lane table → table ≡ desk
+    {lane : ℕ} {idle : Bool} {m : Me} {table desk : TableId} → IsSeated lane idle m → HasSlot lane table → table ≡ desk
     → (part m).lane < lanes_of desk
-within lane idle m table desk seated room same =
+within {lane} {m = m} {table = table} seated room same =
     let is = seated.numbered in
     let lt : lane + 1 < table.words = room in
     subst (λ (t : TableId). (part m).lane < lanes_of t) same (omega arith)

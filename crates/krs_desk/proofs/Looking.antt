@@ -32,8 +32,7 @@ not_both p empty held = let no : ◌≡◌ {A = Option (List Event)} None (Some 
 no_cell : (word lane : ℕ) → word ≡ 0 → word ≡ lane + 1 → ⊥
 no_cell word lane e f = omega arith
 
-by_move :
-    (made : Step SlotValue) (found : Option ℕ) (p : Part) (lane : ℕ) (m : Move) → IsMadeAt made found p m
+by_move : (made : Step SlotValue) (found : Option ℕ) (p : Part) (lane : ℕ) (m : Move) → IsMadeAt made found p m
     → (after p m).checked ≡ p.checked ++ lane ∷ [] → HasTurn p
 by_move made found p lane move.stays is e = absurd (no_longer p.checked lane e)
 by_move made found p lane (move.takes log) is e = absurd (not_empty p.checked lane e)
@@ -54,8 +53,7 @@ looks_in_turn made found p q lane moved e =
     let same : q ≡ after p moved.0 = ap (λ (s : Standing). part_of s) moved.2 in
     by_move made found p lane moved.0 moved.1 (sym (ap (λ (r : Part). r.checked) same) ∙ e)
 
-missed_by :
-    (made : Step SlotValue) (n : ℕ) (p : Part) (m : Move) → IsMadeAt made (Some n) p m → IsTry made → n ≢ 0
+missed_by : (made : Step SlotValue) (n : ℕ) (p : Part) (m : Move) → IsMadeAt made (Some n) p m → IsTry made → n ≢ 0
     → after p m ≡ missed p
 missed_by made n p move.stays is try not = absurd (no_cell made.word p.lane try.0 is.0)
 missed_by made n p (move.takes log) is try not = absurd (not (one_number n 0 is.1))
@@ -80,8 +78,7 @@ counts_misses made n p q moved try not =
     let same : q ≡ after p moved.0 = ap (λ (s : Standing). part_of s) moved.2 in
     same ∙ missed_by made n p moved.0 moved.1 try not
 
-taken_by :
-    (made : Step SlotValue) (p : Part) (m : Move) → IsMadeAt made (Some 0) p m → IsTry made
+taken_by : (made : Step SlotValue) (p : Part) (m : Move) → IsMadeAt made (Some 0) p m → IsTry made
     → (log : List Event) × (after p m ≡ taken p log)
 taken_by made p move.stays is try = absurd (no_cell made.word p.lane try.0 is.0)
 taken_by made p (move.takes log) is try = (log, refl)

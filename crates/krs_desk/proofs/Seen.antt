@@ -9,8 +9,7 @@ use Rattle.krs_model.proofs.History.{Determined.{legal_moves, one_history}, Stre
 use Rattle.krs_desk.specs.Seen.{AreReadByRight, GivesItsStreams, IsNotReadRevoked, TellsNobodyAfter}
 
 -- a legal history, cut in two
-pub legal_cut :
-    (a c : State) (xs ys : List Event) → IsLegal a (xs ++ ys) c
+pub legal_cut : (a c : State) (xs ys : List Event) → IsLegal a (xs ++ ys) c
     → (b : State) × IsLegal a xs b × IsLegal b ys c
 unfolding IsLegal
 legal_cut a c [] ys legal = (a, refl, legal)
@@ -34,8 +33,7 @@ next_step a b c xs x rest front whole =
     legal_first b c x rest (subst (λ (s : State). IsLegal s (x ∷ rest) c) same t.2)
 
 -- the last step of a history
-pub last_step :
-    (a last end : State) (log : List Event) (e : Event) → IsLegal a log last → IsLegal a (log ++ e ∷ []) end
+pub last_step : (a last end : State) (log : List Event) (e : Event) → IsLegal a log last → IsLegal a (log ++ e ∷ []) end
     → Step last e end
 unfolding IsLegal
 last_step a last end log e front whole =
@@ -46,8 +44,7 @@ pub not_read_revoked :
 not_read_revoked
     a end seen unread legal before later rest revoking reading old late serial is to_old revokes to_late reads =
     let revoked = next_step a old late before revoking later to_old to_late in
-    let read =
-    next_step a late end (before ++ revoking ∷ later) reading rest to_late
+    let read = next_step a late end (before ++ revoking ∷ later) reading rest to_late
     (subst (λ (l : List Event). IsLegal a l end) is legal) in
     unread before old to_old revoking revoked.0 serial revoked.1 revokes later late revoked.2 reading read.0 read.1
     reads
@@ -57,8 +54,7 @@ read_by_right a end seen right legal before rest reading old serial is front rea
     let step = next_step a old end before reading rest front (subst (λ (l : List Event). IsLegal a l end) is legal) in
     right before old front reading step.0 serial step.1 reads
 
-pub gives_its_streams :
-    (a end : State) (seen : List Event) → IsSound a → IsLegal a seen end → GivesItsStreams a seen
+pub gives_its_streams : (a end : State) (seen : List Event) → IsSound a → IsLegal a seen end → GivesItsStreams a seen
 gives_its_streams a end seen sound legal q capacity =
     let some = legal_moves q a seen end sound legal in
     let gives = gives_streams a sound in record {
@@ -73,7 +69,6 @@ pub told_to_nobody : (a : State) → IsBelow a.keys a.next_serial → TellsNobod
 told_to_nobody a below before later events ending old mid serial front ends legal =
     let next = next_step a old mid before ending later front legal in
     let unused : IsBelow old.keys old.next_serial = (legal_follows a before old front).unused below in
-    let gone =
-    ⊎_elim (λ (r : Revokes old ending serial). revoked_gone old next.0 ending serial unused next.1 r)
+    let gone = ⊎_elim (λ (r : Revokes old ending serial). revoked_gone old next.0 ending serial unused next.1 r)
     (λ (i : IsServed old ending Invalidate serial). invalidated_gone old next.0 ending serial unused next.1 i) ends in
     tells_nobody mid serial events (stays_gone next.0 mid later serial next.2 gone)

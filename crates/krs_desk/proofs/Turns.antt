@@ -1,22 +1,21 @@
 -- A call that is served as the last of its turn: what its token and its seat are then, and what its caller is told.
-use Rattle.std.proofs.Common.{[], ◌++◌, ◌+◌, ◌∙◌, ◌∷◌, ◌≡◌, ap, append-nil, append_assoc, arith, Bool, List, None, refl}
-use Rattle.std.proofs.Common.{Result, Some, subst, sym, ℕ}
+use Rattle.std.proofs.Common.{[], ◌++◌, ◌+◌, ◌∙◌, ◌∷◌, ◌≡◌, ap, append-nil, arith, Bool, List, None, refl, Result, Some}
+use Rattle.std.proofs.Common.{subst, sym, ℕ}
 use Rattle.atomic_table.specs.{Seated.TableId, Table.rest}
 use Rattle.krs_types.specs.declared.{ask.{Answer.Answer, Ask.Ask}, errno.Errno.Errno, event.Event.Event}
-use Rattle.krs_model.specs.{History.{event_of, IsLegal}, Lists.Begins, State.State, Step.Step}
+use Rattle.krs_model.specs.{History.{event_of, IsLegal}, Lists.Begins, Sound.IsSound, State.State, Step.Step}
 use Rattle.krs_model.proofs.History.Legal.{legal_more}
-use Rattle.krs_world.specs.{Knowing.{events_of, put_own}, declared.view.Part.Part}
-use Rattle.krs_world.proofs.Keeping.{own_event}
+use Rattle.krs_world.specs.{Knowing.{events_of, put_none, put_own, taken}, declared.view.Part.Part}
+use Rattle.krs_world.proofs.Keeping.{own_event, prefix_more}
 use Rattle.krs_desk.specs.Helping.{below, Finishes, Goes, HasLooked, held_of, HoldsAll, lanes_of}
 use Rattle.krs_desk.specs.Parts.{hand_of, sat}
 use Rattle.krs_desk.specs.Seated.{Holds, HoldsBefore, is_free, IsSeated, Me, opening, part, Serves, sitting_of}
 use Rattle.krs_desk.specs.{Sitting.{Adds, Sitting}, declared.slot.SlotValue.{SlotValue, TheVariants.Home}}
-use Rattle.krs_desk.proofs.Seats.{same_store}
+use Rattle.krs_desk.proofs.{Helps.held_at, Seats.same_store}
 
 -- The token.
 
-pub serves_is :
-    (m w : Me) (e : Event) (h : HoldsAll m) (s : Serves m e w)
+pub serves_is : (m w : Me) (e : Event) (h : HoldsAll m) (s : Serves m e w)
     → w ≡ (sat (opening m) (part m), (0, Home s.after) ∷ hand_of (part m).flight (part m).lane)
 serves_is m w e h s = s.has ∙ ap (λ (k : Me). (k.0, (0, Home s.after) ∷ rest k.1)) h.has
 
@@ -31,8 +30,7 @@ serves_last m w e h s =
 
 pub holds_before :
     (m w : Me) (e : Event) → (part m).flight ≡ None → (h : HoldsAll m) → Serves m e w → HoldsBefore w h.log e
-holds_before m w e quiet h s =
-    subst (λ (z : Me). HoldsBefore z h.log e) (sym (serves_is m w e h s))
+holds_before m w e quiet h s = subst (λ (z : Me). HoldsBefore z h.log e) (sym (serves_is m w e h s))
     record {
       last = h.last;
       after = s.after;
@@ -44,8 +42,7 @@ holds_before m w e quiet h s =
       idle = quiet;
     }
 
-pub finished :
-    (m w n : Me) (said e : Event) → said ≡ e → (h : HoldsAll m) → Serves m e w
+pub finished : (m w n : Me) (said e : Event) → said ≡ e → (h : HoldsAll m) → Serves m e w
     → ((l : List Event) → (part w).holding ≡ Some l → n ≡ (sat (opening w) (put_own (part w) l said), rest w.1))
     → ((l : List Event) → (part w).holding ≡ Some l → events_of (part w).lane l ≡ (part w).mine) → Finishes m e n
 finished m w n said e says h s put mine =
@@ -56,120 +53,153 @@ finished m w n said e says h s put mine =
       last = h.last;
       after = s.after;
       held = h.held;
-      has =
-          put h.log held
-          ∙ (ap (λ (k : Me). (sat (opening k) (put_own (part k) h.log said), rest k.1)) w_is
+      has = put h.log held ∙ (ap (λ (k : Me). (sat (opening k) (put_own (part k) h.log said), rest k.1)) w_is
           ∙ ((λ i. (sat (opening m) (put_own (part m) h.log (says i)), hand_of (part m).flight (part m).lane))
           ∙ ap (λ (c : List (ℕ × SlotValue)). (sat (opening m) (put_own (part m) h.log e), c))
           (sym (ap (λ (k : Me). rest k.1) h.has))));
       legal = h.legal;
       step = serves_last m w e h s;
-      mine =
-          ap (λ (p : Part). events_of p.lane h.log) (sym (ap part w_is))
+      mine = ap (λ (p : Part). events_of p.lane h.log) (sym (ap part w_is))
           ∙ (mine h.log held ∙ ap (λ (k : Me). (part k).mine) w_is);
     }
 
 -- The seat.
 
--- the list that was left, and the seat's token
-has_left :
-    (m n k w : Me) (count lanes : ℕ) (e : Event) → (h : Holds m n) → (g : Goes n count lanes k) → (f : Finishes k e w)
-    → (f.log ≡ h.log ++ g.2.events) × (w ≡ (sat (opening m) (put_own (part k) (h.log ++ g.2.events) e), m.1))
-has_left m n k w count lanes e h g f =
-    let log_is : f.log ≡ h.log ++ g.2.events =
-    ap held_of (sym f.held ∙ g.2.holds)
-    ∙ ap (λ (z : Me). held_of (part z).holding ++ g.2.events) h.has in
-    let open_k : opening k ≡ opening m = ap opening g.1 ∙ ap opening h.has in
-    let rest_k : rest k.1 ≡ m.1 = ap (λ (z : Me). rest z.1) g.1 ∙ ap (λ (z : Me). rest z.1) h.has in (
-      log_is,
-      f.has ∙ (λ i. (sat (open_k i) (put_own (part k) (log_is i) e), rest_k i)),
-    )
+-- A token in a turn: m as its caller knows it, and k as it has the turn. The list that it holds begins with all that
+-- its caller knows of, and its lane, calls and slots are as they were.
+pub record InTurn (lane : ℕ) (idle : Bool) (m k : Me) : Type 0 where
+  pub numbered : lane ≡ (part m).lane
+  pub tells : idle ≡ is_free (part m).flight
+  pub sound : IsSound (opening m)
+  pub holds : HoldsAll k
+  pub opens : opening k ≡ opening m
+  pub same_lane : (part k).lane ≡ (part m).lane
+  pub flight : (part k).flight ≡ (part m).flight
+  pub mine : (part k).mine ≡ (part m).mine
+  pub seen : Begins (part m).seen (held_of (part k).holding)
 
-legal_left :
-    (m n k w : Me) (count lanes : ℕ) (e : Event) → (h : Holds m n) → (g : Goes n count lanes k) → (f : Finishes k e w)
-    → IsLegal (opening m) ((h.log ++ g.2.events) ++ e ∷ []) f.after
-legal_left m n k w count lanes e h g f =
-    let left = has_left m n k w count lanes e h g f in
-    let open_k : opening k ≡ opening m = ap opening g.1 ∙ ap opening h.has in
-    subst (λ (z : State × List Event). IsLegal z.0 (z.1 ++ e ∷ []) f.after) (λ i. (open_k i, left.0 i))
-    (legal_more (opening k) f.last f.after f.log e f.legal f.step)
-
-pub turn_seated :
-    (lane : ℕ) (idle : Bool) (m n k w : Me) (count lanes : ℕ) (e : Event) → IsSeated lane idle m → Holds m n
-    → Goes n count lanes k → Finishes k e w → IsSeated lane idle w
-turn_seated lane idle m n k w count lanes e seated h g f =
-    let left = has_left m n k w count lanes e h g f in
-    let flight_is : (part k).flight ≡ (part m).flight = g.2.stays.flight ∙ ap (λ (z : Me). (part z).flight) h.has in
-    let lane_is : (part k).lane ≡ (part m).lane = g.2.stays.same_lane ∙ ap (λ (z : Me). (part z).lane) h.has in
-    let hand : m.1 ≡ hand_of (part k).flight (part k).lane =
-    ap (λ (z : Me). z.1) seated.rests.0 ∙ (λ i. hand_of (sym flight_is i) (sym lane_is i)) in
-    subst (λ (z : Me). IsSeated lane idle z) (sym left.1)
+-- the turn was just had
+pub in_turn : {lane : ℕ} {idle : Bool} {m n : Me} → IsSeated lane idle m → Holds m n → InTurn lane idle m n
+in_turn {lane} {idle} {m} {n} seated had = subst (InTurn lane idle m) (sym had.has)
     record {
-      rests = ((λ i. (sat (opening m) (put_own (part k) (h.log ++ g.2.events) e), hand i)), refl);
-      unserving = g.2.unserving;
-      tells = seated.tells ∙ ap (λ f. is_free f) (sym flight_is);
-      numbered = seated.numbered ∙ sym lane_is;
+      numbered = seated.numbered;
+      tells = seated.tells;
       sound = seated.sound;
-      last = f.after;
-      legal = legal_left m n k w count lanes e h g f;
+      holds = record {
+        log = had.log;
+        last = had.last;
+        has = ap (λ (k : Me). (sat (opening m) (taken (part m) had.log), (0, Home had.last) ∷ k.1)) seated.rests.0;
+        held = refl;
+        legal = had.found.legal;
+        unserving = seated.unserving;
+      };
+      opens = refl;
+      same_lane = refl;
+      flight = refl;
+      mine = refl;
+      seen = had.found.seen;
     }
 
-pub adds :
-    (table : TableId) (a b : ℕ) (m : Me) (q : Part) (log : List Event) (events : List Event) (e : Event) (next : State)
-    (c : List (ℕ × SlotValue)) → Begins (part m).seen log → q.lane ≡ (part m).lane → q.mine ≡ (part m).mine
-    → IsLegal (opening m) ((log ++ events) ++ e ∷ []) next → events_of q.lane (log ++ events) ≡ q.mine
-    → e.lane ≡ q.lane
-    → Adds (sitting_of table a m) e (sitting_of table b (sat (opening m) (put_own q (log ++ events) e), c))
-adds table a b m q log events e next c seen lane_is mine_is legal own lane = record {
-  table = refl;
-  opening = refl;
-  lane = lane_is;
-  upto = (log ++ events) ++ e ∷ [];
-  between = seen.0 ++ events;
-  last = next;
-  begins = ([], append-nil ((log ++ events) ++ e ∷ []));
-  legal = legal;
-  ends =
-      ap (λ l. l ++ e ∷ [])
-      (ap (λ l. l ++ events) (sym seen.1) ∙ append_assoc (part m).seen seen.0 events);
-  mine = ap (λ l. l ++ e ∷ []) mine_is;
-  own = own_event q.lane (log ++ events) e lane ∙ ap (λ l. l ++ e ∷ []) own;
+-- calls that were posted were answered in it
+pub turn_on : {lane : ℕ} {idle : Bool} {m n k : Me} {count lanes : ℕ} → InTurn lane idle m n → Goes n count lanes k
+    → InTurn lane idle m k
+turn_on {m = m} {n = n} {k = k} {count = count} {lanes = lanes} t g = record {
+  numbered = t.numbered;
+  tells = t.tells;
+  sound = t.sound;
+  holds = held_at n k count lanes t.holds g;
+  opens = ap opening g.1 ∙ t.opens;
+  same_lane = g.2.stays.same_lane ∙ t.same_lane;
+  flight = g.2.stays.flight ∙ t.flight;
+  mine = g.2.stays.mine ∙ t.mine;
+  seen = subst (λ h. Begins (part m).seen (held_of h)) (sym g.2.holds)
+      (prefix_more (part m).seen (held_of (part n).holding) g.2.events t.seen);
 }
 
+-- the turn is given back with no call of the seat
+pub brought_seated : {lane : ℕ} {idle : Bool} {m k w : Me} → InTurn lane idle m k
+    → w ≡ (sat (opening k) (put_none (part k) (held_of (part k).holding)), rest k.1) → IsSeated lane idle w
+brought_seated {lane} {idle} {k = k} t is =
+    let p : Part = put_none (part k) (held_of (part k).holding) in
+    subst (λ (z : Me). IsSeated lane idle z) (sym is)
+    record {
+      rests = (ap (λ (z : Me). (sat (opening k) p, rest z.1)) t.holds.has, refl);
+      unserving = t.holds.unserving;
+      tells = t.tells ∙ ap (λ f. is_free f) (sym t.flight);
+      numbered = t.numbered ∙ sym t.same_lane;
+      sound = subst (λ (z : State). IsSound z) (sym t.opens) t.sound;
+      last = t.holds.last;
+      legal = subst (λ l. IsLegal (opening k) l t.holds.last) (sym (ap held_of t.holds.held)) t.holds.legal;
+    }
+
+-- A call of the seat was served as the last of the turn.
+module _ {lane : ℕ} {idle : Bool} {m k w : Me} {e : Event} (t : InTurn lane idle m k) (f : Finishes k e w) where
+  begun : Begins (part m).seen f.log
+  begun = subst (λ h. Begins (part m).seen (held_of h)) f.held t.seen
+
+  legal_left : IsLegal (opening m) (f.log ++ e ∷ []) f.after
+  legal_left = subst (λ (a : State). IsLegal a (f.log ++ e ∷ []) f.after) t.opens
+      (legal_more (opening k) f.last f.after f.log e f.legal f.step)
+
+  -- its token, once the turn is given back
+  abbrev left : Me
+  left = (sat (opening m) (put_own (part k) f.log e), hand_of (part m).flight (part m).lane)
+
+  hand_same : hand_of (part k).flight (part k).lane ≡ hand_of (part m).flight (part m).lane
+  hand_same = λ i. hand_of (t.flight i) (t.same_lane i)
+
+  is_left : w ≡ left
+  is_left =
+      f.has ∙ (λ i. (sat (t.opens i) (put_own (part k) f.log e), (ap (λ (z : Me). rest z.1) t.holds.has ∙ hand_same) i))
+
+  pub turn_seated : IsSeated lane idle w
+  turn_seated = subst (λ (z : Me). IsSeated lane idle z) (sym is_left)
+      record {
+        rests = (ap (λ c. (sat (opening m) (put_own (part k) f.log e), c)) (sym hand_same), refl);
+        unserving = t.holds.unserving;
+        tells = t.tells ∙ ap (λ f. is_free f) (sym t.flight);
+        numbered = t.numbered ∙ sym t.same_lane;
+        sound = t.sound;
+        last = f.after;
+        legal = legal_left;
+      }
+
+  pub turn_idle : (part m).flight ≡ None → (part w).flight ≡ None
+  turn_idle quiet = ap (λ (z : Me). (part z).flight) f.has ∙ (t.flight ∙ quiet)
+
+  pub adds : (table : TableId) (a b : ℕ) → e.lane ≡ lane → Adds (sitting_of table a m) e (sitting_of table b w)
+  adds table a b own = subst (λ (z : Me). Adds (sitting_of table a m) e (sitting_of table b z)) (sym is_left)
+      record {
+        table = refl;
+        opening = refl;
+        lane = t.same_lane;
+        upto = f.log ++ e ∷ [];
+        between = begun.0;
+        last = f.after;
+        begins = ([], append-nil (f.log ++ e ∷ []));
+        legal = legal_left;
+        ends = ap (λ l. l ++ e ∷ []) (sym begun.1);
+        mine = ap (λ l. l ++ e ∷ []) t.mine;
+        own = own_event (part k).lane f.log e (own ∙ (t.numbered ∙ sym t.same_lane)) ∙ ap (λ l. l ++ e ∷ []) f.mine;
+      }
+
 pub turn_adds :
-    (table same_table : TableId) (a b : ℕ) (m n k w : Me) (s : Sitting) (lane : ℕ) (idle : Bool)
-    (count lanes moment : ℕ) (ask : Ask) (reply : Result Answer Errno) → sitting_of table a m ≡ s → same_table ≡ table
-    → IsSeated lane idle m → Holds m n → Goes n count lanes k → Finishes k (event_of lane moment ask reply) w
+    {table same_table : TableId} {a b lane moment : ℕ} {ask : Ask} {reply : Result Answer Errno} {idle : Bool}
+    {m k w : Me} {s : Sitting} → sitting_of table a m ≡ s → same_table ≡ table → InTurn lane idle m k
+    → Finishes k (event_of lane moment ask reply) w
     → Adds s (event_of s.part.lane moment ask reply) (sitting_of same_table b w)
-turn_adds table same_table a b m n k w s lane idle count lanes moment ask reply view same seated h g f =
-    let e : Event = event_of lane moment ask reply in
-    let left = has_left m n k w count lanes e h g f in
-    let lane_is : (part k).lane ≡ (part m).lane = g.2.stays.same_lane ∙ ap (λ (z : Me). (part z).lane) h.has in
-    let mine_is : (part k).mine ≡ (part m).mine = g.2.stays.mine ∙ ap (λ (z : Me). (part z).mine) h.has in
-    let own : events_of (part k).lane (h.log ++ g.2.events) ≡ (part k).mine =
-    ap (events_of (part k).lane) (sym left.0) ∙ f.mine in
-    let v : Me = (sat (opening m) (put_own (part k) (h.log ++ g.2.events) e), m.1) in
-    let made : Adds (sitting_of table a m) e (sitting_of table b v) =
-    adds table a b m (part k) h.log g.2.events e f.after m.1 h.found.seen lane_is mine_is
-    (legal_left m n k w count lanes e h g f) own (seated.numbered ∙ sym lane_is) in
-    let there : Adds (sitting_of table a m) e (sitting_of same_table b w) =
-    subst (λ (z : Sitting). Adds (sitting_of table a m) e z) (λ i. sitting_of (sym same i) b (sym left.1 i)) made in
-    subst (λ (z : Sitting). Adds z (event_of z.part.lane moment ask reply) (sitting_of same_table b w)) view
-    (subst (λ (j : ℕ). Adds (sitting_of table a m) (event_of j moment ask reply) (sitting_of same_table b w))
-    seated.numbered there)
+turn_adds {table} {same_table} {a} {b} {lane} {moment} {ask} {reply} {m = m} {w = w} {s} view same t f =
+    subst (λ (z : Sitting × ℕ). Adds z.0 (event_of z.1 moment ask reply) (sitting_of same_table b w))
+    (λ i. (view i, (t.numbered ∙ ap (λ (z : Sitting). z.part.lane) view) i))
+    (subst (λ (z : TableId). Adds (sitting_of table a m) (event_of lane moment ask reply) (sitting_of z b w)) (sym same)
+    (adds t f table a b refl))
 
-pub turn_idle :
-    (m n k w : Me) (count lanes : ℕ) (e : Event) → (part m).flight ≡ None → Holds m n → Goes n count lanes k
-    → Finishes k e w → (part w).flight ≡ None
-turn_idle m n k w count lanes e quiet h g f =
-    ap (λ (z : Me). (part z).flight) f.has
-    ∙ (g.2.stays.flight ∙ (ap (λ (z : Me). (part z).flight) h.has ∙ quiet))
-
--- each lane's cell was looked at
+-- each lane's cell was looked at in it
 pub turn_looked :
-    (desk table was : TableId) (a : ℕ) (s : Sitting) (m n k w : Me) (count : ℕ) (e : Event) → sitting_of was a m ≡ s
-    → Holds m n → Goes n count (lanes_of desk) k → Finishes k e w → HasLooked desk s (sitting_of table 0 w)
-turn_looked desk table was a s m n k w count e view h g f =
+    (desk : TableId) {was : TableId} {a : ℕ} {s : Sitting} {m n k w : Me} {count : ℕ} {e : Event}
+    → sitting_of was a m ≡ s
+    → Holds m n → Goes n count (lanes_of desk) k → Finishes k e w → HasLooked desk s (sitting_of desk 0 w)
+turn_looked desk {s = s} {m = m} {n = n} {k = k} {w = w} view h g f =
     let before : (part m).taken ≡ s.part.taken = ap (λ (z : Sitting). z.part.taken) view in
     let then : (part n).taken ≡ (part m).taken + 1 = ap (λ (z : Me). (part z).taken) h.has in
     let same : (part w).taken ≡ (part n).taken = ap (λ (z : Me). (part z).taken) f.has ∙ g.2.stays.taken in

@@ -12,8 +12,7 @@ zeroes (suc n) (suc i) = zeroes n i
 abbrev AreFirst : ℕ → List ℕ → Type 0
 AreFirst n words = (length words ≡ n + 1) × (slice_index words 0 ≡ 2) × AreZero words
 
-pub first_words :
-    (n : ℕ) (words : List ℕ) → words ≡ replicate (n + 1) 0
+pub first_words : (n : ℕ) (words : List ℕ) → words ≡ replicate (n + 1) 0
     → (length (slice_set words 0 2) ≡ n + 1) × (slice_index (slice_set words 0 2) 0 ≡ 2) × AreZero (slice_set words 0 2)
 first_words n words e =
     subst (λ (ws : List ℕ). AreFirst n (slice_set ws 0 2)) (sym (e ∙ ap (λ (k : ℕ). replicate k 0) (add-one n))) (

@@ -1,11 +1,12 @@
 -- What a turn of help does, and what a call knows of its seat while it waits. The form is this project's own.
 use Rattle.std.specs.Prelude.{[], ◌++◌, ◌+◌, ◌-◌, ◌<◌, ◌∷◌, ◌≡◌, ◌≢◌, ◌⊎◌, Bool, false, length, List, None, Option}
-use Rattle.std.specs.Prelude.{Some, suc, true, zero, ℕ}
+use Rattle.std.specs.Prelude.{Result, Some, suc, true, zero, ℕ}
 use Rattle.atomic_table.specs.{Seated.TableId, Table.{rest, turned}}
-use Rattle.krs_types.specs.declared.{ask.Ask.Ask, event.Event.Event}
-use Rattle.krs_model.specs.{History.IsLegal, Lists.Begins, State.State, Step.Step}
+use Rattle.krs_types.specs.declared.{ask.{Answer.Answer, Ask.Ask}, errno.Errno.Errno, event.Event.Event}
+use Rattle.krs_model.specs.{History.{event_of, IsLegal}, Lists.Begins, State.State, Step.Step}
 use Rattle.krs_world.specs.{Knowing.{events_of, flight, put_own, taken}, declared.view.Part.Part}
-use Rattle.krs_desk.specs.{Parts.{hand_of, sat}, Seated.{Me, opening, part}, Sitting.{HasItsCalls, missed_by, Sitting}}
+use Rattle.krs_desk.specs.{Parts.{hand_of, sat}, Seated.{Me, opening, part}}
+use Rattle.krs_desk.specs.Sitting.{Adds, HasItsCalls, KeepsTurn, missed_by, Sitting}
 use Rattle.krs_desk.specs.{Steps.Found, declared.helping.Helped.{Helped, TheVariants.{Busy, Took}}}
 use Rattle.krs_desk.specs.declared.slot.SlotValue.{SlotValue, TheVariants.{Empty, Home}}
 
@@ -53,6 +54,15 @@ HasLooked desk s t =
     × (t.part.taken ≡ s.part.taken
     → (t.part.checked ≡ s.part.checked) ⊎ (t.part.checked ≡ s.part.checked ++ below (lanes_of desk)))
 
+-- A call was made, and this is its reply: it stands in what the seat has now seen, behind all that it had seen, and
+-- none is in flight. Cells were looked at as `HasLooked` says, and a turn is kept only where more calls follow.
+pub record Called (desk : TableId) (more : Bool) (s : Sitting) (moment : ℕ) (ask : Ask) (reply : Result Answer Errno)
+    (t : Sitting) : Type 0 where
+  pub added : Adds s (event_of s.part.lane moment ask reply) t
+  pub idle : t.part.flight ≡ None
+  pub looked : HasLooked desk s t
+  pub keeps : KeepsTurn more s t
+
 -- what holds of a seat while its call, posted at s, is in flight
 pub record Waits (desk : TableId) (s : Sitting) (moment : ℕ) (ask : Ask) (t : Sitting) : Type 0 where
   pub same_table : t.table ≡ s.table
@@ -86,6 +96,12 @@ pub record HoldsAll (m : Me) : Type 0 where
   pub held : (part m).holding ≡ Some log
   pub legal : IsLegal (opening m) log last
   pub unserving : (part m).serving ≡ None
+
+-- such a token, of this lane, with no call in flight: it may have a call of its own served
+pub record MayAsk (m : Me) (lane : ℕ) : Type 0 where
+  pub held : HoldsAll m
+  pub idle : (part m).flight ≡ None
+  pub own : lane ≡ (part m).lane
 
 -- the token took this slot last, and has the store behind it, before its own slots
 abbrev pub HasBehind : Me → ℕ × SlotValue → State → Type 0

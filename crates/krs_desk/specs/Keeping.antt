@@ -35,7 +35,7 @@ pub record GoesRound (desk : TableId) (m n : Me) : Type 0 where
   pub goes : Goes m count looked n
 
 -- a call of the token's own lane was served, and the turn is kept
-pub record GoesOn (m : Me) (event : Event) (n : Me) : Type 0 where
+pub record ServesAndKeeps (m : Me) (event : Event) (n : Me) : Type 0 where
   pub log : List Event
   pub last : State
   pub after : State

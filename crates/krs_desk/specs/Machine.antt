@@ -1,31 +1,21 @@
 -- The machine (krs_world) that a table is, and its steps: each step of a seat is the machine's of its name, so that the
 -- machine's laws hold of running threads. The form is this project's own.
-use Rattle.std.specs.Prelude.{[], ◌+◌, ◌<◌, ◌∷◌, ◌≡◌, ◌≢◌, ◌⊎◌, length, List, map, None, Option, slice_index, Some, ℕ}
+use Rattle.std.specs.Prelude.{[], ◌+◌, ◌<◌, ◌∷◌, ◌≡◌, ◌≢◌, length, List, map, None, Option, slice_index, Some, ℕ}
 use lib.ListN.{get_elem?}
 use mathlib.Core.Option.{some}
 use Rattle.krs_types.specs.declared.event.Event.{Event}
 use Rattle.krs_model.specs.State.{State}
 use Rattle.krs_world.specs.{Knowing.{flight, fresh}, World.{begun, Free, IsHistory, Out, Runs, Turn, World}}
+pub use Rattle.krs_world.specs.History.{IsSeatedIn, Sits}
 use Rattle.krs_world.specs.declared.step.Kind.{Kind, TheVariants.{Answer, Collect, CollectFound, Grab, Load, LookAt}}
 use Rattle.krs_world.specs.declared.step.Kind.TheVariants.{Post, Put, Serve, Take, TakeFound}
 use Rattle.krs_world.specs.declared.{step.WorldStep.WorldStep, view.Cell.Cell}
 use Rattle.krs_world.specs.declared.view.{Cell.TheVariants.{Answered, Empty, Posted, Serving}, Flight.Flight, Part.Part}
-use Rattle.krs_world.specs.declared.view.{Standing.{Standing, TheVariants.{One, Opening, Spent, Two}}, View.View}
+use Rattle.krs_world.specs.declared.view.Standing.TheVariants.{One}
 use Rattle.krs_desk.specs.Moves.{after, answers, collects, finds, grabs, IsMadeAt, loads, looks, misses, Move, posts}
 use Rattle.krs_desk.specs.{Moves.{puts_none, puts_own, serves_own, stays, takes}, Parts.{cell_of, views_of}}
-use Rattle.krs_desk.specs.{Rule.{CellIs, InOneOrder}, Running.{Board, IsStepped, Leads, turn_of}}
+use Rattle.krs_desk.specs.{Rule.{CellIs, InOneOrder}, Running.{Board, IsExecution, IsStepped, turn_of}}
 use Rattle.krs_desk.specs.declared.{slot.SlotValue.TheVariants.Home, word.TheConstants.{DEALING, FREE, OUT, TURN}}
-
--- the token stands for a lane that knows p
-abbrev pub Sits : Part → Standing → Type 0
-Sits p Spent = ⊥
-Sits p (One q) = q ≡ p
-Sits p (Two q r) = (q ≡ p) ⊎ (r ≡ p)
-Sits p (Opening n) = ⊥
-
--- a lane has a token, and this is known of it
-abbrev pub IsSeatedIn : List View → Part → Type 0
-IsSeatedIn views p = (j : ℕ) × (v : View) × (get_elem? views j ≡ some v) × Sits p v.stands
 
 -- a seat of this lane has the turn
 abbrev pub IsOutIn : List Part → ℕ → Type 0
@@ -104,7 +94,7 @@ StepsAs opening =
 -- So, whatever happens to a table, by whichever tokens, the machine that it is makes a list of steps.
 abbrev pub RunsAs : State → Type 0
 RunsAs opening =
-    (s end : Board) (more : List Board) (w : World) → InOneOrder opening s → Leads opening s more end
+    (s end : Board) (more : List Board) (w : World) → InOneOrder opening s → IsExecution opening s more end
     → IsWorld opening s w → (steps : List WorldStep) × (last : World) × IsWorld opening end last × Runs w steps last
 
 -- a desk that was just opened: a token for each of these lanes and no other, of which nothing is known yet
@@ -126,7 +116,7 @@ BeginsAs opening =
 abbrev pub FollowsSteps : State → Type 0
 FollowsSteps opening =
     (s mid end : Board) (lanes : ℕ) (before since : List Board) → InOneOrder opening s → turn_of s ≢ DEALING
-    → AreFresh s lanes → Leads opening s before mid → Leads opening mid since end
+    → AreFresh s lanes → IsExecution opening s before mid → IsExecution opening mid since end
     → (now : InOneOrder opening mid) → (later : InOneOrder opening end)
     → (steps : List WorldStep) × (more : List WorldStep) × (w : World) × (last : World)
     × IsWorld opening mid w × IsWorld opening end last

@@ -141,29 +141,30 @@ StepsAsNamed opening =
 abbrev pub Happens : Board → Board → Type 0
 Happens s new = IsStepped s new ⊎ (IsCut s new ⊎ IsJoined s new)
 
--- These tables come one after the other, up to `end`, and the rule holds of each. So it is of any two moments of a
--- desk: the rule holds between any two steps, and what a token knows changes by its own steps alone.
-abbrev pub Leads : State → Board → List Board → Board → Type 0
-Leads opening s [] end = s ≡ end
-Leads opening s (new ∷ more) end = Happens s new × InOneOrder opening new × Leads opening new more end
+-- An execution from s to `end`: these tables come one after the other, and the rule holds of each. So it is of any two
+-- moments of a desk: the rule holds between any two steps, and what a token knows changes by its own steps alone.
+-- Lynch, "Distributed Algorithms" (1996), chapter 8.
+abbrev pub IsExecution : State → Board → List Board → Board → Type 0
+IsExecution opening s [] end = s ≡ end
+IsExecution opening s (new ∷ more) end = Happens s new × InOneOrder opening new × IsExecution opening new more end
 
 -- Whatever happens, what some token has seen stays seen: over its steps, and as tokens are cut and joined,
 abbrev pub KeepsSeenLists : State → Type 0
 KeepsSeenLists opening =
-    (s end : Board) (more : List Board) (front : List Event) → InOneOrder opening s → Leads opening s more end
+    (s end : Board) (more : List Board) (front : List Event) → InOneOrder opening s → IsExecution opening s more end
     → IsSeenBy front (views_of s.views) → IsSeenBy front (views_of end.views)
 
 -- the history only grows: no call is ever taken back, changed or moved,
 abbrev pub OnlyGrows : State → Type 0
 OnlyGrows opening =
-    (s end : Board) (more : List Board) → (now : InOneOrder opening s) → Leads opening s more end
+    (s end : Board) (more : List Board) → (now : InOneOrder opening s) → IsExecution opening s more end
     → (later : InOneOrder opening end) → Begins now.history.log later.history.log
 
 -- and of the lists that two tokens have seen, at one moment or at two, one begins the other.
 abbrev pub SeesOneOrder : State → Type 0
 SeesOneOrder opening =
-    (s end : Board) (more : List Board) (front back : List Event) → InOneOrder opening s → Leads opening s more end
-    → InOneOrder opening end → IsSeenBy front (views_of s.views) → IsSeenBy back (views_of end.views)
+    (s end : Board) (more : List Board) (front back : List Event) → InOneOrder opening s
+    → IsExecution opening s more end → InOneOrder opening end → IsSeenBy front (views_of s.views) → IsSeenBy back (views_of end.views)
     → Begins front back ⊎ Begins back front
 
 -- Real-time order. At a moment some token had seen a list, the reply to some call in it, and the call of a lane wasn't
@@ -174,7 +175,7 @@ SeesOneOrder opening =
 abbrev pub KeepsRealTime : State → Type 0
 KeepsRealTime opening =
     (s end : Board) (more : List Board) (front : List Event) (q q' : Part) (e : Event) (rest : List Event)
-    → InOneOrder opening s → Leads opening s more end → (later : InOneOrder opening end)
+    → InOneOrder opening s → IsExecution opening s more end → (later : InOneOrder opening end)
     → IsSeenBy front (views_of s.views)
     → IsSat opening q s → (q.flight ≡ None) ⊎ (slice_index s.words (cell_of q.lane) ≢ ANSWERED)
     → IsSat opening q' end → q'.lane ≡ q.lane → q'.mine ≡ q.mine ++ e ∷ rest
@@ -185,7 +186,7 @@ KeepsRealTime opening =
 abbrev pub StaysRefused : State → Type 0
 StaysRefused opening =
     (s end : Board) (more : List Board) (front : List Event) (serial : ℕ) (q q' : Part) (e : Event) (rest : List Event)
-    → InOneOrder opening s → Leads opening s more end → InOneOrder opening end
+    → InOneOrder opening s → IsExecution opening s more end → InOneOrder opening end
     → IsSeenBy front (views_of s.views) → HasRevoked opening front serial
     → IsSat opening q s → (q.flight ≡ None) ⊎ (slice_index s.words (cell_of q.lane) ≢ ANSWERED)
     → IsSat opening q' end → q'.lane ≡ q.lane → q'.mine ≡ q.mine ++ e ∷ rest

@@ -1,8 +1,8 @@
 //! A call that waits until it is answered.
-ghost use Rattle.std.specs.Prelude.{◌≡◌, IfErr, IfOk, None, OnErr, OnOk};
+ghost use Rattle.std.specs.Prelude.{◌≡◌, false, IfErr, IfOk, None, OnErr};
 ghost use Rattle.krs_model.specs.History.{event_of};
 ghost use Rattle.krs_store.specs.Told.{bytes_of, reply_of};
-ghost use Rattle.krs_desk.specs.{Helping.HasLooked, Sitting.{Adds, KeepsTurn, missed_by}};
+ghost use Rattle.krs_desk.specs.{Helping.{Called, HasLooked}, Sitting.{Adds, IsIdleAt, KeepsTurn, missed_by}};
 
 use crate::desk::Desk;
 use crate::nobody::{Nobody, reply_in};
@@ -25,15 +25,10 @@ impl Desk {
         more: bool,
         taker: &mut T,
     ) -> Result<Told, Ask>
-        requires table { seat.old.table ≡ self.now }
-        requires idle { seat.old.part.flight ≡ None }
+        requires idle { IsIdleAt self.now seat.old }
         requires rested { seat.old.kept ≡ 0 }
-        ensures table { seat.new.table ≡ seat.old.table }
-        ensures idle { seat.new.part.flight ≡ None }
-        ensures added { IfOk result (λ told. Adds seat.old (event_of seat.old.part.lane moment ask (reply_of told)) seat.new) }
+        ensures called { IfOk result (λ told. Called self.now more seat.old moment ask (reply_of told) seat.new) }
         ensures taken { IfOk result (λ told. T.took taker.old (bytes_of told) taker.new) }
-        ensures looked { IfOk result (λ told. HasLooked self.now seat.old seat.new) }
-        ensures keeps { OnOk result (KeepsTurn more seat.old seat.new) }
         ensures missed { IfErr result (λ back. (back ≡ ask) × (seat.new ≡ missed_by seat.old)) }
         ensures untaken { OnErr result (taker.new ≡ taker.old) }
     {
@@ -53,13 +48,8 @@ impl Desk {
     // Posts a call, and helps or waits until it is answered.
     #[inline(never)]
     fn call_by_post<R: Wait>(&self, rt: &R, seat: &mut Seat, moment: u64, ask: Ask) -> Reply
-        requires table { seat.old.table ≡ self.now }
-        requires idle { seat.old.part.flight ≡ None }
-        ensures table { seat.new.table ≡ seat.old.table }
-        ensures idle { seat.new.part.flight ≡ None }
-        ensures added { Adds seat.old (event_of seat.old.part.lane moment ask result) seat.new }
-        ensures looked { HasLooked self.now seat.old seat.new }
-        ensures rested { seat.new.kept ≡ 0 }
+        requires idle { IsIdleAt self.now seat.old }
+        ensures called { Called self.now false seat.old moment ask result seat.new }
     {
         self.post(seat, moment, ask);
         for _ in rt.forever() {
@@ -75,34 +65,8 @@ impl Desk {
         unreachable!()
     }
 
-    // The same. Where more calls follow, no turn is kept while it waits.
-    fn call_in_line<R: Wait>(
-        &self,
-        rt: &R,
-        seat: &mut Seat,
-        moment: u64,
-        ask: Ask,
-        more: bool,
-    ) -> Reply
-        requires table { seat.old.table ≡ self.now }
-        requires idle { seat.old.part.flight ≡ None }
-        ensures table { seat.new.table ≡ seat.old.table }
-        ensures idle { seat.new.part.flight ≡ None }
-        ensures added { Adds seat.old (event_of seat.old.part.lane moment ask result) seat.new }
-        ensures looked { HasLooked self.now seat.old seat.new }
-        ensures rested { seat.new.kept ≡ 0 }
-    {
-        if !more {
-            return self.call_by_post(rt, seat, moment, ask);
-        }
-        self.bells.begin_to_wait();
-        let reply = self.call_by_post(rt, seat, moment, ask);
-        self.bells.stop_waiting();
-        reply
-    }
-
-    // Pauses and tries again to have the turn, and at last posts the call. Apart from `call`, which moves the ask less
-    // often so, and clears no room for it.
+    // Pauses and tries again to have the turn, and at last posts the call. Where more calls follow, no turn is kept while
+    // it waits. Apart from `call_anew`, which moves the ask less often so, and clears no room for it.
     #[inline(never)]
     fn call_again<R: Wait, T: Taker>(
         &self,
@@ -113,15 +77,10 @@ impl Desk {
         more: bool,
         taker: &mut T,
     ) -> Told
-        requires table { seat.old.table ≡ self.now }
-        requires idle { seat.old.part.flight ≡ None }
+        requires idle { IsIdleAt self.now seat.old }
         requires rested { seat.old.kept ≡ 0 }
-        ensures table { seat.new.table ≡ seat.old.table }
-        ensures idle { seat.new.part.flight ≡ None }
-        ensures added { Adds seat.old (event_of seat.old.part.lane moment ask (reply_of result)) seat.new }
+        ensures called { Called self.now more seat.old moment ask (reply_of result) seat.new }
         ensures taken { T.took taker.old (bytes_of result) taker.new }
-        ensures looked { HasLooked self.now seat.old seat.new }
-        ensures keeps { KeepsTurn more seat.old seat.new }
     {
         let mut ask = ask;
         let mut spins = FIRST_PAUSE;
@@ -137,10 +96,18 @@ impl Desk {
                 };
             }
         }
-        Told::Reply(self.call_in_line(rt, seat, moment, ask, more))
+        if more {
+            self.bells.begin_to_wait();
+        }
+        let reply = self.call_by_post(rt, seat, moment, ask);
+        if more {
+            self.bells.stop_waiting();
+        }
+        Told::Reply(reply)
     }
 
-    // Asks the store in a turn that is taken for it, and keeps that where more calls follow.
+    // Asks the store in a turn that is taken for it, and keeps that where more calls follow. In `call_into` itself the ask
+    // would be moved once more.
     #[inline(always)]
     fn call_anew<R: Wait, T: Taker>(
         &self,
@@ -151,15 +118,10 @@ impl Desk {
         more: bool,
         taker: &mut T,
     ) -> Told
-        requires table { seat.old.table ≡ self.now }
-        requires idle { seat.old.part.flight ≡ None }
+        requires idle { IsIdleAt self.now seat.old }
         requires rested { seat.old.kept ≡ 0 }
-        ensures table { seat.new.table ≡ seat.old.table }
-        ensures idle { seat.new.part.flight ≡ None }
-        ensures added { Adds seat.old (event_of seat.old.part.lane moment ask (reply_of result)) seat.new }
+        ensures called { Called self.now more seat.old moment ask (reply_of result) seat.new }
         ensures taken { T.took taker.old (bytes_of result) taker.new }
-        ensures looked { HasLooked self.now seat.old seat.new }
-        ensures keeps { KeepsTurn more seat.old seat.new }
     {
         if !self.is_free() {
             return self.call_again(rt, seat, moment, ask, more, taker);

@@ -5,7 +5,7 @@ ghost use Rattle.krs_types.specs.declared.event.Event.{Event};
 ghost use Rattle.krs_model.specs.{History.event_of, State.State};
 ghost use Rattle.krs_store.specs.Told.{bytes_of, reply_of};
 ghost use Rattle.krs_world.specs.Knowing.{events_of, missed, put_own};
-ghost use Rattle.krs_desk.specs.Helping.{Finishes, HoldsAll};
+ghost use Rattle.krs_desk.specs.Helping.{Finishes, MayAsk};
 ghost use Rattle.krs_desk.specs.{Parts.sat, Seated.{Has, Holds, HoldsBefore, IsResting, opening, part, Serves}};
 ghost use Rattle.krs_desk.specs.{Sitting.{Adds, missed_by}, Steps.event_in};
 
@@ -150,9 +150,7 @@ impl Desk {
         taker: &mut T,
     ) -> Told
         requires table { token.old.table_id ≡ self.now }
-        requires held { HoldsAll token.old.me }
-        requires idle { (part token.old.me).flight ≡ None }
-        requires lane { lane ≡ (part token.old.me).lane }
+        requires turn { MayAsk token.old.me lane }
         ensures table { token.new.table_id ≡ token.old.table_id }
         ensures finished { Finishes token.old.me (event_of lane moment ask (reply_of result)) token.new.me }
         ensures taken { T.took taker.old (bytes_of result) taker.new }

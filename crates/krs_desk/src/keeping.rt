@@ -1,11 +1,12 @@
 //! A turn that a seat keeps for the calls that follow at once.
-ghost use Rattle.std.specs.Prelude.{[], ◌<◌, ◌∷◌, ◌≡◌, ◌≢◌, IfErr, IfOk, List, None, OnErr, OnOk, Some, true};
+ghost use Rattle.std.specs.Prelude.{[], ◌<◌, ◌∷◌, ◌≡◌, ◌≢◌, IfErr, IfOk, List, None, OnErr, Some, true};
 ghost use Rattle.krs_types.specs.declared.event.Event.{Event};
 ghost use Rattle.krs_model.specs.History.{event_of};
 ghost use Rattle.krs_store.specs.Told.{bytes_of, reply_of};
 ghost use Rattle.krs_world.specs.Knowing.{events_of, kept};
-ghost use Rattle.krs_desk.specs.{Helping.{HasLooked, HoldsAll}, Keeping.{at_rest, GoesOn, GoesRound, HasKept}};
-ghost use Rattle.krs_desk.specs.{Parts.sat, Seated.{HoldsBefore, opening, part}, Sitting.{Adds, KeepsTurn, rested}};
+ghost use Rattle.krs_desk.specs.Helping.{Called, HoldsAll, MayAsk};
+ghost use Rattle.krs_desk.specs.Keeping.{at_rest, GoesRound, HasKept, ServesAndKeeps};
+ghost use Rattle.krs_desk.specs.{Parts.sat, Seated.{HoldsBefore, opening, part}, Sitting.{IsIdleAt, rested}};
 ghost use Rattle.krs_desk.specs.Steps.{event_in};
 
 use crate::desk::Desk;
@@ -49,11 +50,9 @@ impl Desk {
         taker: &mut T,
     ) -> Told
         requires table { token.old.table_id ≡ self.now }
-        requires held { HoldsAll token.old.me }
-        requires idle { (part token.old.me).flight ≡ None }
-        requires lane { lane ≡ (part token.old.me).lane }
+        requires turn { MayAsk token.old.me lane }
         ensures table { token.new.table_id ≡ token.old.table_id }
-        ensures gone { GoesOn token.old.me (event_of lane moment ask (reply_of result)) token.new.me }
+        ensures gone { ServesAndKeeps token.old.me (event_of lane moment ask (reply_of result)) token.new.me }
         ensures taken { T.took taker.old (bytes_of result) taker.new }
     {
         let asked = Snapshot::of(&ask);
@@ -129,14 +128,9 @@ impl Desk {
         more: bool,
         taker: &mut T,
     ) -> Result<Told, Ask>
-        requires table { seat.old.table ≡ self.now }
-        requires idle { seat.old.part.flight ≡ None }
-        ensures table { seat.new.table ≡ seat.old.table }
-        ensures idle { seat.new.part.flight ≡ None }
-        ensures added { IfOk result (λ told. Adds seat.old (event_of seat.old.part.lane moment ask (reply_of told)) seat.new) }
+        requires idle { IsIdleAt self.now seat.old }
+        ensures called { IfOk result (λ told. Called self.now more seat.old moment ask (reply_of told) seat.new) }
         ensures taken { IfOk result (λ told. T.took taker.old (bytes_of told) taker.new) }
-        ensures looked { IfOk result (λ told. HasLooked self.now seat.old seat.new) }
-        ensures keeps { OnOk result (KeepsTurn more seat.old seat.new) }
         ensures none { IfErr result (λ back. (back ≡ ask) × (seat.new ≡ seat.old)) }
         ensures rested { OnErr result (seat.new.kept ≡ 0) }
         ensures untaken { OnErr result (taker.new ≡ taker.old) }

@@ -1,22 +1,22 @@
 -- An ask and its notes: what is told is known before the ask, and posted after it.
 use Rattle.std.proofs.Common.{[], ⊎_elim, ◌++◌, ◌∙◌, ◌∷◌, ◌≡◌, ◌⊎◌, ap, append-nil, cond, Err, false, filter, flat_map}
 use Rattle.std.proofs.Common.{inl, inr, is_some, List, map, nat_lt, None, Ok, Option, option_map, option_to_list, refl}
-use Rattle.std.proofs.Common.{Result, Some, subst, sym, true, true≢false, ℕ, ℤ}
+use Rattle.std.proofs.Common.{Result, Some, subst, sym, true, ℕ, ℤ}
 use Rattle.std.specs.Result.{result_ok}
-use Rattle.krs_types.specs.declared.ask.Answer.{Answer, TheVariants.{Bytes, Nothing, Number}}
-use Rattle.krs_types.specs.declared.ask.Op.{Op, TheVariants.{Add, Chown, Clear, Invalidate, Link, Move, Request}}
-use Rattle.krs_types.specs.declared.ask.Op.TheVariants.{Revoke, Search, SetPerm, SetTimeout, Unlink, Update, Watch}
+use Rattle.krs_types.specs.{Rows.row_of, declared.ask.Answer.{Answer, TheVariants.{Bytes, Nothing, Number}}}
+use Rattle.krs_types.specs.declared.ask.Op.{Op, TheVariants.{Add, Watch}}
 use Rattle.krs_types.specs.declared.errno.Errno.{Errno}
 use Rattle.krs_types.specs.declared.{fault.Fault.Fault, note.{KeyEvent.TheVariants.{Linked, Updated}, Record.Record}}
 use Rattle.krs_model.specs.Notes.{Filter.passes_if_any, Posting.{after_note, after_notes, Note, note_for, passes_at}}
 use Rattle.krs_model.specs.Notes.Posting.{Post, post_all, posted_in, posts, posts_of, records_for, watches_at}
-use Rattle.krs_model.specs.Notes.Telling.{about, about_added, about_found, about_link, ended_by, named, notes_of}
+use Rattle.krs_model.specs.Notes.Telling.{about, about_added, about_link, ended_by, named, notes_of}
 use Rattle.krs_model.specs.{Outcome.{Is, Leads}, Queues.{Queues, queues_of}, Sound.IsSound, State.{Key, Queue, State}}
 use Rattle.krs_model.specs.{Step.outcome_of, Table.{at, Table}}
 use Rattle.krs_model.proofs.{Asks.NotedKeys.{add_serial, added_before}, Notes.Posts.{at_post_all, post_all-append}}
+use Rattle.krs_model.proofs.Notes.Quiet.{tells_none}
 use Rattle.krs_tables.specs.Serving.{LeadsTold, Tells}
 use Rattle.krs_tables.proofs.PostsAndSweep.{posted_nothing, tells_after, tells_nothing}
-use Rattle.krs_store.specs.Telling.{added_note, Foretells, may_tell, new_note, only, posts_told, Runs, told_by}
+use Rattle.krs_store.specs.Telling.{added_note, Foretells, new_note, only, posts_told, Runs, told_by}
 use Rattle.krs_store.specs.{Telling.updated_note, declared.telling.{Telling.TheVariants.OfAdded, Tellings.Tellings}}
 use Rattle.krs_model.specs.Queues as queues
 
@@ -138,28 +138,8 @@ unwatched_told s new client context op r none ran =
     ⊎_elim (led_untold s new client context op r none)
     (λ (is : TellsNone s client context op r new). is.told) (ran_as s client context op r new ran)
 
--- an ask that may not tell tells no note
-tells_none : (s : State) (client context : ℕ) (op : Op) (answer : Answer) → may_tell op ≡ false
-    → notes_of s client context op answer ≡ []
-tells_none s client context (Update id payload) answer h = absurd (true≢false h)
-tells_none s client context (Revoke id) answer h = absurd (true≢false h)
-tells_none s client context (Invalidate id) answer h = absurd (true≢false h)
-tells_none s client context (Clear id) answer h = absurd (true≢false h)
-tells_none s client context (Chown id uid gid) answer h = absurd (true≢false h)
-tells_none s client context (SetPerm id mask) answer h = absurd (true≢false h)
-tells_none s client context (SetTimeout id seconds) answer h = absurd (true≢false h)
-tells_none s client context (Link key ring) answer h = absurd (true≢false h)
-tells_none s client context (Unlink key ring) answer h = absurd (true≢false h)
-tells_none s client context (Move key from to flags) answer h = absurd (true≢false h)
-tells_none s client context (Add type_name desc payload ring) answer h = absurd (true≢false h)
-tells_none s client context (Search head type_name desc dest) answer h =
-    ap (λ b. about_found b (named s client context dest) answer) h
-tells_none s client context (Request type_name desc dest) answer h =
-    ap (λ b. about_found b (named s client context dest) answer) h
-tells_none s client context op answer h = refl
-
 led_quiet :
-    (s new : State) (client context : ℕ) (op : Op) (r : Result Answer Fault) → may_tell op ≡ false
+    (s new : State) (client context : ℕ) (op : Op) (r : Result Answer Fault) → (row_of op).tells ≡ false
     → EndsNone s client context op r new → LeadsTold s client context op r new
 led_quiet s new client context op (Err e) quiet is = is.leads
 led_quiet s new client context op (Ok answer) quiet is =
@@ -167,7 +147,7 @@ led_quiet s new client context op (Ok answer) quiet is =
 
 -- an ask that tells no note has done all that it does
 pub quiet_told :
-    (s new : State) (client context : ℕ) (op : Op) (r : Result Answer Fault) → may_tell op ≡ false
+    (s new : State) (client context : ℕ) (op : Op) (r : Result Answer Fault) → (row_of op).tells ≡ false
     → Runs s client context op r new → LeadsTold s client context op r new
 quiet_told s new client context op r quiet ran =
     ⊎_elim (led_quiet s new client context op r quiet)

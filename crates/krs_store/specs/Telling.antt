@@ -1,9 +1,8 @@
 -- What the store tells of an ask that it accepts: known before the ask is served, but for its answer.
-use Rattle.std.specs.Prelude.{[], ◌++◌, ◌≡◌, Bool, false, if◌then◌else◌, List, nat_lt, None, Ok, Option, option_to_list}
-use Rattle.std.specs.Prelude.{Result, Some, true, ℕ}
-use Rattle.krs_types.specs.{Growth.has_destination, declared.ask.Answer.{Answer, TheVariants.{Bytes, Nothing, Number}}}
-use Rattle.krs_types.specs.declared.ask.Op.{Op, TheVariants.{Add, Chown, Clear, Invalidate, Link, Move, Request}}
-use Rattle.krs_types.specs.declared.ask.Op.TheVariants.{Revoke, Search, SetPerm, SetTimeout, Unlink, Update, Watch}
+use Rattle.std.specs.Prelude.{[], ◌++◌, ◌≡◌, if◌then◌else◌, List, nat_lt, None, Ok, Option, option_to_list, Result}
+use Rattle.std.specs.Prelude.{Some, ℕ}
+use Rattle.krs_types.specs.declared.ask.{Answer.{Answer, TheVariants.{Bytes, Nothing, Number}}, Op.Op}
+use Rattle.krs_types.specs.declared.ask.Op.TheVariants.{Watch}
 use Rattle.krs_types.specs.declared.{fault.Fault.Fault, note.KeyEvent.TheVariants.{Linked, Updated}}
 use Rattle.krs_model.specs.Notes.Posting.{Note, Post, posts_of}
 use Rattle.krs_model.specs.{Notes.Telling.notes_of, Outcome.Leads, Queues.Queues, State.State, Step.outcome_of}
@@ -70,23 +69,6 @@ abbrev pub Foretells : Tellings → State → ℕ → ℕ → Op → Type 0
 Foretells tellings s client context op =
     (mid : State) (answer : Answer) → outcome_of s client context op ≡ Ok (mid, answer)
     → told_by tellings answer ≡ notes_of s client context op answer
-
--- the ask tells of something, if it is accepted: uapi linux/watch_queue.h, enum key_notification_subtype
-abbrev pub may_tell : Op → Bool
-may_tell (Update id payload) = true
-may_tell (Revoke id) = true
-may_tell (Invalidate id) = true
-may_tell (Clear id) = true
-may_tell (Chown id uid gid) = true
-may_tell (SetPerm id mask) = true
-may_tell (SetTimeout id seconds) = true
-may_tell (Link key ring) = true
-may_tell (Unlink key ring) = true
-may_tell (Move key from to flags) = true
-may_tell (Add type_name desc payload ring) = true
-may_tell (Search head type_name desc dest) = has_destination dest
-may_tell (Request type_name desc dest) = has_destination dest
-may_tell op = false
 
 -- what is posted of a note, where there is one
 abbrev pub posts_told : Queues → Option Note → List Post

@@ -5,7 +5,7 @@ ghost use Rattle.krs_tables.specs.Serving.{LeadsTold};
 ghost use Rattle.krs_key_asks.specs.Taking.{answered, taken_of};
 ghost use Rattle.krs_store.specs.Telling.{Runs};
 
-use crate::telling::{foretell, may_tell, tell};
+use crate::telling::{foretell, tell};
 use crate::watching;
 use crate::watching::{close_queue, open_queue, read_queue, set_filter};
 use krs_context_asks::{exec, exit, fork, hello, join, leave, thread};
@@ -29,7 +29,7 @@ pub(crate) fn serve(tables: &mut Tables, client: u32, ask: Ask) -> Result<Answer
     if let Op::Read { id } = ask.op {
         return read(tables, client, ask.context, id);
     }
-    if !may_tell(&ask.op) {
+    if !ask.op.tells() {
         return run(tables, client, ask);
     }
     if !tables.queues.has_watches() {

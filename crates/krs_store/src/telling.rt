@@ -4,7 +4,7 @@ ghost use Rattle.krs_types.specs.declared.{ask.Answer.Answer, note.KeyEvent.TheV
 ghost use Rattle.krs_model.specs.Notes.Posting.{posted_in, posts_of};
 ghost use Rattle.krs_model.specs.Notes.Telling.{about, about_found, about_link, about_moved, is_one_ring, named};
 ghost use Rattle.krs_model.specs.{Outcome.Is, Queues.queues_of, Sound.IsSound};
-ghost use Rattle.krs_store.specs.Telling.{Foretells, linked_note, may_tell, meant_note, number_of, only, posts_told};
+ghost use Rattle.krs_store.specs.Telling.{Foretells, linked_note, meant_note, number_of, only, posts_told};
 ghost use Rattle.krs_store.specs.Telling.{Says, told_by, told_of};
 ghost use Rattle.krs_store.specs.declared.telling.Telling.TheVariants.{OfAdded, Quiet};
 
@@ -114,19 +114,6 @@ fn number_of(answer: &Answer) -> Option<u32>
     match answer {
         Answer::Number(number) => Some(*number),
         Answer::Nothing | Answer::Bytes(_) => None,
-    }
-}
-
-/// Whether an ask tells of something, if it is accepted. The others need no look for it.
-pub(crate) fn may_tell(op: &Op) -> bool
-    ensures { result ≡ may_tell op.now }
-{
-    match op {
-        Op::Update { .. } | Op::Revoke { .. } | Op::Invalidate { .. } | Op::Clear { .. } => true,
-        Op::Chown { .. } | Op::SetPerm { .. } | Op::SetTimeout { .. } => true,
-        Op::Link { .. } | Op::Unlink { .. } | Op::Move { .. } | Op::Add { .. } => true,
-        Op::Search { dest, .. } | Op::Request { dest, .. } => *dest != 0,
-        _ => false,
     }
 }
 

@@ -7,10 +7,8 @@ mod clients;
 mod filters;
 mod full;
 mod hints;
-mod links;
 mod nested;
 mod records;
-mod rings;
 mod values;
 mod world;
 

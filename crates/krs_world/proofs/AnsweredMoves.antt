@@ -26,8 +26,8 @@ cond_own : (b : Bool) → cond b true false ≡ b
 cond_own true = refl
 cond_own false = refl
 
-module _ (store : State) (out : Option ℕ) (serving : Option Service) (log : List Event) (lanes : List Lane) (i : ℕ)
-    (x : Lane) (k : IsKept store out serving log lanes) (at : get_elem? lanes i ≡ some x) where
+module _ {store : State} {out : Option ℕ} {serving : Option Service} {log : List Event} {lanes : List Lane} (i : ℕ)
+    {x : Lane} (k : IsKept store out serving log lanes) (at : get_elem? lanes i ≡ some x) where
   abbrev w : World
   w = world_of store out serving log lanes
 
@@ -41,8 +41,8 @@ module _ (store : State) (out : Option ℕ) (serving : Option Service) (log : Li
     last = store;
     call = call;
     out = ap (turn_by store) here;
-    held = holding_is store out serving log lanes i x k at here;
-    serving = ap (λ (b : Bool). cond b serving None) (holds_true store out serving log lanes i x k at here) ∙ is;
+    held = holding_is i k at here;
+    serving = ap (λ (b : Bool). cond b serving None) (holds_true i k at here) ∙ is;
     legal = k.legal;
   }
 
@@ -84,7 +84,7 @@ module _ (store : State) (out : Option ℕ) (serving : Option Service) (log : Li
         ap (λ (f : List Event). flight_by f (cell_by log' None s)) before ∙ flying (take l.after log) in
         let nothing : Option Service = None in
         let none : (b : Bool) → cond b nothing nothing ≡ nothing = λ b. cond_none b nothing refl in (
-          (λ not. let quiet : l.holding ≡ false = unheld store out serving log lanes i x k at j l was not here in
+          (λ not. let quiet : l.holding ≡ false = unheld i k at j l was not here in
               let held : cond l.holding (Some log') None ≡ cond l.holding (Some log) None =
               ap (λ (b : Bool). cond b (Some log') None) quiet
               ∙ sym (ap (λ (b : Bool). cond b (Some log) None) quiet) in
@@ -100,7 +100,7 @@ module _ (store : State) (out : Option ℕ) (serving : Option Service) (log : Li
               }),
           (λ one. let number : x.lane ≡ i = (k.each i x at).number in
               let held : cond l.holding (Some log') None ≡ Some log' = ap (λ (b : Bool). cond b (Some log') None)
-              (ap (λ (r : Lane). r.holding) one ∙ holds_true store out serving log lanes i x k at here) in
+              (ap (λ (r : Lane). r.holding) one ∙ holds_true i k at here) in
               let finished : d ≡ cond (call.lane == l.lane) true l.done = ed
               ∙ (ap (λ (n : ℕ). cond (call.lane == n) true x.done) (sym number)
               ∙ ap (λ (r : Lane). cond (call.lane == r.lane) true r.done) (sym one)) in
@@ -139,8 +139,7 @@ module _ (store : State) (out : Option ℕ) (serving : Option Service) (log : Li
     else_cell : (j : ℕ) (l : Lane) → get_elem? lanes j ≡ some l → j ≢ call.lane
         → cell_by log' None l.slot ≡ cell_by log serving l.slot
     else_cell j l was not = let o = k.each j l was in
-        cell_apart serving None log' l.slot
-        (apart_else serving call log j l.slot is (λ same. not (sym same)) o.slot)
+        cell_apart serving None log' l.slot (apart_else serving call log j l.slot is (λ same. not (sym same)) o.slot)
         ∙ cell_more serving log e j l.slot o.slot
 
     else_part : (j : ℕ) (l : Lane) → get_elem? lanes j ≡ some l → j ≢ call.lane
@@ -158,8 +157,7 @@ module _ (store : State) (out : Option ℕ) (serving : Option Service) (log : Li
     -- what each seat knows
     seated : (j : ℕ) (r l : Lane) → get_elem? lanes' j ≡ some r → get_elem? lanes j ≡ some l
         → (j ≡ i → part_by log' None r ≡ answered p log e) × (j ≢ i → part_by log' None r ≡ part_by log serving l)
-    seated j r l now was = ⊎_elim
-        (λ (t : (j ≡ call.lane) × (z ≡ r)). let h = own_part j l was t.0 in ⊎_elim
+    seated j r l now was = ⊎_elim (λ (t : (j ≡ call.lane) × (z ≡ r)). let h = own_part j l was t.0 in ⊎_elim
         (λ (b : (call.lane ≡ i) × (y ≡ u)). let here_too : j ≡ i = t.0 ∙ b.0 in
         let one : l ≡ x = some-injective l x (sym was ∙ (ap (get_elem? lanes) here_too ∙ at)) in
         let is_so : r ≡ record l { slot = slots.Answered (length log); checked = v; done = d } =
@@ -180,45 +178,38 @@ module _ (store : State) (out : Option ℕ) (serving : Option Service) (log : Li
         ((λ _. ap (part_by log' None) is_so ∙ h.1 one), (λ not. absurd (not b.0))))
         (λ (b : (j ≢ i) × (get_elem? lanes j ≡ some r)).
         let one : r ≡ l = some-injective r l (sym b.1 ∙ was) in
-        ((λ same. absurd (b.0 same)), (λ not. ap (part_by log' None) one ∙ h.0 not)))
-        (at_set lanes i j y r t.1))
+        ((λ same. absurd (b.0 same)), (λ not. ap (part_by log' None) one ∙ h.0 not))) (at_set lanes i j y r t.1))
         (at_set (set lanes i y) call.lane j z r now)
 
     -- and what is in its cell
     celled : (j : ℕ) (r l : Lane) → get_elem? lanes' j ≡ some r → get_elem? lanes j ≡ some l
         → (j ≡ call.lane → lane_cell log' None r ≡ cells.Answered call.moment call.ask reply)
         × (j ≢ call.lane → lane_cell log' None r ≡ lane_cell log serving l)
-    celled j r l now was = ⊎_elim
-        (λ (t : (j ≡ call.lane) × (z ≡ r)). (
-          (λ _. ap (lane_cell log' None) (sym t.1) ∙ cell_then None log e),
-          (λ not. absurd (not t.0)),
-        ))
-        (λ (t : (j ≢ call.lane) × (get_elem? (set lanes i y) j ≡ some r)).
-        let slot : r.slot ≡ l.slot = ⊎_elim
-        (λ (b : (j ≡ i) × (y ≡ r)).
+    celled j r l now was = ⊎_elim (λ (t : (j ≡ call.lane) × (z ≡ r)). (
+      (λ _. ap (lane_cell log' None) (sym t.1) ∙ cell_then None log e),
+      (λ not. absurd (not t.0)),
+    )) (λ (t : (j ≢ call.lane) × (get_elem? (set lanes i y) j ≡ some r)).
+        let slot : r.slot ≡ l.slot = ⊎_elim (λ (b : (j ≡ i) × (y ≡ r)).
         let one : x ≡ l = some-injective x l (sym at ∙ (ap (get_elem? lanes) (sym b.0) ∙ was)) in
         ap (λ (a : Lane). a.slot) (sym b.1) ∙ ap (λ (a : Lane). a.slot) one)
         (λ (b : (j ≢ i) × (get_elem? lanes j ≡ some r)).
-        ap (λ (a : Lane). a.slot) (some-injective r l (sym b.1 ∙ was)))
-        (at_set lanes i j y r t.1) in (
+        ap (λ (a : Lane). a.slot) (some-injective r l (sym b.1 ∙ was))) (at_set lanes i j y r t.1) in (
           (λ same. absurd (t.0 same)),
           (λ not. ap (cell_by log' None) slot ∙ else_cell j l was not),
-        ))
-        (at_set (set lanes i y) call.lane j z r now)
+        )) (at_set (set lanes i y) call.lane j z r now)
 
     lanes_kept : (j : ℕ) (l : Lane) → get_elem? lanes' j ≡ some l → IsLane out None log' j l
     lanes_kept =
         let o = k.each i x at in
         let base : (j : ℕ) (l : Lane) → get_elem? (set lanes i y) j ≡ some l → IsLane out serving log j l =
-        each_at (IsLane out serving log) lanes i y
-        (lane_is o.number o.seen o.base o.after o.holds o.slot)
+        each_at (IsLane out serving log) lanes i y (lane_is o.number o.seen o.base o.after o.holds o.slot)
         (λ j l apart was. k.each j l was) in
         let b = base call.lane u there in
         let size : length log' ≡ length log + 1 = length-append log (e ∷ []) in
         let seen = b.seen in let based = b.base in let after = b.after in
         each_at (IsLane out None log') (set lanes i y) call.lane z
         (lane_is b.number (omega arith) (omega arith) (omega arith) b.holds (e, snoc_end log e, refl))
-        (λ j l apart was. let u = base j l was in let m = lane_more out out serving log e j l u u.holds in
+        (λ j l apart was. let u = base j l was in let m = lane_more e u u.holds in
         lane_is m.number m.seen m.base m.after m.holds (slot_apart serving None log' j l.slot
         (apart_else serving call log j l.slot is (λ same. apart (sym same)) u.slot) m.slot))
 
@@ -243,10 +234,9 @@ module _ (store : State) (out : Option ℕ) (serving : Option Service) (log : Li
         } in
         let steps : StepsAs w i p Answer (world_of next out None log' lanes') =
         (server call here is, reply, next, step, new) in (
-          after store out serving log lanes i x k at next out None log' lanes' Answer steps
+          after i k at next out None log' lanes' Answer steps
               (λ no. absurd (let both : None ≡ Some i = sym no ∙ here in cc))
-              (legal_more (starting_at 3) store next log e k.legal step)
-              lanes_kept (λ _. refl) (λ s no. absurd cc),
+              (legal_more (starting_at 3) store next log e k.legal step) lanes_kept (λ _. refl) (λ s no. absurd cc),
           steps,
         )
 
@@ -256,8 +246,7 @@ module _ (store : State) (out : Option ℕ) (serving : Option Service) (log : Li
         → IsKept next out serving' longer (set (set lanes i y) call.lane (record u { slot = slots.Answered n }))
         × StepsAs w i p Answer
         (world_of next out serving' longer (set (set lanes i y) call.lane (record u { slot = slots.Answered n })))
-    answers_at next serving' longer n step none is_longer size =
-        subst (λ (t : Option Service × (List Event × ℕ)).
+    answers_at next serving' longer n step none is_longer size = subst (λ (t : Option Service × (List Event × ℕ)).
         IsKept next out t.0 t.1.0 (set (set lanes i y) call.lane (record u { slot = slots.Answered t.1.1 }))
         × StepsAs w i p Answer
         (world_of next out t.0 t.1.0 (set (set lanes i y) call.lane (record u { slot = slots.Answered t.1.1 }))))

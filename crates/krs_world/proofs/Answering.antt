@@ -43,11 +43,10 @@ idle_here lanes i x free is =
     (at, ap (λ (z : Lane). z.slot) (some-injective x free.0 (sym at ∙ free.1)) ∙ free.2)
 
 -- the lane that is out, at its place
-pub out_here : (store : State) (out : Option ℕ) (serving : Option Service) (log : List Event) (lanes : List Lane)
-    (i : ℕ)
-    (x : Lane) → IsKept store out serving log lanes → out ≡ Some i → x ≡ get_or lanes i x → get_elem? lanes i ≡ some x
-out_here store out serving log lanes i x k here is =
-    lane_here lanes i x (out_within store out serving log lanes i k here) is
+pub out_here : {store : State} {out : Option ℕ} {serving : Option Service} {log : List Event} {lanes : List Lane}
+    {i : ℕ} {x : Lane} → IsKept store out serving log lanes → out ≡ Some i → x ≡ get_or lanes i x
+    → get_elem? lanes i ≡ some x
+out_here {lanes = lanes} {i} {x} k here is = lane_here lanes i x (out_within k here) is
 
 -- a lane that may put its own call, as it was looked up
 pub may_now : (out : Option ℕ) (serving : Option Service) (lanes seen : List Lane) (i : ℕ) → seen ≡ lanes
@@ -76,8 +75,9 @@ abbrev pub Comes : World → ℕ → Kind → State → Option ℕ → Option Se
 Comes old i kind store out serving log lanes =
     IsKept store out serving log lanes × MovesBy old i kind true (world_of store out serving log lanes)
 
-module _ (old : World) (store : State) (out : Option ℕ) (serving : Option Service) (log : List Event)
-    (lanes : List Lane) (i : ℕ) (is : world_of store out serving log lanes ≡ old) where
+module _ {old : World} {store : State} {out : Option ℕ} {serving : Option Service} {log : List Event}
+    {lanes : List Lane} (k : IsKept store out serving log lanes) (i : ℕ)
+    (is : world_of store out serving log lanes ≡ old) where
   abbrev w : World
   w = world_of store out serving log lanes
 
@@ -102,44 +102,42 @@ module _ (old : World) (store : State) (out : Option ℕ) (serving : Option Serv
 
   -- an answer, where no call is served
   pub serves_none : serving ≡ None → MovesBy old i Answer false old
-  serves_none none = moves_not Answer
-      (λ p other e steps. let m = of_map (part_by log serving) lanes i p e in
+  serves_none none = moves_not Answer (λ p other e steps. let m = of_map (part_by log serving) lanes i p e in
       let no : None ≡ Some steps.0.call = sym (cond_none m.0.holding serving none)
       ∙ (ap (λ (q : Part). q.serving) m.2 ∙ steps.0.serving) in cc)
 
-  module _ (k : IsKept store out serving log lanes) where
-    -- a step of a holder that serves no posted call, where one is served
-    pub busy : (kind : Kind) → (serving ≡ None → ⊥)
-        → ((p : Part) (other : World) → StepsAs w i p kind other → IsHolder w i p) → MovesBy old i kind false old
-    busy kind not holds = moves_not kind
-        (λ p other e steps. let m = of_map (part_by log serving) lanes i p e in let s = some_of serving not in
-        no_holder store out serving log lanes i m.0 k m.1 s.0 s.1 p e (holds p other steps))
+  -- a step of a holder that serves no posted call, where one is served
+  pub busy : (kind : Kind) → (serving ≡ None → ⊥)
+      → ((p : Part) (other : World) → StepsAs w i p kind other → IsHolder w i p) → MovesBy old i kind false old
+  busy kind not holds = moves_not kind
+      (λ p other e steps. let m = of_map (part_by log serving) lanes i p e in let s = some_of serving not in
+      no_holder i k m.1 s.0 s.1 p e (holds p other steps))
 
-    -- a step that serves an own call, where the lane may not put one
-    pub own_not : (kind : Kind)
-        → ((p : Part) (other : World) → StepsAs w i p kind other → IsHolder w i p × (p.flight ≡ None))
-        → (MayPut out serving lanes i → ⊥) → MovesBy old i kind false old
-    own_not kind owns not = moves_not kind (λ p other e steps.
-        let m = of_map (part_by log serving) lanes i p e in let x : Lane = m.0 in let h = owns p other steps in
-        let idle : flight_by (take x.after log) (lane_cell log serving x) ≡ None =
-        ap (λ (q : Part). q.flight) m.2 ∙ h.1 in not (
-          out_by store out i h.0.out,
-          unserved serving (λ s served. no_holder store out serving log lanes i x k m.1 s served p e h.0),
-          (
-            x,
-            m.1,
-            slot_empty serving log i x.slot (k.each i x m.1).slot
-                (cell_idle (take x.after log) (lane_cell log serving x) idle),
-          ),
-        ))
+  -- a step that serves an own call, where the lane may not put one
+  pub own_not : (kind : Kind)
+      → ((p : Part) (other : World) → StepsAs w i p kind other → IsHolder w i p × (p.flight ≡ None))
+      → (MayPut out serving lanes i → ⊥) → MovesBy old i kind false old
+  own_not kind owns not = moves_not kind (λ p other e steps.
+      let m = of_map (part_by log serving) lanes i p e in let x : Lane = m.0 in let h = owns p other steps in
+      let idle : flight_by (take x.after log) (lane_cell log serving x) ≡ None =
+      ap (λ (q : Part). q.flight) m.2 ∙ h.1 in not (
+        out_by store out i h.0.out,
+        unserved serving (λ s served. no_holder i k m.1 s served p e h.0),
+        (
+          x,
+          m.1,
+          slot_empty serving log i x.slot (k.each i x m.1).slot
+              (cell_idle (take x.after log) (lane_cell log serving x) idle),
+        ),
+      ))
 
-    -- a call that is posted where something is in the cell
-    pub posts_not : (moment : ℕ) (ask : Ask) → (IsIdle lanes i → ⊥) → MovesBy old i (Post moment ask) false old
-    posts_not moment ask not = moves_not (Post moment ask)
-        (λ p other e steps. let m = of_map (lane_cell log serving) lanes i cells.Empty steps.0 in
-        not (m.0, m.1, slot_empty serving log i m.0.slot (k.each i m.0 m.1).slot m.2))
+  -- a call that is posted where something is in the cell
+  pub posts_not : (moment : ℕ) (ask : Ask) → (IsIdle lanes i → ⊥) → MovesBy old i (Post moment ask) false old
+  posts_not moment ask not = moves_not (Post moment ask)
+      (λ p other e steps. let m = of_map (lane_cell log serving) lanes i cells.Empty steps.0 in
+      not (m.0, m.1, slot_empty serving log i m.0.slot (k.each i m.0 m.1).slot m.2))
 
-  module _ (x : Lane) (at : get_elem? lanes i ≡ some x) where
+  module _ {x : Lane} (at : get_elem? lanes i ≡ some x) where
     -- a step that was made
     pub moves : {store' : State} {out' : Option ℕ} {serving' : Option Service} {log' : List Event} {lanes' : List Lane}
         (kind : Kind) → IsKept store' out' serving' log' lanes'
@@ -158,10 +156,9 @@ module _ (old : World) (store : State) (out : Option ℕ) (serving : Option Serv
         (refl, (part_by log serving x, get_map (part_by log serving) lanes i x at, why))
 
 -- who may have a call of its own served, as a holder, but for the memory for its event
-pub own_refused : (store : State) (out : Option ℕ) (serving : Option Service) (log : List Event) (lanes : List Lane)
-    (i : ℕ) (x : Lane) → IsKept store out serving log lanes → get_elem? lanes i ≡ some x → out ≡ Some i
+pub own_refused : {store : State} {out : Option ℕ} {serving : Option Service} {log : List Event} {lanes : List Lane}
+    (i : ℕ) {x : Lane} → IsKept store out serving log lanes → get_elem? lanes i ≡ some x → out ≡ Some i
     → serving ≡ None → x.slot ≡ slots.Empty → (ENOMEM ≡ ENOMEM)
     × IsHolder (world_of store out serving log lanes) i (part_by log serving x) ×
     ((part_by log serving x).flight ≡ None)
-own_refused store out serving log lanes i x k at here none idle =
-    (refl, holder store out serving log lanes i x k at here none, no_flight store out serving log lanes i x k at idle)
+own_refused i k at here none idle = (refl, holder i k at here none, no_flight i k at idle)

@@ -11,7 +11,7 @@ use Rattle.krs_world.specs.Kept.{cell_by, flight_by, IsFresh, IsKept, IsSlotOf, 
 use Rattle.krs_world.specs.{Knowing.{events_of, fresh, one}, World.{begun, cell_of, empty_cells, Free, fresh_lanes}}
 use Rattle.krs_world.specs.{World.{IsOneHistory, new_world, StaysOne, World}, declared.lane.{Lane.Lane, Slot.Slot}}
 use Rattle.krs_world.specs.declared.view.{Cell.TheVariants.Empty, Part.Part, Service.Service, View.View}
-use Rattle.krs_world.proofs.{Lanes.{at_snoc, known_is}, Worlds.{get_map, of_map, prefix_none, runs_keep}}
+use Rattle.krs_world.proofs.{Lanes.{at_snoc, known_is, one_history}, Worlds.{get_map, of_map, prefix_none, runs_keep}}
 use Rattle.krs_world.specs.declared.lane.Slot.TheVariants as slots
 
 cells_empty : (k l : ℕ) → cell_of (empty_cells k) l ≡ Empty
@@ -41,52 +41,42 @@ fresh_there lanes j lt = let same : 0 + j ≡ j = omega arith in
     fresh_in 0 lanes j lt ∙ ap (λ (m : ℕ). some (fresh m)) same
 
 -- what the seats of fresh lanes share
-abbrev all_fresh : ℕ → Shared
-all_fresh lanes = record {
-  log = [];
+abbrev all_fresh : State → ℕ → Shared
+all_fresh a lanes = record {
+  witness = record { log = []; last = a; holder = 0; dealt = lanes; seat = λ l. l; serving = None };
   turn = 0;
-  holder = 0;
-  dealt = lanes;
-  seat = λ l. l;
   cell = cell_of (empty_cells lanes);
-  serving = None;
 }
 
-known : (lanes j : ℕ) → j < lanes → Known (all_fresh lanes) j (fresh j)
-known lanes j lt = known_is refl lt ([], refl) ([], refl) ([], refl)
+known : (a : State) (lanes j : ℕ) → j < lanes → Known (all_fresh a lanes) j (fresh j)
+known a lanes j lt = known_is refl lt ([], refl) ([], refl) ([], refl)
     (subst (Fits [] (fresh j)) (sym (cells_empty lanes j)) (refl, refl, refl)) (λ l is. absurd cc) (λ _. refl)
 
 pub begins_world : (a : State) (lanes : ℕ) → IsOneHistory (begun a lanes)
 begins_world a lanes = record {
-  history = record {
-    log = [];
-    last = a;
-    holder = 0;
-    dealt = lanes;
-    seat = λ l. l;
-    serving = None;
-    held = λ n. absurd (omega arith);
-    longest = λ _. inl refl;
-    legal = legal_none a;
-    at_home = λ _. refl;
-    away = λ n. absurd (omega arith);
-    word = omega arith;
-    opener = λ n. absurd (omega arith);
-    young = λ _. refl;
-    unserved = λ _. refl;
-    seated = λ l lt. (
-      one a (fresh l),
-      get_map (one a) (fresh_lanes 0 lanes) l (fresh l) (fresh_there lanes l lt),
-      refl,
-    );
-    undealt = λ l _. (cells_empty lanes l, refl);
-    serves = λ l m ask is. absurd (let no = sym (cells_empty lanes l) ∙ is in cc);
-    served = λ s is. absurd cc;
-    openings = λ j v e. let m = of_map (one a) (fresh_lanes 0 lanes) j v e in
-        inr (ap (λ (w : View). w.opening) (sym m.2));
-    each = λ j v e. let m = of_map (one a) (fresh_lanes 0 lanes) j v e in let t = fresh_here lanes j m.0 m.1 in
-        subst (λ (w : View). Stands (all_fresh lanes) j w.stands)
-        (ap (one a) t.0 ∙ m.2) (known lanes j t.1);
+  history = one_history record {
+    witness = (all_fresh a lanes).witness;
+    store = record { legal = legal_none a; at_home = λ _. refl; away = λ n. absurd (omega arith) };
+    words = record { word = omega arith; young = λ _. refl; unserved = λ _. refl };
+    cells = record {
+      undealt = λ l _. (cells_empty lanes l, refl);
+      serves = λ l m ask is. absurd (let no = sym (cells_empty lanes l) ∙ is in cc);
+      served = λ s is. absurd cc;
+    };
+    seats = record {
+      held = λ n. absurd (omega arith);
+      longest = λ _. inl refl;
+      opener = λ n. absurd (omega arith);
+      seated = λ l lt. (
+        one a (fresh l),
+        get_map (one a) (fresh_lanes 0 lanes) l (fresh l) (fresh_there lanes l lt),
+        refl,
+      );
+      openings = λ j v e. let m = of_map (one a) (fresh_lanes 0 lanes) j v e in
+          inr (ap (λ (w : View). w.opening) (sym m.2));
+      each = λ j v e. let m = of_map (one a) (fresh_lanes 0 lanes) j v e in let t = fresh_here lanes j m.0 m.1 in
+          subst (λ (w : View). Stands (all_fresh a lanes) j w.stands) (ap (one a) t.0 ∙ m.2) (known a lanes j t.1);
+    };
   };
   whole = (
     inl refl,
@@ -113,8 +103,7 @@ fresh_part j l f =
     let nothing : Option (List Event) = None in
     let held : cond l.holding (Some []) nothing ≡ nothing = ap (λ (b : Bool). cond b (Some []) nothing) f.holding in
     let unserved : Option Service = None in
-    let served : cond l.holding unserved unserved ≡ unserved =
-    ap (λ (b : Bool). cond b unserved unserved) f.holding in
+    let served : cond l.holding unserved unserved ≡ unserved = ap (λ (b : Bool). cond b unserved unserved) f.holding in
     let flying : flight_by (take l.after []) (lane_cell [] None l) ≡ None =
     ap (λ (s : Slot). flight_by (take l.after []) (cell_by [] None s)) f.slot in
     λ i. record {
@@ -131,8 +120,7 @@ fresh_part j l f =
       done = f.done i;
     }
 
-fresh_parts : (n : ℕ) (lanes : List Lane)
-    → ((j : ℕ) (l : Lane) → get_elem? lanes j ≡ some l → IsFresh (n + j) l)
+fresh_parts : (n : ℕ) (lanes : List Lane) → ((j : ℕ) (l : Lane) → get_elem? lanes j ≡ some l → IsFresh (n + j) l)
     → map (part_by [] None) lanes ≡ fresh_lanes n (length lanes)
 fresh_parts n [] all = refl
 fresh_parts n (x ∷ xs) all =

@@ -11,7 +11,7 @@ use Rattle.krs_world.specs.{Between.StandsNext, History.{Fits, HasSeen, OneHisto
 use Rattle.krs_world.specs.{Knowing.{events_of, one}, World.IsUnanswered, declared.view.Cell.Cell}
 use Rattle.krs_world.specs.declared.view.{Cell.TheVariants.{Answered, Empty, Posted, Serving}, Part.Part}
 use Rattle.krs_world.specs.declared.view.{Standing.{Standing, TheVariants.{One, Opening, Spent, Two}}, View.View}
-use Rattle.krs_world.proofs.{Keeping.{empty_if_idle, events_prefix, prefix_trans}, Orders.either_begins}
+use Rattle.krs_world.proofs.{Keeping.{empty_if_idle, events_prefix, prefix_trans, shares}, Orders.either_begins}
 
 -- Lists.
 
@@ -30,12 +30,10 @@ Falls lane log mine e =
     (before : List Event) × (behind : List Event) × (log ≡ before ++ e ∷ behind) × (events_of lane before ≡ mine)
 
 own_kept : (lane : ℕ) (y : Event) (ys : List Event) → y.lane ≡ lane → events_of lane (y ∷ ys) ≡ y ∷ events_of lane ys
-own_kept lane y ys own =
-    ap (λ b. cond b (y ∷ events_of lane ys) (events_of lane ys)) (eq-eqb y.lane lane own)
+own_kept lane y ys own = ap (λ b. cond b (y ∷ events_of lane ys) (events_of lane ys)) (eq-eqb y.lane lane own)
 
 other_left : (lane : ℕ) (y : Event) (ys : List Event) → y.lane ≢ lane → events_of lane (y ∷ ys) ≡ events_of lane ys
-other_left lane y ys other =
-    ap (λ b. cond b (y ∷ events_of lane ys) (events_of lane ys)) (ne_eqb y.lane lane other)
+other_left lane y ys other = ap (λ b. cond b (y ∷ events_of lane ys) (events_of lane ys)) (ne_eqb y.lane lane other)
 
 falls : (lane : ℕ) (log mine : List Event) (e : Event) (more : List Event)
     → events_of lane log ≡ mine ++ e ∷ more → Falls lane log mine e
@@ -61,8 +59,7 @@ stands_next lane front mine e more log had begun has =
     let own : List Event = events_of lane front in
     let parts : own ++ events_of lane begun.0 ≡ events_of lane log =
     sym (filter-append (λ (x : Event). x.lane == lane) front begun.0) ∙ ap (events_of lane) begun.1 in
-    let whole : events_of lane log ≡ own ++ (had.0 ++ e ∷ (more ++ has.0)) =
-    sym has.1
+    let whole : events_of lane log ≡ own ++ (had.0 ++ e ∷ (more ++ has.0)) = sym has.1
     ∙ (append_assoc mine (e ∷ more) has.0
     ∙ (ap (λ l. l ++ e ∷ (more ++ has.0)) (sym had.1) ∙ append_assoc own had.0 (e ∷ (more ++ has.0)))) in
     let t = falls lane begun.0 had.0 e (more ++ has.0)
@@ -75,8 +72,7 @@ stands_next lane front mine e more log had begun has =
 
 -- What is known at a moment.
 
-seen_of : (s : Shared) (j : ℕ) (seen : List Event) (st : Standing) → HasSeen seen st → Stands s j st
-    → Begins seen s.log
+seen_of : (s : Shared) (j : ℕ) (seen : List Event) (st : Standing) → HasSeen seen st → Stands s j st → Begins seen s.log
 seen_of s j seen Spent h k = absurd h
 seen_of s j seen (One p) h k = subst (λ l. Begins l s.log) h k.seen
 seen_of s j seen (Two p q) h k = ⊎_elim (λ e. subst (λ l. Begins l s.log) e k.0.seen)
@@ -84,12 +80,11 @@ seen_of s j seen (Two p q) h k = ⊎_elim (λ e. subst (λ l. Begins l s.log) e 
 seen_of s j seen (Opening n) h k = absurd h
 
 -- what a seat has seen begins the history
-pub seen_begins_log : (a : State) (t : ℕ) (home : Option State) (cell : ℕ → Cell) (views : List View) (front : List Event)
-    → (o : OneHistory a t home cell views) → IsSeenBy front views → Begins front o.log
-seen_begins_log a t home cell views front o s = prefix_trans front s.2 o.log s.5
-    (seen_of
-    record { log = o.log; turn = t; holder = o.holder; dealt = o.dealt; seat = o.seat; cell = cell; serving = o.serving }
-    s.0 s.2 s.1.stands s.4 (o.each s.0 s.1 s.3))
+pub seen_begins_log : {a : State} {t : ℕ} {home : Option State} {cell : ℕ → Cell} {views : List View}
+    (front : List Event)
+    (o : OneHistory a t home cell views) → IsSeenBy front views → Begins front o.log
+seen_begins_log front o s = prefix_trans front s.2 o.log s.5
+    (seen_of (shares o) s.0 s.2 s.1.stands s.4 (o.each s.0 s.1 s.3))
 
 -- the history has no operation of a lane that the lane doesn't know of, unless its cell is answered
 mine_is : (p : Part) (log : List Event) (c : Cell) → IsUnanswered c → Fits log p c → events_of p.lane log ≡ p.mine
@@ -109,8 +104,8 @@ collected_between a t t' home home' cell cell' views views' front j j' q q' e mo
     let k = o.each j (one a q) at in
     let k' = later.each j' (one a q') there in
     let had : Begins (events_of q.lane front) q.mine =
-    front_had q front o.log (cell q.lane) (seen_begins_log a t home cell views front o was) unanswered k.fits in
-    let begun : Begins front later.log = seen_begins_log a t' home' cell' views' front later is in
+    front_had q front o.log (cell q.lane) (seen_begins_log front o was) unanswered k.fits in
+    let begun : Begins front later.log = seen_begins_log front later is in
     let seen : Begins (q.mine ++ e ∷ more) (events_of q.lane q'.seen) =
     subst (λ (z : ℕ × List Event). Begins z.1 (events_of z.0 q'.seen)) (λ i. (lane i, mine i)) k'.calls in
     let whole : Begins (q.mine ++ e ∷ more) (events_of q.lane later.log) =
@@ -121,8 +116,7 @@ collected_between a t t' home home' cell cell' views views' front j j' q q' e mo
           (λ (b : Begins q'.seen front). absurd (too_long q.mine e more
           (prefix_trans (q.mine ++ e ∷ more) (events_of q.lane q'.seen) q.mine seen
           (prefix_trans (events_of q.lane q'.seen) (events_of q.lane front) q.mine
-          (events_prefix q.lane q'.seen front b) had))))
-          (either_begins front q'.seen later.log begun k'.seen),
+          (events_prefix q.lane q'.seen front b) had)))) (either_begins front q'.seen later.log begun k'.seen),
     )
 
 pub real_time_between : KeepsRealTimeBetween
@@ -137,13 +131,12 @@ posted_between a t t' home home' cell cell' views views' front j j' q q' m ask r
     let k = o.each j (one a q) at in
     let k' = later.each j' (one a q') there in
     let had : Begins (events_of q.lane front) q.mine =
-    front_had q front o.log (cell q.lane) (seen_begins_log a t home cell views front o was) unanswered k.fits in
-    let begun : Begins front later.log = seen_begins_log a t' home' cell' views' front later is in
+    front_had q front o.log (cell q.lane) (seen_begins_log front o was) unanswered k.fits in
+    let begun : Begins front later.log = seen_begins_log front later is in
     let fits : Fits later.log q' (Answered m ask reply) =
     subst (Fits later.log q') (ap cell' lane ∙ answered) k'.fits in
     let own : events_of q.lane later.log ≡ q.mine ++ event_of q.lane m ask reply ∷ [] =
     subst (λ (z : ℕ × List Event). events_of z.0 later.log ≡ z.1 ++ event_of z.0 m ask reply ∷ [])
     (λ i. (lane i, mine i)) fits.2 in
     let e : Event = event_of q.lane m ask reply in
-    stands_next q.lane front q.mine e [] later.log had begun
-    ([], append-nil (q.mine ++ e ∷ []) ∙ sym own)
+    stands_next q.lane front q.mine e [] later.log had begun ([], append-nil (q.mine ++ e ∷ []) ∙ sym own)

@@ -81,17 +81,19 @@ in_bounds (y ∷ ys) (suc i) x e = let lt = in_bounds ys i x e in omega arith
 -- The history of the machine that is kept so.
 
 -- a list is the history of a machine that is kept so only where it is the list of all calls
-pub history_kept : (store : State) (out : Option ℕ) (serving : Option Service) (log : List Event) (lanes : List Lane)
+pub history_kept : {store : State} {out : Option ℕ} {serving : Option Service} {log : List Event} {lanes : List Lane}
     (k : IsKept store out serving log lanes)
     (other : List Event) → IsHistory (world_of store out serving log lanes) other → other ≡ log
-history_kept store out serving log lanes k other h =
+history_kept {store} {out} {serving} {log} {lanes} k other h =
     history_is (starting_at 3) (cell_of (cells_by log serving lanes)) (seats_by log serving lanes) (turn_by store out)
     k.one.history other h ∙ k.whole
 
 -- and that list is
-pub kept_history : (store : State) (out : Option ℕ) (serving : Option Service) (log : List Event) (lanes : List Lane) → IsKept store out serving log lanes
+pub kept_history : {store : State} {out : Option ℕ} {serving : Option Service} {log : List Event} {lanes : List Lane}
+    → IsKept store out serving log lanes
     → IsHistory (world_of store out serving log lanes) log
-kept_history store out serving log lanes k = subst (IsHistory (world_of store out serving log lanes)) k.whole k.one.whole
+kept_history {store} {out} {serving} {log} {lanes} k = subst
+    (IsHistory (world_of store out serving log lanes)) k.whole k.one.whole
 
 -- who holds a list holds the whole
 pub held_whole : (log l : List Event) (b : Bool) → cond b (Some log) None ≡ Some l → log ≡ l
@@ -104,18 +106,18 @@ IsSeenWhole log lanes = (log ≡ []) ⊎ ((j : ℕ) × (l : Lane) × (get_elem? 
 
 -- then, or where a seat has the turn, the one history is the list
 pub whole_now : (store : State) (out : Option ℕ) (serving : Option Service) (log : List Event) (lanes : List Lane)
-    (now : IsOneHistory (world_of store out serving log lanes)) → (out ≡ None → IsSeenWhole log lanes) → now.history.log ≡ log
+    (now : IsOneHistory (world_of store out serving log lanes)) → (out ≡ None → IsSeenWhole log lanes)
+    → now.history.log ≡ log
 whole_now store None serving log lanes now free =
-    sym (history_is (starting_at 3) (cell_of (cells_by log serving lanes)) (seats_by log serving lanes) (Free store) now.history
+    sym (history_is (starting_at 3) (cell_of (cells_by log serving lanes)) (seats_by log serving lanes)
+    (Free store) now.history
     log (
       ⊎_elim inl (λ (t : (j : ℕ) × (l : Lane) × (get_elem? lanes j ≡ some l) × (l.seen ≡ length log)). inr (
         t.0,
         part_by log serving t.1,
         get_map (part_by log serving) lanes t.0 t.1 t.2,
-        ap (λ (n : ℕ). take n log) t.3
-            ∙ take-length log,
-      ))
-          (free refl),
+        ap (λ (n : ℕ). take n log) t.3 ∙ take-length log,
+      )) (free refl),
       λ j p at. let m = of_map (part_by log serving) lanes j p at in
           subst (λ (q : Part). Begins q.seen log) m.2 (begins_take m.0.seen log),
     ))
@@ -125,28 +127,27 @@ whole_now store (Some holder) serving log lanes now free = let t = now.whole in
     sym (held_whole log now.history.log m.0.holding holds)
 
 -- some lane has seen all calls, where the turn is free
-pub seen_whole : (store : State) (serving : Option Service) (log : List Event) (lanes : List Lane) → IsKept store None serving log lanes
+pub seen_whole : {store : State} {serving : Option Service} {log : List Event} {lanes : List Lane}
+    → IsKept store None serving log lanes
     → IsSeenWhole log lanes
-seen_whole store serving log lanes k = ⊎_elim inl
+seen_whole {serving = serving} {log} {lanes} k = ⊎_elim inl
     (λ (t : (j : ℕ) × (p : Part) × (get_elem? (seats_by log serving lanes) j ≡ some p) × (p.seen ≡ log)).
     let m = of_map (part_by log serving) lanes t.0 t.1 t.2 in
     let all : take m.0.seen log ≡ log = ap (λ (p : Part). p.seen) m.2 ∙ t.3 in
     let short = (k.each t.0 m.0 m.1).seen in
-    inr (t.0, m.0, m.1, sym (length-take-le m.0.seen log short) ∙ ap length all))
-    (kept_history store None serving log lanes k).0
+    inr (t.0, m.0, m.1, sym (length-take-le m.0.seen log short) ∙ ap length all)) (kept_history k).0
 
 -- the lane that is out has its place
-pub out_at : (store : State) (out : Option ℕ) (serving : Option Service) (log : List Event) (lanes : List Lane)
-    (i : ℕ) → IsKept store out serving log lanes → out ≡ Some i → (x : Lane) × (get_elem? lanes i ≡ some x)
-out_at store out serving log lanes i k here =
-    let h = subst (λ (o : Option ℕ). IsHistory (world_of store o serving log lanes) log) here
-    (kept_history store out serving log lanes k) in
+pub out_at : {store : State} {out : Option ℕ} {serving : Option Service} {log : List Event} {lanes : List Lane}
+    {i : ℕ} → IsKept store out serving log lanes → out ≡ Some i → (x : Lane) × (get_elem? lanes i ≡ some x)
+out_at {store = store} {serving = serving} {log} {lanes} {i} k here =
+    let h = subst (λ (o : Option ℕ). IsHistory (world_of store o serving log lanes) log) here (kept_history k) in
     let m = of_map (part_by log serving) lanes i h.0 h.1 in (m.0, m.1)
 
-pub out_within : (store : State) (out : Option ℕ) (serving : Option Service) (log : List Event) (lanes : List Lane)
-    (i : ℕ) → IsKept store out serving log lanes → out ≡ Some i → i < length lanes
-out_within store out serving log lanes i k here =
-    let t = out_at store out serving log lanes i k here in in_bounds lanes i t.0 t.1
+pub out_within : {store : State} {out : Option ℕ} {serving : Option Service} {log : List Event} {lanes : List Lane}
+    {i : ℕ} → IsKept store out serving log lanes → out ≡ Some i → i < length lanes
+out_within {lanes = lanes} {i} k here =
+    let t = out_at k here in in_bounds lanes i t.0 t.1
 
 -- The machine as it is kept, after a step.
 
@@ -167,7 +168,8 @@ reseats store out out' serving log lanes i x y q at same is =
     let cells : cells_by log serving (set lanes i y) ≡ cells_by log serving lanes =
     map_alike (lane_cell log serving) (lane_cell log serving) lanes (set lanes i y) (length-set lanes i y)
     (λ j z v there was. ⊎_elim
-    (λ (t : (j ≡ i) × (y ≡ z)). let old : x ≡ v = some-injective x v (sym at ∙ (ap (get_elem? lanes) (sym t.0) ∙ was)) in
+    (λ (t : (j ≡ i) × (y ≡ z)). let old : x ≡ v = some-injective x v
+    (sym at ∙ (ap (get_elem? lanes) (sym t.0) ∙ was)) in
     ap (lane_cell log serving) (sym t.1) ∙ (ap (cell_by log serving) same ∙ ap (lane_cell log serving) old))
     (λ (t : (j ≢ i) × (get_elem? lanes j ≡ some z)). let one : z ≡ v = some-injective z v (sym t.1 ∙ was) in
     ap (lane_cell log serving) one) (at_set lanes i j y z there)) in

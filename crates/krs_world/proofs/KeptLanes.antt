@@ -15,14 +15,14 @@ lane_is number seen base after holds slot =
     record { number = number; seen = seen; base = base; after = after; holds = holds; slot = slot }
 
 -- what is kept of a lane, where another lane is out or none is
-pub lane_out : (out out' : Option ℕ) (serving : Option Service) (log : List Event) (j : ℕ) (l : Lane)
+pub lane_out : {out out' : Option ℕ} {serving : Option Service} {log : List Event} {j : ℕ} {l : Lane}
     → IsLane out serving log j l → (l.holding ≡ true → out' ≡ Some j) → IsLane out' serving log j l
-lane_out out out' serving log j l o holds = lane_is o.number o.seen o.base o.after holds o.slot
+lane_out o holds = lane_is o.number o.seen o.base o.after holds o.slot
 
 -- the same, where the list has an event more
-pub lane_more : (out out' : Option ℕ) (serving : Option Service) (log : List Event) (e : Event) (j : ℕ) (l : Lane)
+pub lane_more : {out out' : Option ℕ} {serving : Option Service} {log : List Event} (e : Event) {j : ℕ} {l : Lane}
     → IsLane out serving log j l → (l.holding ≡ true → out' ≡ Some j) → IsLane out' serving (log ++ e ∷ []) j l
-lane_more out out' serving log e j l o holds =
+lane_more {serving = serving} {log} e {j} {l} o holds =
     let size : length (log ++ e ∷ []) ≡ length log + 1 = length-append log (e ∷ []) in
     let seen = o.seen in let base = o.base in let after = o.after in
     lane_is o.number (omega arith) (omega arith) (omega arith) holds (slot_more serving log e j l.slot o.slot)

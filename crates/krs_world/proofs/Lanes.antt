@@ -1,13 +1,14 @@
 -- Lists, the lists that seats see and hold, and what holds of a lane where the list or its seat changes.
 use Rattle.std.proofs.Common.{[], ⊎_elim, ◌++◌, ◌<◌, ◌==◌, ◌∙◌, ◌∷◌, ◌≡◌, ◌≢◌, ◌⊎◌, ap, append-nil, append_assoc, arith}
-use Rattle.std.proofs.Common.{cond, eq-eqb, inl, inr, length, List, ne_eqb, None, Option, refl, set, Some, subst, suc}
-use Rattle.std.proofs.{Common.{sym, zero, ℕ}, lemmas.List.Elements.filter-append}
+use Rattle.std.proofs.Common.{cond, eq-eqb, inl, inr, length, List, lt_of_not-le, ne_eqb, None, Option, refl, set, Some}
+use Rattle.std.proofs.{Common.{subst, suc, sym, zero, ℕ}, lemmas.List.Elements.filter-append}
 use lib.ListN.{get_elem?}
 use mathlib.Core.{Logic.dite, Option.{some, some-injective, some-ne-none}}
-use native.Mathlib.Decide.{ℕ_discrete}
+use native.Mathlib.Decide.{dec_le, ℕ_discrete}
 use Rattle.krs_types.specs.declared.event.Event.{Event}
 use Rattle.krs_model.specs.{History.event_of, Lists.Begins, State.State}
-use Rattle.krs_world.specs.History.{Fits, HasSeen, HasTurn, Holds, IsHeld, IsSeen, Known, OneHistory, Shared, Stands}
+use Rattle.krs_world.specs.History.{Fits, HasSeen, HasTurn, Holds, IsHeld, IsSeen, Kept, Known, OneHistory, Shared}
+use Rattle.krs_world.specs.History.{Linearizes, Sits, Stands, StandsFor}
 use Rattle.krs_world.specs.Knowing.{celled, events_of, flight}
 use Rattle.krs_world.specs.declared.view.{Cell.{Cell, TheVariants.{Answered, Empty, Posted, Serving}}, Part.Part}
 use Rattle.krs_world.specs.declared.view.{Standing.{Standing, TheVariants.{One, Opening, Spent, Two}}, View.View}
@@ -34,8 +35,7 @@ prefix_both (x ∷ xs) (y ∷ ys) p q = let e = p.1 in let f = q.1 in let one : 
 pub events_prefix : (lane : ℕ) (xs ys : List Event) → Begins xs ys → Begins (events_of lane xs) (events_of lane ys)
 events_prefix lane xs ys p = (
   events_of lane p.0,
-  sym (filter-append (λ (x : Event). x.lane == lane) xs p.0)
-      ∙ ap (events_of lane) p.1,
+  sym (filter-append (λ (x : Event). x.lane == lane) xs p.0) ∙ ap (events_of lane) p.1,
 )
 
 pub own_event : (lane : ℕ) (log : List Event) (e : Event) → e.lane ≡ lane → events_of lane (log ++ e ∷ [])
@@ -90,28 +90,22 @@ at_snoc (x ∷ xs) a b (suc j) e = ⊎_elim inl (λ t. inr (t.0, ap suc t.1)) (a
 pub seen_set : (log : List Event) (views : List View) (id : ℕ) (v w : View) → get_elem? views id ≡ some v
     → (HasSeen log v.stands → HasSeen log w.stands) → IsSeen log views → IsSeen log (set views id w)
 seen_set log views id v w at go s = ⊎_elim inl (λ (t : (j : ℕ) × (x : View) × (get_elem? views j ≡ some x)
-    × HasSeen log x.stands). inr (dite (ℕ_discrete t.0 id)
-    (λ same. (
+    × HasSeen log x.stands). inr (dite (ℕ_discrete t.0 id) (λ same. (
       id,
       w,
       set_at views id w v at,
       go (subst (λ (x : View). HasSeen log x.stands)
           (some-injective t.1 v (sym t.2 ∙ (ap (get_elem? views) same ∙ at))) t.3),
-    ))
-    (λ not. (t.0, t.1, set_else views id t.0 w not ∙ t.2, t.3)))) s
+    )) (λ not. (t.0, t.1, set_else views id t.0 w not ∙ t.2, t.3)))) s
 
 pub held_set : (log : List Event) (holder : ℕ) (views : List View) (id : ℕ) (v w : View) → get_elem? views id ≡ some v
     → (HasTurn log v.stands → HasTurn log w.stands) → IsHeld log holder views → IsHeld log holder (set views id w)
-held_set log holder views id v w at go t = dite (ℕ_discrete holder id)
-    (λ same. (
-      w,
-      ap (get_elem? (set views id w)) same ∙ set_at views id w v at,
-      go
-          (subst (λ (x : View). HasTurn log x.stands) (some-injective t.0 v (sym t.1 ∙ (ap (get_elem? views) same
-          ∙ at)))
-          t.2),
-    ))
-    (λ not. (t.0, set_else views id holder w not ∙ t.1, t.2))
+held_set log holder views id v w at go t = dite (ℕ_discrete holder id) (λ same. (
+  w,
+  ap (get_elem? (set views id w)) same ∙ set_at views id w v at,
+  go (subst (λ (x : View). HasTurn log x.stands) (some-injective t.0 v (sym t.1 ∙ (ap (get_elem? views) same ∙ at)))
+      t.2),
+)) (λ not. (t.0, set_else views id holder w not ∙ t.1, t.2))
 
 pub seen_snoc : (log : List Event) (views : List View) (x : View) → IsSeen log views → IsSeen log (views ++ x ∷ [])
 seen_snoc log views x s = ⊎_elim inl (λ (t : (j : ℕ) × (v : View) × (get_elem? views j ≡ some v)
@@ -123,24 +117,52 @@ held_snoc log holder views x t = (t.0, snoc_at views holder x t.0 t.1, t.2)
 
 -- what holds of the view that a step gives and of all others holds of each
 pub each_set : (S : ℕ → View → Type 0) (views : List View) (id : ℕ) (w : View) → S id w → ((j : ℕ) (v : View) → j ≢ id
-    → get_elem? views j ≡ some v → S j v)
-    → (j : ℕ) (v : View) → get_elem? (set views id w) j ≡ some v → S j v
+    → get_elem? views j ≡ some v → S j v) → (j : ℕ) (v : View) → get_elem? (set views id w) j ≡ some v → S j v
 each_set S views id w mine others j v e = ⊎_elim (λ (t : (j ≡ id) × (w ≡ v)). subst (λ (x : ℕ × View). S x.0 x.1)
     (λ i. (sym t.0 i, t.1 i)) mine)
     (λ (t : (j ≢ id) × (get_elem? views j ≡ some v)). others j v t.0 t.1) (at_set views id j w v e)
 
 -- what all seats share in a history
-abbrev pub shares : (a : State) (turn : ℕ) (home : Option State) (cell : ℕ → Cell) (views : List View)
+abbrev pub shares : {a : State} {turn : ℕ} {home : Option State} {cell : ℕ → Cell} {views : List View}
     → OneHistory a turn home cell views → Shared
-shares a turn home cell views o = record {
-  log = o.log;
-  turn = turn;
-  holder = o.holder;
-  dealt = o.dealt;
-  seat = o.seat;
-  cell = cell;
-  serving = o.serving;
+shares {turn = turn} {cell = cell} o = record { witness = o.witness; turn = turn; cell = cell }
+
+-- what is so of a seat's lanes is so of one of them
+pub known_of : (s : Shared) (j : ℕ) (st : Standing) (p : Part) → Sits p st → Stands s j st → Known s j p
+known_of s j Spent p sits k = absurd sits
+known_of s j (One q) p sits k = subst (Known s j) sits k
+known_of s j (Two q r) p sits k =
+    ⊎_elim (λ (e : q ≡ p). subst (Known s j) e k.0) (λ (e : r ≡ p). subst (Known s j) e k.1) sits
+known_of s j (Opening n) p sits k = absurd sits
+
+pub sits_of : (lane : ℕ) (st : Standing) → StandsFor lane st → (p : Part) × Sits p st × (p.lane ≡ lane)
+sits_of lane Spent is = absurd is
+sits_of lane (One p) is = (p, refl, is)
+sits_of lane (Two p q) is =
+    ⊎_elim (λ (e : p.lane ≡ lane). (p, inl refl, e)) (λ (e : q.lane ≡ lane). (q, inr refl, e)) is
+sits_of lane (Opening n) is = absurd is
+
+-- the claim follows from what is kept
+pub claimed : {a : State} {turn : ℕ} {home : Option State} {cell : ℕ → Cell} {views : List View}
+    (k : Kept a turn home cell views) → Linearizes a home cell views k.log k.last
+claimed {turn = turn} {cell = cell} k = record {
+  legal = k.legal;
+  ends = λ store is. dite (ℕ_discrete turn 1) (λ out. absurd (let no : Some store ≡ None = sym is ∙ k.away out in cc))
+      (λ not. let same : Some store ≡ Some k.last = sym is ∙ k.at_home not in cc);
+  lanes = λ p had.
+      let t = known_of record { witness = k.witness; turn = turn; cell = cell } had.0 had.1.stands p had.3
+      (k.each had.0 had.1 had.2) in
+      (t.seen, t.fits);
+  others = λ lane none. dite (dec_le k.dealt lane) (λ le. (k.undealt lane le).1) (λ nle.
+      let t = k.seated lane (lt_of_not-le nle) in
+      let u = sits_of lane t.0.stands t.2 in
+      absurd (none u.0 (k.seat lane, t.0, t.1, u.1) u.2));
 }
+
+-- so there is one history where that is kept
+abbrev pub one_history : {a : State} {turn : ℕ} {home : Option State} {cell : ℕ → Cell} {views : List View}
+    → Kept a turn home cell views → OneHistory a turn home cell views
+one_history k = record { kept = k; claim = claimed k }
 
 -- what is known of the lanes of another seat is known after the step
 pub others_stand : (s s' : Shared) (j : ℕ) → ((p : Part) → Known s j p → Known s' j p)
@@ -186,16 +208,14 @@ fits_more log e p other (Posted m a) f = (
   f.1,
   other_event p.lane log e other ∙ f.2,
   f.3,
-  prefix_more f.0 log
-      (e ∷ []) f.4,
+  prefix_more f.0 log (e ∷ []) f.4,
 )
 fits_more log e p other (Serving m a) f = (
   f.0,
   f.1,
   other_event p.lane log e other ∙ f.2,
   f.3,
-  prefix_more f.0 log
-      (e ∷ []) f.4,
+  prefix_more f.0 log (e ∷ []) f.4,
 )
 fits_more log e p other (Answered m a r) f = (
   f.0,
@@ -204,8 +224,7 @@ fits_more log e p other (Answered m a r) f = (
   (
     f.3.0,
     f.3.1 ++ e ∷ [],
-    ap (λ l. l ++ e ∷ []) f.3.2 ∙ append_assoc (f.0 ++ f.3.0) (event_of p.lane m a r ∷ f.3.1)
-        (e ∷ []),
+    ap (λ l. l ++ e ∷ []) f.3.2 ∙ append_assoc (f.0 ++ f.3.0) (event_of p.lane m a r ∷ f.3.1) (e ∷ []),
   ),
 )
 
@@ -217,16 +236,14 @@ fits_same log p q el ef em ed (Posted m a) f = (
   f.0,
   ef ∙ f.1,
   ap (λ l. events_of l log) el ∙ (f.2 ∙ sym em),
-  ed
-      ∙ f.3,
+  ed ∙ f.3,
   f.4,
 )
 fits_same log p q el ef em ed (Serving m a) f = (
   f.0,
   ef ∙ f.1,
   ap (λ l. events_of l log) el ∙ (f.2 ∙ sym em),
-  ed
-      ∙ f.3,
+  ed ∙ f.3,
   f.4,
 )
 fits_same log p q el ef em ed (Answered m a r) f = (

@@ -11,7 +11,8 @@ use Rattle.krs_world.specs.History.{HasSeen, HasTurn, IsSeen, OneHistory, Shared
 use Rattle.krs_world.specs.Knowing.{one, view}
 use Rattle.krs_world.specs.declared.view.{Cell.Cell, Part.Part, Standing.TheVariants.{Opening, Spent}, View.View}
 use Rattle.krs_world.proofs.Joining.{reseat}
-use Rattle.krs_world.proofs.Keeping.{each_set, held_set, others_stand, set_at, set_else, shares, snoc_at, snoc_end}
+use Rattle.krs_world.proofs.Keeping.{each_set, held_set, one_history, others_stand, set_at, set_else, shares, snoc_at}
+use Rattle.krs_world.proofs.Keeping.{snoc_end}
 use Rattle.krs_world.proofs.Places.{dealing_set, seated, seated_else, seated_here, seated_set, seats_again}
 use Rattle.krs_world.proofs.Seating.{spares}
 
@@ -23,67 +24,63 @@ seen_moved log a b views id other q x at apart there spent s = let left : List V
     let is_there : get_elem? left other ≡ some x = set_else views id other (view b Spent) apart ∙ there in
     let here : get_elem? (set left other (one a q)) other ≡ some (one a q) = set_at left other (one a q) x is_there in
     ⊎_elim inl (λ (t : (j : ℕ) × (v : View) × (get_elem? views j ≡ some v) × HasSeen log v.stands). inr
-    (dite (ℕ_discrete t.0 id)
-    (λ same. (
+    (dite (ℕ_discrete t.0 id) (λ same. (
       other,
       one a q,
       here,
       subst (λ (v : View). HasSeen log v.stands)
           (some-injective t.1 (one a q) (sym t.2 ∙ (ap (get_elem? views) same ∙ at))) t.3,
-    ))
-    (λ not. dite (ℕ_discrete t.0 other)
+    )) (λ not. dite (ℕ_discrete t.0 other)
     (λ same. let e : t.1 ≡ x = some-injective t.1 x (sym t.2 ∙ (ap (get_elem? views) same ∙ there)) in
     absurd (subst (HasSeen log) spent (subst (λ (v : View). HasSeen log v.stands) e t.3)))
-    (λ away. (t.0, t.1, set_else left other t.0 (one a q) away ∙ (set_else views id t.0 (view b Spent) not ∙ t.2), t.3))))) s
+    (λ away. (
+      t.0,
+      t.1,
+      set_else left other t.0 (one a q) away ∙
+          (set_else views id t.0 (view b Spent) not ∙ t.2),
+      t.3,
+    ))))) s
 
 -- the lane goes over: the one seat stands for none, and the other stands for it
-pub moves : (a b : State) (turn : ℕ) (home : Option State) (cell : ℕ → Cell) (views : List View) (id other : ℕ) (q : Part)
-    (x : View) → OneHistory a turn home cell views → get_elem? views id ≡ some (one a q) → other ≢ id
+pub moves : {a : State} (b : State) {turn : ℕ} {home : Option State} {cell : ℕ → Cell} {views : List View}
+    (id other : ℕ) {q : Part} {x : View} → OneHistory a turn home cell views → get_elem? views id ≡ some (one a q)
+    → other ≢ id
     → get_elem? views other ≡ some x → x.stands ≡ Spent → q.holding ≡ None
     → OneHistory a turn home cell (set (set views id (view b Spent)) other (one a q))
-moves a b turn home cell views id other q x o at apart there spent empty = let k = o.each id (one a q) at in
+moves {a} b {views = views} id other {q} {x} o at apart there spent empty = let k = o.each id (one a q) at in
     let left : List View = set views id (view b Spent) in
     let is_there : get_elem? left other ≡ some x = set_else views id other (view b Spent) apart ∙ there in
-    let seat' : ℕ → ℕ = seated o.seat q.lane other in let s : Shared = shares a turn home cell views o in
-    let s' : Shared = record s { seat = seat' } in record {
-      log = o.log;
-      last = o.last;
-      holder = o.holder;
-      dealt = o.dealt;
-      seat = seat';
-      serving = o.serving;
-      held = λ n. held_set o.log o.holder left other x (one a q) is_there (λ t. absurd (subst (HasTurn o.log) spent t))
-          (held_set o.log o.holder views id (one a q) (view b Spent) at
-          (λ t. absurd (let no : Some o.log ≡ None = sym t ∙ empty in cc)) (o.held n));
-      longest = λ n. seen_moved o.log a b views id other q x at apart there spent (o.longest n);
-      word = o.word;
-      legal = o.legal;
-      at_home = o.at_home;
-      away = o.away;
-      opener = λ n. dealing_set o.dealt o.holder left other x (one a q) is_there
-          (λ is. absurd (let no : Spent ≡ Opening o.dealt = sym spent ∙ is in cc))
-          (dealing_set o.dealt o.holder views id (one a q) (view b Spent) at (λ is. absurd cc) (o.opener n));
-      young = o.young;
-      unserved = o.unserved;
-      seated = λ l lt. seats_again o.seat q.lane other l (set left other (one a q))
-          (λ _. (one a q, set_at left other (one a q) x is_there, refl))
-          (λ not. seated_set l (o.seat l) left other x (one a q) is_there
-          (λ t. absurd (subst (StandsFor l) spent t))
-          (seated_set l (o.seat l) views id (one a q) (view b Spent) at (λ t. absurd (not (sym t))) (o.seated l lt)));
-      undealt = o.undealt;
-      serves = o.serves;
-      served = o.served;
-      openings = each_set (λ j w. (w.stands ≡ Spent) ⊎ (w.opening ≡ a)) left other (one a q) (inr refl)
-          (λ j w _ e. each_set (λ j w. (w.stands ≡ Spent) ⊎ (w.opening ≡ a)) views id (view b Spent) (inl refl)
-          (λ j w _ e. o.openings j w e) j w e);
-      each = each_set (λ j w. Stands s' j w.stands) left other (one a q)
-          (reseat s seat' id other q k (seated_here o.seat q.lane other)
-          (λ l is. absurd (let no : Some l ≡ None = sym is ∙ empty in cc)))
-          (λ j w off e. each_set (λ j w. Stands s' j w.stands) views id (view b Spent) tt
-          (λ j w not e. others_stand s s' j
-          (λ r g. reseat s seat' j j r g
-          (seated_else o.seat q.lane other r.lane (λ same. not (sym g.at ∙ (ap o.seat same ∙ k.at))) ∙ g.at) g.holding)
-          (λ t is. (t, is, refl)) w.stands (o.each j w e)) j w e);
+    let seat' : ℕ → ℕ = seated o.seat q.lane other in let s : Shared = shares o in
+    let s' : Shared = record s { witness = record o.witness { seat = seat' } } in one_history record {
+      witness = record o.witness { seat = seat' };
+      store = o.store;
+      words = o.words;
+      cells = o.cells;
+      seats = record {
+        held = λ n. held_set o.log o.holder left other x (one a q) is_there
+            (λ t. absurd (subst (HasTurn o.log) spent t))
+            (held_set o.log o.holder views id (one a q) (view b Spent) at
+            (λ t. absurd (let no : Some o.log ≡ None = sym t ∙ empty in cc)) (o.held n));
+        longest = λ n. seen_moved o.log a b views id other q x at apart there spent (o.longest n);
+        opener = λ n. dealing_set o.dealt o.holder left other x (one a q) is_there
+            (λ is. absurd (let no : Spent ≡ Opening o.dealt = sym spent ∙ is in cc))
+            (dealing_set o.dealt o.holder views id (one a q) (view b Spent) at (λ is. absurd cc) (o.opener n));
+        seated = λ l lt. seats_again o.seat q.lane other l (set left other (one a q))
+            (λ _. (one a q, set_at left other (one a q) x is_there, refl))
+            (λ not. seated_set l (o.seat l) left other x (one a q) is_there (λ t. absurd (subst (StandsFor l) spent t))
+            (seated_set l (o.seat l) views id (one a q) (view b Spent) at (λ t. absurd (not (sym t))) (o.seated l lt)));
+        openings = each_set (λ j w. (w.stands ≡ Spent) ⊎ (w.opening ≡ a)) left other (one a q) (inr refl)
+            (λ j w _ e. each_set (λ j w. (w.stands ≡ Spent) ⊎ (w.opening ≡ a)) views id (view b Spent) (inl refl)
+            (λ j w _ e. o.openings j w e) j w e);
+        each = each_set (λ j w. Stands s' j w.stands) left other (one a q)
+            (reseat s seat' id other q k (seated_here o.seat q.lane other)
+            (λ l is. absurd (let no : Some l ≡ None = sym is ∙ empty in cc)))
+            (λ j w off e. each_set (λ j w. Stands s' j w.stands) views id (view b Spent) tt
+            (λ j w not e. others_stand s s' j (λ r g. reseat s seat' j j r g
+            (seated_else o.seat q.lane other r.lane (λ same. not (sym g.at ∙ (ap o.seat same ∙ k.at)))
+            ∙ g.at) g.holding)
+            (λ t is. (t, is, refl)) w.stands (o.each j w e)) j w e);
+      };
     }
 
 set_twice : {A : Type 0} (l : List A) (i : ℕ) (a b : A) → set (set l i a) i b ≡ set l i b
@@ -104,17 +101,19 @@ is_within (x ∷ xs) zero a e = omega arith
 is_within (x ∷ xs) (suc i) a e = let h = is_within xs i a e in omega arith
 
 -- a seat is cut in two: it stands for none, and a new one stands for its lane
-pub lifts : (a : State) (turn : ℕ) (home : Option State) (cell : ℕ → Cell) (views : List View) (id : ℕ) (q : Part)
+pub lifts : {a : State} {turn : ℕ} {home : Option State} {cell : ℕ → Cell} {views : List View} (id : ℕ) {q : Part}
     → OneHistory a turn home cell views → get_elem? views id ≡ some (one a q) → q.holding ≡ None
     → OneHistory a turn home cell (set views id (view a Spent) ++ one a q ∷ [])
-lifts a turn home cell views id q o at empty = let N : ℕ = length views in let here : List View = set views id (one a q) in
+lifts {a} {turn} {home} {cell} {views} id {q} o at empty = let N : ℕ = length views in
+    let here : List View = set views id (one a q) in
     let spare : List View = here ++ view a Spent ∷ [] in let len : length here ≡ N = length-set views id (one a q) in
     let within : id < N = is_within views id (one a q) at in
-    let last : get_elem? spare N ≡ some (view a Spent) = ap (get_elem? spare) (sym len) ∙ snoc_end here (view a Spent) in
+    let last : get_elem? spare N ≡ some (view a Spent) = ap (get_elem? spare) (sym len) ∙ snoc_end here
+    (view a Spent) in
     let at' : get_elem? spare id ≡ some (one a q) =
     snoc_at here id (view a Spent) (one a q) (set_at views id (one a q) (one a q) at) in
-    let h = spares a turn home cell views id (one a q) o at in
-    let moved = moves a a turn home cell spare id N q (view a Spent) h at' (λ e. omega arith) last refl empty in
+    let h = spares id o at in
+    let moved = moves a id N h at' (λ e. omega arith) last refl empty in
     let left : List View = set views id (view a Spent) in
     let is_left : set spare id (view a Spent) ≡ left ++ view a Spent ∷ [] =
     set-append_left here (view a Spent ∷ []) id (view a Spent) (omega arith)
@@ -125,10 +124,11 @@ lifts a turn home cell views id q o at empty = let N : ℕ = length views in let
     ∙ set-append_seam left (view a Spent) [] (one a q))) moved
 
 -- a seat that stands for none takes over the lane of another
-pub settles : (a b : State) (turn : ℕ) (home : Option State) (cell : ℕ → Cell) (views : List View) (id other : ℕ)
-    (q : Part) (x : View) → OneHistory a turn home cell views → get_elem? views id ≡ some x → x.stands ≡ Spent
+pub settles : {a : State} (b : State) {turn : ℕ} {home : Option State} {cell : ℕ → Cell} {views : List View}
+    (id other : ℕ) {q : Part} {x : View} → OneHistory a turn home cell views → get_elem? views id ≡ some x
+    → x.stands ≡ Spent
     → other ≢ id → get_elem? views other ≡ some (one a q) → q.holding ≡ None
     → OneHistory a turn home cell (set (set views id (one a q)) other (view b Spent))
-settles a b turn home cell views id other q x o at spent apart there empty =
+settles {a} b {turn} {home} {cell} {views} id other {q} {x} o at spent apart there empty =
     subst (OneHistory a turn home cell) (set_apart views other id (view b Spent) (one a q) apart)
-    (moves a b turn home cell views other id q x o there (λ e. apart (sym e)) at spent empty)
+    (moves b other id o there (λ e. apart (sym e)) at spent empty)

@@ -25,8 +25,8 @@ use Rattle.krs_world.proofs.{Slots.{cell_more, cond_none, slot_more}, Worlds.{ge
 use Rattle.krs_world.specs.declared.lane.Slot.TheVariants as slots
 
 -- The steps, by the lane at its place.
-module _ (store : State) (out : Option ℕ) (serving : Option Service) (log : List Event) (lanes : List Lane) (i : ℕ)
-    (x : Lane) (k : IsKept store out serving log lanes) (at : get_elem? lanes i ≡ some x) where
+module _ {store : State} {out : Option ℕ} {serving : Option Service} {log : List Event} {lanes : List Lane} (i : ℕ)
+    {x : Lane} (k : IsKept store out serving log lanes) (at : get_elem? lanes i ≡ some x) where
   abbrev pub w : World
   w = world_of store out serving log lanes
 
@@ -37,12 +37,10 @@ module _ (store : State) (out : Option ℕ) (serving : Option Service) (log : Li
 
   -- a step leaves the machine kept
   pub after : (store' : State) (out' : Option ℕ) (serving' : Option Service) (log' : List Event) (lanes' : List Lane)
-      (kind : Kind)
-      → StepsAs w i (part_by log serving x) kind (world_of store' out' serving' log' lanes')
+      (kind : Kind) → StepsAs w i (part_by log serving x) kind (world_of store' out' serving' log' lanes')
       → (out' ≡ None → IsSeenWhole log' lanes') → IsLegal (starting_at 3) log' store'
       → ((j : ℕ) (l : Lane) → get_elem? lanes' j ≡ some l → IsLane out' serving' log' j l)
-      → (out' ≡ None → serving' ≡ None)
-      → Served serving' lanes' → IsKept store' out' serving' log' lanes'
+      → (out' ≡ None → serving' ≡ None) → Served serving' lanes' → IsKept store' out' serving' log' lanes'
   after store' out' serving' log' lanes' kind steps free legal each idle served =
       let w' : World = world_of store' out' serving' log' lanes' in
       let now : IsOneHistory w' = step_as w i (part_by log serving x) kind w' k.one
@@ -63,8 +61,7 @@ module _ (store : State) (out : Option ℕ) (serving : Option Service) (log : Li
         y,
         ap (get_elem? (set lanes i y)) here ∙ set_at lanes i y x at,
         same ∙ (ap (λ (z : Lane). z.slot) (sym one) ∙ t.2),
-      ))
-      (λ away. (t.0, set_else lanes i s.lane y away ∙ t.1, t.2))
+      )) (λ away. (t.0, set_else lanes i s.lane y away ∙ t.1, t.2))
 
   -- a lane that isn't the holder holds nothing
   pub unheld : (j : ℕ) (l : Lane) → get_elem? lanes j ≡ some l → j ≢ i → out ≡ Some i → l.holding ≡ false
@@ -72,8 +69,7 @@ module _ (store : State) (out : Option ℕ) (serving : Option Service) (log : Li
       ∙ here in cc))
 
   abbrev pub Moved : State → Option ℕ → List Event → Lane → Kind → Type 0
-  Moved store' out' log' y kind =
-      IsKept store' out' serving log' (set lanes i y)
+  Moved store' out' log' y kind = IsKept store' out' serving log' (set lanes i y)
       × StepsAs w i (part_by log serving x) kind (world_of store' out' serving log' (set lanes i y))
 
   -- the lane as y by such a step, which leaves the call that is served
@@ -114,13 +110,13 @@ module _ (store : State) (out : Option ℕ) (serving : Option Service) (log : Li
       let o = k.each i x at in
       moved store (Some i) log y Take (λ no. absurd (cc)) k.legal
       (lane_is o.number o.seen (omega arith) o.after (λ _. refl) o.slot)
-      (λ j l not e. let u = k.each j l e in lane_out out (Some i) serving log j l u
+      (λ j l not e. let u = k.each j l e in lane_out u
       (λ held. absurd (let no : None ≡ Some j = sym free ∙ u.holds held in cc)))
       (λ no. absurd (cc)) (still_served y refl) (
         store,
         log,
         ap (turn_by store) free,
-        kept_history store out serving log lanes k,
+        kept_history k,
         reseats store out (Some i) serving log lanes i x y (taken (part_by log serving x) log) at refl part,
       )
 
@@ -143,7 +139,7 @@ module _ (store : State) (out : Option ℕ) (serving : Option Service) (log : Li
   -- the list that the holder holds
   pub holding_is : out ≡ Some i → (part_by log serving x).holding ≡ Some log
   holding_is here = let h = subst (λ (o : Option ℕ). IsHistory (world_of store o serving log lanes) log) here
-      (kept_history store out serving log lanes k) in
+      (kept_history k) in
       let same : h.0 ≡ part_by log serving x = some-injective h.0 (part_by log serving x) (sym h.1
       ∙ get_map (part_by log serving) lanes i x at) in
       ap (λ (p : Part). p.holding) (sym same) ∙ h.2
@@ -176,7 +172,7 @@ module _ (store : State) (out : Option ℕ) (serving : Option Service) (log : Li
       let o = k.each i x at in
       moved store None log y (Put None) (λ _. inr (i, y, set_at lanes i y x at, es)) k.legal
       (lane_is o.number (omega arith) o.base o.after (λ no. absurd (cc)) o.slot)
-      (λ j l not e. let u = k.each j l e in lane_out out None serving log j l u
+      (λ j l not e. let u = k.each j l e in lane_out u
       (λ held. absurd (not (let both : Some j ≡ Some i = sym (u.holds held) ∙ here in cc))))
       (λ _. none) (still_served y refl) (
         holder here none,
@@ -205,8 +201,7 @@ module _ (store : State) (out : Option ℕ) (serving : Option Service) (log : Li
       )) in
       let cells : map (lane_cell log' serving) (set lanes i y) ≡ cells_by log serving lanes =
       map_alike (lane_cell log serving) (lane_cell log' serving) lanes (set lanes i y) (length-set lanes i y)
-      (λ j z v there was. ⊎_elim
-      (λ (t : (j ≡ i) × (y ≡ z)). let old : x ≡ v =
+      (λ j z v there was. ⊎_elim (λ (t : (j ≡ i) × (y ≡ z)). let old : x ≡ v =
       some-injective x v (sym at ∙ (ap (get_elem? lanes) (sym t.0) ∙ was)) in
       ap (lane_cell log' serving) (sym t.1) ∙ (ap (cell_by log' serving) same
       ∙ (cell_more serving log e i x.slot o.slot ∙ ap (lane_cell log serving) old)))
@@ -222,8 +217,7 @@ module _ (store : State) (out : Option ℕ) (serving : Option Service) (log : Li
 
   -- what the seat knows then, which has seen the whole list, and holds it or not
   own_part : (seen : ℕ) (holds : Bool) (e : Event) → x.slot ≡ slots.Empty → e.lane ≡ i → seen ≡ length log + 1
-      → part_by (log ++ e ∷ []) serving record x { seen = seen; holding = holds }
-      ≡ record (part_by log serving x) {
+      → part_by (log ++ e ∷ []) serving record x { seen = seen; holding = holds } ≡ record (part_by log serving x) {
         seen = log ++ e ∷ [];
         mine = (part_by log serving x).mine ++ e ∷ [];
         holding = cond holds (Some (log ++ e ∷ [])) None;
@@ -251,8 +245,7 @@ module _ (store : State) (out : Option ℕ) (serving : Option Service) (log : Li
 
   -- put with an own call
   pub puts : (seen : ℕ) (call : ℕ × Ask) (reply : Result Answer Errno) (next : State) → out ≡ Some i
-      → serving ≡ None → x.slot ≡ slots.Empty
-      → Step store (event_of i call.0 call.1 reply) next → seen ≡ length log + 1
+      → serving ≡ None → x.slot ≡ slots.Empty → Step store (event_of i call.0 call.1 reply) next → seen ≡ length log + 1
       → Moved next None (log ++ event_of i call.0 call.1 reply ∷ [])
       record x { seen = seen; holding = false } (Put (Some call))
   puts seen call reply next here none idle step es =
@@ -262,15 +255,13 @@ module _ (store : State) (out : Option ℕ) (serving : Option Service) (log : Li
       let whole : seen ≡ length log' = es ∙ sym size in
       let o = k.each i x at in
       let y : Lane = record x { seen = seen; holding = false } in
-      let part : part_by log' serving y ≡ put_own (part_by log serving x) log e =
-      own_part seen false e idle refl es
+      let part : part_by log' serving y ≡ put_own (part_by log serving x) log e = own_part seen false e idle refl es
       ∙ (λ j. record (put_own (part_by log serving x) log e) { serving = sym (cond_none x.holding serving none) j }) in
       moved next None log' y (Put (Some call)) (λ _. inr (i, y, set_at lanes i y x at, whole))
       (legal_more (starting_at 3) store next log e k.legal step)
       (let b = o.base in let a = o.after in lane_is o.number (omega arith) (omega arith) (omega arith)
-      (λ no. absurd (cc))
-      (slot_more serving log e i x.slot o.slot))
-      (λ j l not is. let u = k.each j l is in lane_more out None serving log e j l u
+      (λ no. absurd (cc)) (slot_more serving log e i x.slot o.slot))
+      (λ j l not is. let u = k.each j l is in lane_more e u
       (λ held. absurd (not (let both : Some j ≡ Some i = sym (u.holds held) ∙ here in cc))))
       (λ _. none) (still_served y refl) (
         holder here none,
@@ -283,10 +274,8 @@ module _ (store : State) (out : Option ℕ) (serving : Option Service) (log : Li
 
   -- serve
   pub keeps : (seen : ℕ) (call : ℕ × Ask) (reply : Result Answer Errno) (next : State) → out ≡ Some i
-      → serving ≡ None → x.slot ≡ slots.Empty
-      → Step store (event_of i call.0 call.1 reply) next → seen ≡ length log + 1
-      → Moved next out (log ++ event_of i call.0 call.1 reply ∷ [])
-      record x { seen = seen } (Serve call.0 call.1)
+      → serving ≡ None → x.slot ≡ slots.Empty → Step store (event_of i call.0 call.1 reply) next → seen ≡ length log + 1
+      → Moved next out (log ++ event_of i call.0 call.1 reply ∷ []) record x { seen = seen } (Serve call.0 call.1)
   keeps seen call reply next here none idle step es =
       let e : Event = event_of i call.0 call.1 reply in
       let log' : List Event = log ++ e ∷ [] in
@@ -295,16 +284,13 @@ module _ (store : State) (out : Option ℕ) (serving : Option Service) (log : Li
       let y : Lane = record x { seen = seen } in
       let q : Part = kept (part_by log serving x) log e in
       let holds : x.holding ≡ true = held_true x.holding log log (holding_is here) in
-      let part : part_by log' serving y ≡ q =
-      own_part seen x.holding e idle refl es
+      let part : part_by log' serving y ≡ q = own_part seen x.holding e idle refl es
       ∙ (λ j. record q { holding = ap (λ (b : Bool). cond b (Some log') None) holds j }) in
       let turns : turn_by next out ≡ turn_by store out = ap (turn_by next) here ∙ sym (ap (turn_by store) here) in
-      moved next out log' y (Serve call.0 call.1)
-      (λ no. absurd (let both : None ≡ Some i = sym no ∙ here in cc))
+      moved next out log' y (Serve call.0 call.1) (λ no. absurd (let both : None ≡ Some i = sym no ∙ here in cc))
       (legal_more (starting_at 3) store next log e k.legal step)
       (let b = o.base in let a = o.after in lane_is o.number (omega arith) (omega arith) (omega arith) o.holds
-      (slot_more serving log e i x.slot o.slot))
-      (λ j l not is. let u = k.each j l is in lane_more out out serving log e j l u u.holds)
+      (slot_more serving log e i x.slot o.slot)) (λ j l not is. let u = k.each j l is in lane_more e u u.holds)
       k.idle (still_served y refl) (
         holder here none,
         reply,
@@ -333,8 +319,7 @@ module _ (store : State) (out : Option ℕ) (serving : Option Service) (log : Li
       (keeps seen (moment, ask) serves.0 next here none idle serves.1 (es ∙ h.1))
 
   pub puts_at : (seen moment : ℕ) (ask : Ask) (next : State) (was log' : List Event) → out ≡ Some i
-      → serving ≡ None → x.slot ≡ slots.Empty → was ≡ log → Serves store was i moment ask next log'
-      → seen ≡ length log'
+      → serving ≡ None → x.slot ≡ slots.Empty → was ≡ log → Serves store was i moment ask next log' → seen ≡ length log'
       → Moved next None log' record x { seen = seen; holding = false } (Put (Some (moment, ask)))
   puts_at seen moment ask next was log' here none idle same serves es =
       let h = one_more moment ask next was log' same serves in
@@ -349,13 +334,11 @@ module _ (store : State) (out : Option ℕ) (serving : Option Service) (log : Li
       (dite (ℕ_discrete t.0 i)
       (λ same. let one : t.1 ≡ x = some-injective t.1 x (sym t.2 ∙ (ap (get_elem? lanes) same ∙ at)) in
       let all : x.seen ≡ length log = ap (λ (z : Lane). z.seen) (sym one) ∙ t.3 in
-      (i, y, set_at lanes i y x at, omega arith))
-      (λ away. (t.0, t.1, set_else lanes i t.0 y away ∙ t.2, t.3))))
-      (seen_whole store serving log lanes (subst (λ (o : Option ℕ). IsKept store o serving log lanes) free k))
+      (i, y, set_at lanes i y x at, omega arith)) (λ away. (t.0, t.1, set_else lanes i t.0 y away ∙ t.2, t.3))))
+      (seen_whole (subst (λ (o : Option ℕ). IsKept store o serving log lanes) free k))
 
   -- load
-  pub loads : (n : ℕ) → x.seen ≤ n → n ≤ length log
-      → Moved store out log record x { seen = n } (Load n)
+  pub loads : (n : ℕ) → x.seen ≤ n → n ≤ length log → Moved store out log record x { seen = n } (Load n)
   loads n more within =
       let y : Lane = record x { seen = n } in
       let o = k.each i x at in
@@ -363,7 +346,7 @@ module _ (store : State) (out : Option ℕ) (serving : Option Service) (log : Li
       (lane_is o.number within o.base o.after o.holds o.slot) (still_served y refl) (
         log,
         take n log,
-        kept_history store out serving log lanes k,
+        kept_history k,
         begins_further x.seen n log more,
         begins_take n log,
         length-take-le n log within,
@@ -379,7 +362,7 @@ module _ (store : State) (out : Option ℕ) (serving : Option Service) (log : Li
   pub no_load : (n : ℕ) → (n < x.seen) ⊎ (length log < n) → (p : Part) (other : World)
       → get_elem? (seats_by log serving lanes) i ≡ some p → StepsAs w i p (Load n) other → ⊥
   no_load n outside p other e steps =
-      let whole : steps.0 ≡ log = history_kept store out serving log lanes k steps.0 steps.2 in
+      let whole : steps.0 ≡ log = history_kept k steps.0 steps.2 in
       let seen : take x.seen log ≡ p.seen = ap (λ (q : Part). q.seen) (sym (seat_is p e)) in
       let size : length (take x.seen log) ≡ x.seen = length-take-le x.seen log (k.each i x at).seen in
       let same : length (take x.seen log) ≡ length p.seen = ap length seen in

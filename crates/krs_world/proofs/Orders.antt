@@ -38,8 +38,7 @@ grown_at seats lane p q at grows j r is = dite (ℕ_discrete j lane)
       q,
       ap (get_elem? (set seats lane q)) same ∙ set_at seats lane q p at,
       subst (λ (x : Part). Begins x.seen q.seen) (sym one_seat) grows,
-    ))
-    (λ away. (r, set_else seats lane j q away ∙ is, prefix_self r.seen))
+    )) (λ away. (r, set_else seats lane j q away ∙ is, prefix_self r.seen))
 
 -- what a seat has seen begins the history, and so what the holder holds
 seen_begins : (w : World) (o : IsOneHistory w) (j : ℕ) (p : Part) → get_elem? w.seats j ≡ some p
@@ -63,13 +62,11 @@ step_sees w lane p (Put None) new o at t j r is = subst (λ (z : World). Grown z
     (grown_at w.seats lane p (put_none p t.0.log) at (held_begins w o lane p t.0.log at t.0.held) j r is)
 step_sees w lane p (Put (Some call)) new o at t j r is = let h = t.0 in
     let e : Event = event_of lane call.0 call.1 t.1 in
-    subst (λ (z : World). Grown z.seats j r) (sym t.5)
-    (grown_at w.seats lane p (put_own p h.log e) at
+    subst (λ (z : World). Grown z.seats j r) (sym t.5) (grown_at w.seats lane p (put_own p h.log e) at
     (prefix_more p.seen h.log (e ∷ []) (held_begins w o lane p h.log at h.held)) j r is)
 step_sees w lane p (Serve m ask) new o at t j r is = let h = t.0 in
     let e : Event = event_of lane m ask t.1 in
-    subst (λ (z : World). Grown z.seats j r) (sym t.5)
-    (grown_at w.seats lane p (kept p h.log e) at
+    subst (λ (z : World). Grown z.seats j r) (sym t.5) (grown_at w.seats lane p (kept p h.log e) at
     (prefix_more p.seen h.log (e ∷ []) (held_begins w o lane p h.log at h.held)) j r is)
 step_sees w lane p (Load n) new o at t j r is = subst (λ (z : World). Grown z.seats j r) (sym t.6)
     (grown_at w.seats lane p (loaded p t.1) at t.3 j r is)
@@ -115,21 +112,17 @@ same_grows w new o n log h g = subst (λ (x : List Event × List Event). Begins 
 -- a step that leaves the turn, and what is held, as they were
 turn_grows : (w new : World) (lane : ℕ) (p q : Part) (o : IsOneHistory w) (n : IsOneHistory new)
     → get_elem? w.seats lane ≡ some p → q.holding ≡ p.holding → new.turn ≡ w.turn → new.seats ≡ set w.seats lane q
-    → SeenGrows w new
-    → (turn : Turn) → w.turn ≡ turn → Begins o.history.log n.history.log
+    → SeenGrows w new → (turn : Turn) → w.turn ≡ turn → Begins o.history.log n.history.log
 turn_grows w new lane p q o n at same turns seats grows (Free store) turn = free_grows w new o n grows
     (subst (λ (x : Turn). IsHistoryBy x o.history.log w.seats) turn o.whole)
 turn_grows w new lane p q o n at same turns seats grows (Out holder) turn = let log : List Event = o.history.log in
     let h : IsHistoryBy (Out holder) log w.seats = subst (λ (x : Turn). IsHistoryBy x log w.seats) turn o.whole in
-    let g : IsHistoryBy (Out holder) log (set w.seats lane q) = dite (ℕ_discrete holder lane)
-    (λ here. (
+    let g : IsHistoryBy (Out holder) log (set w.seats lane q) = dite (ℕ_discrete holder lane) (λ here. (
       q,
       ap (get_elem? (set w.seats lane q)) here ∙ set_at w.seats lane q p at,
-      same
-          ∙ (ap (λ (x : Part). x.holding) (some-injective p h.0 (sym at ∙ (ap (get_elem? w.seats) (sym here) ∙ h.1)))
+      same ∙ (ap (λ (x : Part). x.holding) (some-injective p h.0 (sym at ∙ (ap (get_elem? w.seats) (sym here) ∙ h.1)))
           ∙ h.2),
-    ))
-    (λ away. (h.0, set_else w.seats lane holder q away ∙ h.1, h.2)) in
+    )) (λ away. (h.0, set_else w.seats lane holder q away ∙ h.1, h.2)) in
     same_grows w new o n log o.whole (subst (λ (x : Turn × List Part). IsHistoryBy x.0 log x.1)
     (λ i. (sym (turns ∙ turn) i, sym seats i)) g)
 
@@ -159,7 +152,8 @@ pub log_grows : (w : World) (lane : ℕ) (p : Part) (k : Kind) (new : World) (o 
     → get_elem? w.seats lane ≡ some p → StepsAs w lane p k new → Begins o.history.log n.history.log
 log_grows w lane p Take new o n at t = same_grows w new o n t.1 t.3 (subst (λ (x : World). IsHistory x t.1) (sym t.4)
     (taken p t.1, set_at w.seats lane (taken p t.1) p at, refl))
-log_grows w lane p TakeFound new o n at t = turn_grows w new lane p (missed p) o n at refl (ap (λ (x : World). x.turn) t.3)
+log_grows w lane p TakeFound new o n at t = turn_grows w new lane p (missed p) o n at refl
+    (ap (λ (x : World). x.turn) t.3)
     (ap (λ (x : World). x.seats) t.3) (step_sees w lane p TakeFound new o at t) (Out t.0) t.1
 log_grows w lane p (Put None) new o n at t =
     put_grows w new o n lane p (put_none p t.0.log) t.0.log (Free t.0.last) at t.0.held (prefix_self t.0.log) t.1

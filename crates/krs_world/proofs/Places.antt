@@ -13,13 +13,11 @@ pub place_set : (P : Standing → Type 0) (place : ℕ) (views : List View) (id 
     → get_elem? views id ≡ some v → (P v.stands → P w.stands)
     → (x : View) × (get_elem? views place ≡ some x) × P x.stands
     → (x : View) × (get_elem? (set views id w) place ≡ some x) × P x.stands
-place_set P place views id v w at go t = dite (ℕ_discrete place id)
-    (λ same. (
-      w,
-      ap (get_elem? (set views id w)) same ∙ set_at views id w v at,
-      go (subst (λ (x : View). P x.stands) (some-injective t.0 v (sym t.1 ∙ (ap (get_elem? views) same ∙ at))) t.2),
-    ))
-    (λ not. (t.0, set_else views id place w not ∙ t.1, t.2))
+place_set P place views id v w at go t = dite (ℕ_discrete place id) (λ same. (
+  w,
+  ap (get_elem? (set views id w)) same ∙ set_at views id w v at,
+  go (subst (λ (x : View). P x.stands) (some-injective t.0 v (sym t.1 ∙ (ap (get_elem? views) same ∙ at))) t.2),
+)) (λ not. (t.0, set_else views id place w not ∙ t.1, t.2))
 
 pub seated_set : (lane place : ℕ) (views : List View) (id : ℕ) (v w : View) → get_elem? views id ≡ some v
     → (StandsFor lane v.stands → StandsFor lane w.stands) → IsSeated lane place views

@@ -40,8 +40,8 @@ unanswered None log slots.Serving not = tt
 unanswered (Some s) log slots.Serving not = tt
 unanswered serving log (slots.Answered n) not = absurd (not n refl)
 
-module _ (store : State) (out : Option ℕ) (serving : Option Service) (log : List Event) (lanes : List Lane) (i : ℕ)
-    (x : Lane) (k : IsKept store out serving log lanes) (at : get_elem? lanes i ≡ some x) where
+module _ {store : State} {out : Option ℕ} {serving : Option Service} {log : List Event} {lanes : List Lane} (i : ℕ)
+    {x : Lane} (k : IsKept store out serving log lanes) (at : get_elem? lanes i ≡ some x) where
   abbrev w : World
   w = world_of store out serving log lanes
 
@@ -62,8 +62,7 @@ module _ (store : State) (out : Option ℕ) (serving : Option Service) (log : Li
       (t.0, set_else lanes i s.lane y away ∙ t.1, t.2)
 
   abbrev pub Changed : Lane → Kind → Type 0
-  Changed y kind =
-      IsKept store out serving log (set lanes i y)
+  Changed y kind = IsKept store out serving log (set lanes i y)
       × StepsAs w i p kind (world_of store out serving log (set lanes i y))
 
   -- post
@@ -75,8 +74,7 @@ module _ (store : State) (out : Option ℕ) (serving : Option Service) (log : Li
       let calls : events_of x.lane log ≡ events_of x.lane (known_by log x.slot) =
       ap (λ (s : Slot). events_of x.lane (known_by log s)) (sym idle) in
       let part : part_by log serving y ≡ posted p m ask = λ j. record (posted p m ask) { mine = calls j } in
-      stays store out serving log lanes i x k at y (Post m ask)
-      (λ free. still store out serving log lanes i x k at x.seen y refl (omega arith) o.seen free)
+      stays i k at y (Post m ask) (λ free. still i k at x.seen y refl (omega arith) o.seen free)
       (lane_is o.number o.seen o.base o.seen o.holds tt)
       (served_else y (λ is. let no : slots.Empty ≡ slots.Serving = sym idle ∙ is in cc)) (
         cell_is slots.Empty idle,
@@ -98,8 +96,7 @@ module _ (store : State) (out : Option ℕ) (serving : Option Service) (log : Li
       (subst (Fits k.one.history.log p) cell o.fits) in
       let known : known_by log x.slot ≡ take place log = ap (known_by log) is in
       let same : event_of x.lane e.moment e.ask e.reply ≡ e = λ j. record e { lane = (number ∙ sym mine) j } in
-      ap (λ (n : ℕ). events_of n log) (sym number)
-      ∙ (fits.2 ∙ (λ j. events_of (number j) (known j) ++ same j ∷ []))
+      ap (λ (n : ℕ). events_of n log) (sym number) ∙ (fits.2 ∙ (λ j. events_of (number j) (known j) ++ same j ∷ []))
 
   -- what a lane that may collect its reply has seen
   collected_has : (place n : ℕ) (e : Event) → x.slot ≡ slots.Answered place → get_elem? log place ≡ some e
@@ -115,8 +112,7 @@ module _ (store : State) (out : Option ℕ) (serving : Option Service) (log : Li
       (events_prefix i (take (suc place) log) (take n log) (begins_further (suc place) n log (omega arith))))
 
   -- the event that an answered slot names
-  pub named : (place : ℕ) → x.slot ≡ slots.Answered place
-      → (e : Event) × (get_elem? log place ≡ some e) × (e.lane ≡ i)
+  pub named : (place : ℕ) → x.slot ≡ slots.Answered place → (e : Event) × (get_elem? log place ≡ some e) × (e.lane ≡ i)
   named place is = subst (IsSlotOf serving log i) is (k.each i x at).slot
 
   -- collect
@@ -131,8 +127,7 @@ module _ (store : State) (out : Option ℕ) (serving : Option Service) (log : Li
       let same : e ≡ own = λ j. record e { lane = t.2 j } in
       let known : events_of x.lane (known_by log x.slot) ≡ events_of i (take place log) =
       λ j. events_of (o.number j) (ap (known_by log) is j) in
-      let mine : events_of x.lane log ≡ p.mine ++ own ∷ [] =
-      ap (λ (m : ℕ). events_of m log) o.number
+      let mine : events_of x.lane log ≡ p.mine ++ own ∷ [] = ap (λ (m : ℕ). events_of m log) o.number
       ∙ (answered_fits place e is t.1 t.2 ∙ (λ j. sym known j ++ same j ∷ [])) in
       let part : part_by log serving y ≡ collected p (take n log) own =
       λ j. record (collected p (take n log) own) { mine = mine j } in
@@ -143,14 +138,13 @@ module _ (store : State) (out : Option ℕ) (serving : Option Service) (log : Li
         log = log;
         seen = take n log;
         cell = cell_is (slots.Answered place) is ∙ ap (λ (c : Cell). some c) (ap answered_cell t.1);
-        history = kept_history store out serving log lanes k;
+        history = kept_history k;
         more = begins_further x.seen n log more;
         begins = begins_take n log;
         size = length-take-le n log within;
         has = collected_has place n e is t.1 t.2 lt ∙ (λ j. sym known j ++ same j ∷ []);
       } in
-      stays store out serving log lanes i x k at y (Collect n)
-      (λ free. still store out serving log lanes i x k at n y refl more within free)
+      stays i k at y (Collect n) (λ free. still i k at n y refl more within free)
       (lane_is o.number within o.base o.after o.holds tt)
       (served_else y (λ no. let never : slots.Answered place ≡ slots.Serving = sym is ∙ no in cc))
       (ready, recells store out serving log lanes i y (collected p (take n log) own) cells.Empty part refl)
@@ -181,8 +175,8 @@ module _ (store : State) (out : Option ℕ) (serving : Option Service) (log : Li
       → get_elem? w.seats i ≡ some q → StepsAs w i q (Collect n) other → ⊥
   no_collect place n is outside q other e steps =
       let h = steps.0 in
-      let whole : h.log ≡ log = history_kept store out serving log lanes k h.log h.history in
-      let part : q ≡ p = seat_is store out serving log lanes i x k at q e in
+      let whole : h.log ≡ log = history_kept k h.log h.history in
+      let part : q ≡ p = seat_is i k at q e in
       let seen : length q.seen ≡ x.seen = ap (λ (z : Part). length z.seen) part
       ∙ length-take-le x.seen log (k.each i x at).seen in
       let below : length q.seen ≤ length h.seen = begins_short q.seen h.seen h.more in

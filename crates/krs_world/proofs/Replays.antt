@@ -39,8 +39,7 @@ only_reply old a b e f lane moment ask first second memory other =
     reply_is (raised old e.moment) a e.lane e.ask.context e.ask.op e.reply first (λ is takes. memory (is, takes)) in
     let that : f.reply ≡ replied (meant f.lane f.moment f.ask) =
     reply_is (raised old f.moment) b f.lane f.ask.context f.ask.op f.reply second (λ is _. other is) in
-    let same : meant e.lane e.moment e.ask ≡ meant f.lane f.moment f.ask =
-    ap (λ (n : ℕ). meant n e.moment e.ask) lane
+    let same : meant e.lane e.moment e.ask ≡ meant f.lane f.moment f.ask = ap (λ (n : ℕ). meant n e.moment e.ask) lane
     ∙ (ap (λ (n : ℕ). meant f.lane n e.ask) moment ∙ ap (λ (x : Ask). meant f.lane f.moment x) ask) in
     this ∙ (ap replied same ∙ sym that)
 

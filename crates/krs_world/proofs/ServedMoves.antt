@@ -77,8 +77,8 @@ apart_else serving call log j s serves not is e = let t : (v : Service) × (serv
     let both : Some call ≡ Some t.0 = sym serves ∙ t.1 in let same : call ≡ t.0 = cc in
     not (ap (λ (v : Service). v.lane) same ∙ t.2)
 
-module _ (store : State) (out : Option ℕ) (serving : Option Service) (log : List Event) (lanes : List Lane) (i : ℕ)
-    (x : Lane) (k : IsKept store out serving log lanes) (at : get_elem? lanes i ≡ some x) where
+module _ {store : State} {out : Option ℕ} {serving : Option Service} {log : List Event} {lanes : List Lane} (i : ℕ)
+    {x : Lane} (k : IsKept store out serving log lanes) (at : get_elem? lanes i ≡ some x) where
   abbrev w : World
   w = world_of store out serving log lanes
 
@@ -87,28 +87,24 @@ module _ (store : State) (out : Option ℕ) (serving : Option Service) (log : Li
 
   -- the holder's lane holds the list
   pub holds_true : out ≡ Some i → x.holding ≡ true
-  holds_true here = held_true x.holding log log (holding_is store out serving log lanes i x k at here)
+  holds_true here = held_true x.holding log log (holding_is i k at here)
 
   -- the holder looks at a cell that isn't posted
   pub looks : (other : ℕ) (z : Lane) (v : Vec ℕ Global) (d : Bool) → out ≡ Some i → get_elem? lanes other ≡ some z
       → ((m : ℕ) (ask : Ask) → z.slot ≡ slots.Posted m ask → ⊥) → v.items ≡ x.checked.items ++ other ∷ []
       → d ≡ cond (cond (other == i) (has_reply z.slot) false) true x.done
-      → IsKept store out serving log (set lanes i (record x { checked = v; done = d }))
-      × StepsAs w i p (LookAt other)
+      → IsKept store out serving log (set lanes i (record x { checked = v; done = d })) × StepsAs w i p (LookAt other)
       (world_of store out serving log (set lanes i (record x { checked = v; done = d })))
   looks other z v d here there not ev ed =
       let y : Lane = record x { checked = v; done = d } in
       let o = k.each i x at in
       let fin : Bool = cond (other == i) (is_answered (lane_cell log serving z)) false in
-      let finished : d ≡ cond fin true x.done = ed
-      ∙ ap (λ (b : Bool). cond (cond (other == i) b false) true x.done)
+      let finished : d ≡ cond fin true x.done = ed ∙ ap (λ (b : Bool). cond (cond (other == i) b false) true x.done)
       (slot_replies serving log other z.slot (k.each other z there).slot) in
       let part : part_by log serving y ≡ looked_at p other fin =
       λ j. record (looked_at p other fin) { checked = ev j; done = finished j } in
-      stays store out serving log lanes i x k at y (LookAt other)
-      (λ no. absurd (let both : None ≡ Some i = sym no ∙ here in cc))
-      (lane_is o.number o.seen o.base o.after o.holds o.slot) (still_served store out serving log lanes i x k at y
-      refl) (
+      stays i k at y (LookAt other) (λ no. absurd (let both : None ≡ Some i = sym no ∙ here in cc))
+      (lane_is o.number o.seen o.base o.after o.holds o.slot) (still_served i k at y refl) (
         lane_cell log serving z,
         ap (turn_by store) here,
         get_map (lane_cell log serving) lanes other z there,
@@ -145,7 +141,7 @@ module _ (store : State) (out : Option ℕ) (serving : Option Service) (log : Li
               flight = flying (take v.after log) m;
             } in
             part ∙ ap (λ (l : Lane). record (part_by log serving l) { serving = serves }) one),
-        (λ not. let quiet : v.holding ≡ false = unheld store out serving log lanes i x k at j v was not here in
+        (λ not. let quiet : v.holding ≡ false = unheld i k at j v was not here in
             let held : cond v.holding serves None ≡ cond v.holding serving None =
             ap (λ (b : Bool). cond b serves None) quiet ∙ sym (ap (λ (b : Bool). cond b serving None) quiet) in
             λ m. record (part_by log serving v) {
@@ -185,27 +181,20 @@ module _ (store : State) (out : Option ℕ) (serving : Option Service) (log : Li
       (λ l. ap (flight_by l) (cell_apart serving serves log v.slot (not_served j v was))) in
       let seats : map (part_by log serves) lanes' ≡ set (seats_by log serving lanes) i q =
       map_else (part_by log serving) (part_by log serves) lanes lanes' i q (length-set lanes other y)
-      (λ j l v at' was. ⊎_elim
-      (λ (t : (j ≡ other) × (y ≡ l)). let h = here_part j v was t.0 in
+      (λ j l v at' was. ⊎_elim (λ (t : (j ≡ other) × (y ≡ l)). let h = here_part j v was t.0 in
       let new : part_by log serves l ≡ part_by log serves y = ap (part_by log serves) (sym t.1) in
-      ((λ e. new ∙ h.0 e), (λ e. new ∙ h.1 e)))
-      (λ (t : (j ≢ other) × (v ≡ l)). let h = else_part j v was in
+      ((λ e. new ∙ h.0 e), (λ e. new ∙ h.1 e))) (λ (t : (j ≢ other) × (v ≡ l)). let h = else_part j v was in
       let new : part_by log serves l ≡ part_by log serves v = ap (part_by log serves) (sym t.1) in
-      ((λ e. new ∙ h.0 e), (λ e. new ∙ h.1 e)))
-      (at_either other y j l v at' was)) in
+      ((λ e. new ∙ h.0 e), (λ e. new ∙ h.1 e))) (at_either other y j l v at' was)) in
       let cs : map (lane_cell log serves) lanes' ≡ set (cells_by log serving lanes) other (cells.Serving m ask) =
       map_else (lane_cell log serving) (lane_cell log serves) lanes lanes' other (cells.Serving m ask)
-      (length-set lanes other y)
-      (λ j l v at' was. ⊎_elim
-      (λ (t : (j ≡ other) × (y ≡ l)). (
+      (length-set lanes other y) (λ j l v at' was. ⊎_elim (λ (t : (j ≡ other) × (y ≡ l)). (
         (λ e. ap (lane_cell log serves) (sym t.1)),
         (λ e. absurd (e t.0)),
-      ))
-      (λ (t : (j ≢ other) × (v ≡ l)). (
+      )) (λ (t : (j ≢ other) × (v ≡ l)). (
         (λ e. absurd (t.0 e)),
         (λ e. ap (lane_cell log serves) (sym t.1) ∙ cell_apart serving serves log v.slot (not_served j v was)),
-      ))
-      (at_either other y j l v at' was)) in
+      )) (at_either other y j l v at' was)) in
       let new : world_of store out serves log lanes' ≡ recelled (reseated w i q) other (cells.Serving m ask) =
       λ j. record {
         opening = starting_at 3;
@@ -216,15 +205,13 @@ module _ (store : State) (out : Option ℕ) (serving : Option Service) (log : Li
       let cell : get_elem? w.cells other ≡ some (cells.Posted m ask) =
       get_map (lane_cell log serving) lanes other z there ∙ ap (λ (s : Slot). some (cell_by log serving s)) is in
       let steps : StepsAs w i p (Grab other) (world_of store out serves log lanes') =
-      (holder store out serving log lanes i x k at here none, m, ask, cell, new) in (
-        after store out serving log lanes i x k at store out serves log lanes' (Grab other) steps
+      (holder i k at here none, m, ask, cell, new) in (
+        after i k at store out serves log lanes' (Grab other) steps
             (λ no. absurd (let both : None ≡ Some i = sym no ∙ here in cc)) k.legal
             (each_at (IsLane out serves log) lanes other y
-            (lane_is o.number o.seen o.base o.after o.holds (call, refl, refl))
-            (λ j l apart e. let u = k.each j l e in
+            (lane_is o.number o.seen o.base o.after o.holds (call, refl, refl)) (λ j l apart e. let u = k.each j l e in
             lane_is u.number u.seen u.base u.after u.holds (slot_apart serving serves log j l.slot (not_served j l e)
-            u.slot)))
-            (λ no. absurd (let both : None ≡ Some i = sym no ∙ here in cc))
+            u.slot))) (λ no. absurd (let both : None ≡ Some i = sym no ∙ here in cc))
             (λ s e. let same : call ≡ s = cc in
             subst (λ (v : Service). (l : Lane) × (get_elem? lanes' v.lane ≡ some l) × (l.slot ≡ slots.Serving)) same
             (y, set_at lanes other y z there, refl)),
@@ -244,8 +231,7 @@ module _ (store : State) (out : Option ℕ) (serving : Option Service) (log : Li
       (grabs other z m ask here none there is)
 
   pub no_grab : (other : ℕ) → ((z : Lane) (m : ℕ) (ask : Ask) → get_elem? lanes other ≡ some z
-      → z.slot ≡ slots.Posted m ask → ⊥) → (q : Part) (new : World)
-      → StepsAs w i q (Grab other) new → ⊥
+      → z.slot ≡ slots.Posted m ask → ⊥) → (q : Part) (new : World) → StepsAs w i q (Grab other) new → ⊥
   no_grab other not q new steps = let c = of_map (lane_cell log serving) lanes other
       (cells.Posted steps.1 steps.2) steps.3 in
       not c.0 steps.1 steps.2 c.1 (slot_posted serving log c.0.slot steps.1 steps.2 c.2)
@@ -267,10 +253,8 @@ module _ (store : State) (out : Option ℕ) (serving : Option Service) (log : Li
       let o = k.each i x at in
       let part : part_by log serving y ≡ p = λ j. record p { checked = ev j } in
       let same : world_of store out serving log (set lanes i y) ≡ w =
-      reseats store out out serving log lanes i x y p at refl part
-      ∙ (λ j. record w {
-        seats = set_same (seats_by log serving lanes) i p
-            (get_map (part_by log serving) lanes i x at) j;
+      reseats store out out serving log lanes i x y p at refl part ∙ (λ j. record w {
+        seats = set_same (seats_by log serving lanes) i p (get_map (part_by log serving) lanes i x at) j;
       }) in
       let b : (z : IsOneHistory (world_of store out serving log (set lanes i y))) × (z.history.log ≡ log) =
       subst (λ (v : World). (z : IsOneHistory v) × (z.history.log ≡ log)) (sym same) (k.one, k.whole) in (
@@ -281,7 +265,7 @@ module _ (store : State) (out : Option ℕ) (serving : Option Service) (log : Li
           each = each_at (IsLane out serving log) lanes i y (lane_is o.number o.seen o.base o.after o.holds o.slot)
               (λ j l apart e. k.each j l e);
           idle = k.idle;
-          served = still_served store out serving log lanes i x k at y refl;
+          served = still_served i k at y refl;
         },
         same,
       )

@@ -37,13 +37,11 @@ pub cell_more : (serving : Option Service) (log : List Event) (e : Event) (j : �
 cell_more serving log e j slots.Empty is = refl
 cell_more serving log e j (slots.Posted m ask) is = refl
 cell_more serving log e j slots.Serving is = refl
-cell_more serving log e j (slots.Answered n) is =
-    ap answered_cell (snoc_at log n e is.0 is.1 ∙ sym is.1)
+cell_more serving log e j (slots.Answered n) is = ap answered_cell (snoc_at log n e is.0 is.1 ∙ sym is.1)
 
 -- the calls of another lane that its seat knows of
 pub known_more : (serving : Option Service) (log : List Event) (e : Event) (j : ℕ) (s : Slot)
-    → IsSlotOf serving log j s → e.lane ≢ j
-    → events_of j (known_by (log ++ e ∷ []) s) ≡ events_of j (known_by log s)
+    → IsSlotOf serving log j s → e.lane ≢ j → events_of j (known_by (log ++ e ∷ []) s) ≡ events_of j (known_by log s)
 known_more serving log e j slots.Empty is other = other_event j log e other
 known_more serving log e j (slots.Posted m ask) is other = other_event j log e other
 known_more serving log e j slots.Serving is other = other_event j log e other
@@ -67,7 +65,8 @@ slot_empty serving log j (slots.Posted m ask) is e = absurd (cc)
 slot_empty serving log j slots.Serving is e =
     absurd (let no : cells.Serving is.0.moment is.0.ask ≡ cells.Empty = ap served_cell (sym is.1) ∙ e in cc)
 slot_empty serving log j (slots.Answered n) is e =
-    absurd (let no : cells.Answered is.0.moment is.0.ask is.0.reply ≡ cells.Empty = ap answered_cell (sym is.1) ∙ e in cc)
+    absurd (let no : cells.Answered is.0.moment is.0.ask is.0.reply ≡ cells.Empty = ap answered_cell (sym is.1)
+    ∙ e in cc)
 
 served_not : (serving : Option Service) (m : ℕ) (ask : Ask) → served_cell serving ≡ cells.Posted m ask → ⊥
 served_not None m ask e = absurd (let no : cells.Empty ≡ cells.Posted m ask = e in cc)
@@ -88,8 +87,7 @@ slot_posted serving log (slots.Answered n) m ask e = absurd (answered_not (get_e
 served_no_reply : (serving : Option Service) (m : ℕ) (ask : Ask) (r : Result Answer Errno)
     → served_cell serving ≡ cells.Answered m ask r → ⊥
 served_no_reply None m ask r e = absurd (let no : cells.Empty ≡ cells.Answered m ask r = e in cc)
-served_no_reply (Some s) m ask r e =
-    absurd (let no : cells.Serving s.moment s.ask ≡ cells.Answered m ask r = e in cc)
+served_no_reply (Some s) m ask r e = absurd (let no : cells.Serving s.moment s.ask ≡ cells.Answered m ask r = e in cc)
 
 pub slot_answered : (serving : Option Service) (log : List Event) (s : Slot) (m : ℕ) (ask : Ask)
     (r : Result Answer Errno) → cell_by log serving s ≡ cells.Answered m ask r → (n : ℕ) × (s ≡ slots.Answered n)

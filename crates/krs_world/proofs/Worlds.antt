@@ -59,17 +59,14 @@ module _ (a : State) (cell : ℕ → Cell) (seats : List Part) where
   -- the longest list that is seen is the history, where the turn is free
   longest_is : (home : Option State) (o : OneHistory a 0 home cell views) (log : List Event) → IsLongest log seats
       → log ≡ o.log
-  longest_is home o log l = prefix_both log o.log
-      (⊎_elim (λ (e : log ≡ []). prefix_none log o.log e)
+  longest_is home o log l = prefix_both log o.log (⊎_elim (λ (e : log ≡ []). prefix_none log o.log e)
       (λ (t : (j : ℕ) × (p : Part) × (get_elem? seats j ≡ some p) × (p.seen ≡ log)). let k =
       o.each t.0 (one a t.1) (get_map (one a) seats t.0 t.1 t.2) in
-      subst (λ (x : List Event). Begins x o.log) t.3 k.seen) l.0)
-      (⊎_elim (λ (e : o.log ≡ []). prefix_none o.log log e)
+      subst (λ (x : List Event). Begins x o.log) t.3 k.seen) l.0) (⊎_elim (λ (e : o.log ≡ []). prefix_none o.log log e)
       (λ (t : (j : ℕ) × (v : View) × (get_elem? views j ≡ some v) × HasSeen o.log v.stands). let m =
       of_map (one a) seats t.0 t.1 t.2 in
       let s : m.0.seen ≡ o.log = subst (λ (v : View). HasSeen o.log v.stands) (sym m.2) t.3 in
-      subst (λ (x : List Event). Begins x log) s (l.1 t.0 m.0 m.1))
-      (o.longest (λ e. omega arith)))
+      subst (λ (x : List Event). Begins x log) s (l.1 t.0 m.0 m.1)) (o.longest (λ e. omega arith)))
 
   pub history_is : (turn : Turn) (o : OneHistory a (turn_word turn) (at_home turn) cell views) (log : List Event)
       → IsHistoryBy turn log seats → log ≡ o.log
@@ -112,16 +109,13 @@ lanes_stay seats lane p q at same were j r e = ⊎_elim (λ (t : (j ≡ lane) ×
 out_stays : (turn : Turn) (seats : List Part) (lane : ℕ) (p q : Part) → get_elem? seats lane ≡ some p
     → q.holding ≡ p.holding → IsOutAt turn seats → IsOutAt turn (set seats lane q)
 out_stays (Free store) seats lane p q at same t = tt
-out_stays (Out holder) seats lane p q at same t = dite (ℕ_discrete holder lane)
-    (λ here. (
-      q,
-      t.1,
-      ap (get_elem? (set seats lane q)) here ∙ set_at seats lane q p at,
-      same
-          ∙ (ap (λ (x : Part). x.holding) (some-injective p t.0 (sym at ∙ (ap (get_elem? seats) (sym here) ∙ t.2)))
-          ∙ t.3),
-    ))
-    (λ away. (t.0, t.1, set_else seats lane holder q away ∙ t.2, t.3))
+out_stays (Out holder) seats lane p q at same t = dite (ℕ_discrete holder lane) (λ here. (
+  q,
+  t.1,
+  ap (get_elem? (set seats lane q)) here ∙ set_at seats lane q p at,
+  same ∙ (ap (λ (x : Part). x.holding) (some-injective p t.0 (sym at ∙ (ap (get_elem? seats) (sym here) ∙ t.2)))
+      ∙ t.3),
+)) (λ away. (t.0, t.1, set_else seats lane holder q away ∙ t.2, t.3))
 
 -- Cells.
 
@@ -174,14 +168,12 @@ one_more : (w : World) (o : IsOneHistory w) (lane : ℕ) (p q : Part) (l : ℕ) 
     → get_elem? w.seats lane ≡ some p → get_elem? w.cells l ≡ some old → q.lane ≡ p.lane
     → IsOutAt w.turn (set w.seats lane q)
     → OneHistory w.opening (turn_word w.turn) (at_home w.turn) (celled (cell_of w.cells) l c)
-    (set (views_of w) lane (one w.opening q))
-    → IsOneHistory (recelled (reseated w lane q) l c)
+    (set (views_of w) lane (one w.opening q)) → IsOneHistory (recelled (reseated w lane q) l c)
 one_more w o lane p q l c old at is same out history = let a = w.opening in
     one_now (recelled (reseated w lane q) l c)
     (reads a (cell_of (set w.cells l c)) w.seats (turn_word w.turn) (at_home w.turn) lane q
     (subst (λ (f : ℕ → Cell). OneHistory a (turn_word w.turn) (at_home w.turn) f (set (views_of w) lane (one a q)))
-    (cells_set w.cells l c old is) history))
-    out (lanes_stay w.seats lane p q at same o.lanes)
+    (cells_set w.cells l c old is) history)) out (lanes_stay w.seats lane p q at same o.lanes)
 
 -- a cell with a reply
 has_reply : (c : Cell) → is_answered c ≡ true
@@ -210,7 +202,8 @@ served_at w o lane p call log at held serves = let a = w.opening in
     let k = o.history.each lane (one a p) (get_map (one a) w.seats lane p at) in
     let is : cell_of w.cells call.lane ≡ cells.Serving call.moment call.ask =
     o.history.served call (sym (k.holding log held).same_service ∙ serves) in
-    at_cell w.cells call.lane (λ empty. let no : cells.Empty ≡ cells.Serving call.moment call.ask = sym empty ∙ is in cc)
+    at_cell w.cells call.lane (λ empty. let no : cells.Empty ≡ cells.Serving call.moment call.ask = sym empty
+    ∙ is in cc)
     ∙ ap (λ (c : Cell). some c) is
 
 pub step_as : (w : World) (lane : ℕ) (p : Part) (k : Kind) (new : World) → IsOneHistory w
@@ -223,26 +216,25 @@ step_as w lane p Take new o at t = let a = w.opening in let cell = cell_of w.cel
     let q : Part = taken p t.1 in
     subst IsOneHistory (sym t.4) (one_now (record (reseated w lane q) { turn = Out lane })
     (reads a cell w.seats 1 None lane q (subst (λ (l : List Event). OneHistory a 1 None cell
-    (set (views_of w) lane (one a (taken p l)))) (sym is)
-    (law.takes a (views_of w) lane p (seat_of a cell w.seats lane p at) (Some store) cell h
+    (set (views_of w) lane (one a (taken p l)))) (sym is) (law.takes lane (seat_of a cell w.seats lane p at) h
     (none_held a cell w.seats (Some store) h lane p at p.holding refl))))
     (q, t.1, set_at w.seats lane q p at, refl) (lanes_stay w.seats lane p q at refl o.lanes))
 step_as w lane p TakeFound new o at t = let a = w.opening in let cell = cell_of w.cells in let q : Part = missed p in
     subst IsOneHistory (sym t.3) (one_now (reseated w lane q)
-    (reads a cell w.seats (turn_word w.turn) (at_home w.turn) lane q (law.misses a (views_of w) lane p
-    (seat_of a cell w.seats lane p at) (turn_word w.turn) (at_home w.turn) cell o.history))
+    (reads a cell w.seats (turn_word w.turn) (at_home w.turn) lane q
+    (law.misses lane (seat_of a cell w.seats lane p at) o.history))
     (out_stays w.turn w.seats lane p q at refl (out_at w.turn w.seats o.history.log o.whole))
     (lanes_stay w.seats lane p q at refl o.lanes))
 step_as w lane p (Put None) new o at t = let a = w.opening in let cell = cell_of w.cells in
     let q : Part = put_none p t.0.log in
-    let r = law.puts_none a (views_of w) lane p (seat_of a cell w.seats lane p at) (turn_word w.turn)
-    (at_home w.turn) cell t.0.log t.0.last o.history t.0.held t.0.unserving t.0.legal in
+    let r = law.puts_none lane (seat_of a cell w.seats lane p at) t.0.log t.0.last o.history t.0.held t.0.unserving
+    t.0.legal in
     subst IsOneHistory (sym t.1) (one_now (record (reseated w lane q) { turn = Free t.0.last })
     (reads a cell w.seats 0 (Some t.0.last) lane q r.1) tt (lanes_stay w.seats lane p q at refl o.lanes))
 step_as w lane p (Put (Some call)) new o at t = let a = w.opening in let cell = cell_of w.cells in let h = t.0 in
     let e : Event = event_of lane call.0 call.1 t.1 in let q : Part = put_own p h.log e in
-    let r = law.puts a (views_of w) lane p (seat_of a cell w.seats lane p at) (turn_word w.turn)
-    (at_home w.turn) cell h.log e h.last t.2 o.history h.held h.unserving t.3 h.legal t.4 (sym (o.lanes lane p at)) in
+    let r = law.puts lane (seat_of a cell w.seats lane p at) h.log e h.last t.2 o.history h.held h.unserving t.3 h.legal
+    t.4 (sym (o.lanes lane p at)) in
     subst IsOneHistory (sym t.5) (one_now (record (reseated w lane q) { turn = Free t.2 })
     (reads a cell w.seats 0 (Some t.2) lane q r.1) tt (lanes_stay w.seats lane p q at refl o.lanes))
 step_as w lane p (Serve m ask) new o at t = let a = w.opening in let cell = cell_of w.cells in let h = t.0 in
@@ -251,14 +243,14 @@ step_as w lane p (Serve m ask) new o at t = let a = w.opening in let cell = cell
     (q, h.log ++ e ∷ [], set_at w.seats lane q p at, refl) in
     subst IsOneHistory (sym t.5) (one_now (reseated w lane q)
     (reads a cell w.seats (turn_word w.turn) (at_home w.turn) lane q
-    (law.keeps a (views_of w) lane p (seat_of a cell w.seats lane p at) (turn_word w.turn) (at_home w.turn) cell h.log e
+    (law.keeps lane (seat_of a cell w.seats lane p at) h.log e
     h.last t.2 o.history h.held h.unserving t.3 h.legal t.4 (sym (o.lanes lane p at))))
     out (lanes_stay w.seats lane p q at refl o.lanes))
 step_as w lane p (Load n) new o at t = let a = w.opening in let cell = cell_of w.cells in let q : Part = loaded p t.1 in
     let is : t.0 ≡ o.history.log = history_is a cell w.seats w.turn o.history t.0 t.2 in
     subst IsOneHistory (sym t.6) (one_now (reseated w lane q)
-    (reads a cell w.seats (turn_word w.turn) (at_home w.turn) lane q (law.loads a (views_of w) lane p
-    (seat_of a cell w.seats lane p at) (turn_word w.turn) (at_home w.turn) cell t.1 o.history t.3
+    (reads a cell w.seats (turn_word w.turn) (at_home w.turn) lane q
+    (law.loads lane (seat_of a cell w.seats lane p at) t.1 o.history t.3
     (subst (Begins t.1) is t.4)))
     (out_stays w.turn w.seats lane p q at refl (out_at w.turn w.seats o.history.log o.whole))
     (lanes_stay w.seats lane p q at refl o.lanes))
@@ -271,22 +263,20 @@ step_as w lane p (Post m ask) new o at t = let a = w.opening in let cell = cell_
     subst IsOneHistory (sym t.1) (one_more w o lane p q lane (cells.Posted m ask) cells.Empty at t.0 refl
     (out_stays w.turn w.seats lane p q at refl (out_at w.turn w.seats o.history.log o.whole))
     (subst (λ (l : ℕ). OneHistory a (turn_word w.turn) (at_home w.turn) (celled cell l (cells.Posted m ask))
-    (set (views_of w) lane (one a q))) number
-    (posting.posts a (views_of w) lane p is_at (turn_word w.turn) (at_home w.turn) cell o.history m ask fits.0)))
+    (set (views_of w) lane (one a q))) number (posting.posts lane is_at o.history m ask fits.0)))
 step_as w lane p (Grab other) new o at t = let a = w.opening in let cell = cell_of w.cells in let h = t.0 in
     let q : Part = grabbed p other t.1 t.2 in
     let is : cell other ≡ cells.Posted t.1 t.2 = cell_at w.cells other (cells.Posted t.1 t.2) t.3 in
     subst IsOneHistory (sym t.4) (one_more w o lane p q other (cells.Serving t.1 t.2) (cells.Posted t.1 t.2) at t.3 refl
     (out_stays w.turn w.seats lane p q at refl (out_at w.turn w.seats o.history.log o.whole))
-    (serving.grabs a (views_of w) lane p (seat_of a cell w.seats lane p at) (turn_word w.turn) (at_home w.turn) cell
-    h.log other t.1 t.2 o.history h.held h.unserving is))
+    (serving.grabs lane (seat_of a cell w.seats lane p at) h.log other t.1 t.2 o.history h.held h.unserving is))
 step_as w lane p Answer new o at t = let a = w.opening in let cell = cell_of w.cells in let h = t.0 in
     let call : Service = h.call in let e : Event = event_by call t.1 in let q : Part = answered p h.log e in
     let out : IsOutAt w.turn (set w.seats lane q) = subst (λ (x : Turn). IsOutAt x (set w.seats lane q)) (sym h.out)
     (q, h.log ++ e ∷ [], set_at w.seats lane q p at, refl) in
     subst IsOneHistory (sym t.4) (one_more w o lane p q call.lane (cells.Answered call.moment call.ask t.1)
     (cells.Serving call.moment call.ask) at (served_at w o lane p call h.log at h.held h.serving) refl out
-    (serving.answers a (views_of w) lane p (seat_of a cell w.seats lane p at) (turn_word w.turn) (at_home w.turn) cell
+    (serving.answers lane (seat_of a cell w.seats lane p at)
     h.log call.lane call.moment call.ask t.1 h.last t.2 o.history h.held h.serving h.legal t.3))
 step_as w lane p (Collect n) new o at t = let a = w.opening in let cell = cell_of w.cells in let h = t.0 in
     let number = o.lanes lane p at in let is_at = seat_of a cell w.seats lane p at in
@@ -298,19 +288,17 @@ step_as w lane p (Collect n) new o at t = let a = w.opening in let cell = cell_o
     subst (λ (l : ℕ). Begins (p.mine ++ e l ∷ []) (events_of l h.seen)) (sym number)
     (subst (Begins (p.mine ++ e lane ∷ [])) (sym h.has) (prefix_self (p.mine ++ e lane ∷ []))) in
     subst IsOneHistory (sym t.1) (one_more w o lane p q lane cells.Empty (cells.Answered h.moment h.ask h.reply) at
-    h.cell refl
-    (out_stays w.turn w.seats lane p q at refl (out_at w.turn w.seats o.history.log o.whole))
+    h.cell refl (out_stays w.turn w.seats lane p q at refl (out_at w.turn w.seats o.history.log o.whole))
     (subst (λ (l : ℕ). OneHistory a (turn_word w.turn) (at_home w.turn) (celled cell l cells.Empty)
     (set (views_of w) lane (one a (collected p h.seen (e l))))) number
-    (posting.collects a (views_of w) lane p is_at (turn_word w.turn) (at_home w.turn) cell o.history h.moment h.ask
+    (posting.collects lane is_at o.history h.moment h.ask
     h.reply h.seen is h.more (subst (Begins h.seen) same h.begins) has)))
 step_as w lane p CollectFound new o at t = subst IsOneHistory (sym t.1) o
 step_as w lane p (LookAt other) new o at t = let a = w.opening in let cell = cell_of w.cells in
     let done : Bool = cond (other == lane) (is_answered t.0) false in let q : Part = looked_at p other done in
     subst IsOneHistory (sym t.4) (one_now (reseated w lane q)
     (reads a cell w.seats (turn_word w.turn) (at_home w.turn) lane q
-    (serving.looks_at a (views_of w) lane p (seat_of a cell w.seats lane p at) (turn_word w.turn) (at_home w.turn) cell
-    other done o.history
+    (serving.looks_at lane (seat_of a cell w.seats lane p at) other done o.history
     (λ yes. finished w.cells lane other p.lane t.0 (o.lanes lane p at) t.2 yes)))
     (out_stays w.turn w.seats lane p q at refl (out_at w.turn w.seats o.history.log o.whole))
     (lanes_stay w.seats lane p q at refl o.lanes))

@@ -1,14 +1,12 @@
 -- One history: what holds, between any two steps, of the turn, the store, the cells and what all seats know.
+-- The claim is `Linearizes`; below it stands what each step keeps, from which the claim follows.
 -- After Herlihy and Wing, "Linearizability: A Correctness Condition for Concurrent Objects" (1990). An `Event` here is
 -- one of their operations whole: an invocation (lane, moment, ask) with its response (reply). A lane is a process; a
 -- call in flight is pending. `log` is their legal sequential history; `events_of` is a process subhistory of it. Their
 -- real-time order isn't a part of it, and follows from it at two moments (specs/Between.antt): with it, what holds here
 -- between any two steps is their linearizability. The form is this project's own.
---
--- The turn: 0 free, 1 out, 2 while the seats are dealt. A seat is a place j in `views` and stands for lanes; `seat`
--- tells which place a lane has, `dealt` how many lanes have one, `holder` the place that has the turn, `serving` the
--- posted call that it serves. `Begins a b`: b is a and then some list. `IsLegal a log s`: log leads from a to s, step
--- by step.
+-- A seat is a place in `views`, and stands for lanes. `Begins a b`: b is a and then some list. `IsLegal a log s`: log
+-- leads from a to s, step by step.
 use Rattle.std.specs.Prelude.{[], ◌++◌, ◌<◌, ◌==◌, ◌∷◌, ◌≡◌, ◌≢◌, ◌≤◌, ◌⊎◌, false, filter, List, None, Option, Some, ℕ}
 use lib.ListN.{get_elem?}
 use mathlib.Core.Option.{some}
@@ -53,15 +51,45 @@ Fits log p (Answered m a r) =
     (f : List Event) × (p.flight ≡ Some (flight m a f))
     × (events_of p.lane log ≡ p.mine ++ event_of p.lane m a r ∷ []) × StandsAfter f (event_of p.lane m a r) log
 
--- what all seats share: the history, the turn, and who stands where (the fields are those of `OneHistory`)
+-- the seat stands for a lane that knows p
+abbrev pub Sits : Part → Standing → Type 0
+Sits p Spent = ⊥
+Sits p (One q) = q ≡ p
+Sits p (Two q r) = (q ≡ p) ⊎ (r ≡ p)
+Sits p (Opening n) = ⊥
+
+-- a lane has a seat, which knows this of it
+abbrev pub IsSeatedIn : List View → Part → Type 0
+IsSeatedIn views p = (j : ℕ) × (v : View) × (get_elem? views j ≡ some v) × Sits p v.stands
+
+-- The claim, at each moment between two steps: `log` is a linearization of all that was asked. Herlihy and Wing, 2.2.
+pub record Linearizes
+    (opening : State) (home : Option State) (cell : ℕ → Cell) (views : List View) (log : List Event) (last : State)
+    : Type 0 where
+  pub legal : IsLegal opening log last  -- it is one of the sequential store
+  pub ends : (store : State) → home ≡ Some store → store ≡ last  -- a store at home is as it leaves it
+  -- it begins with all that a lane has seen, and has the lane's operations once, in their order
+  pub lanes : (p : Part) → IsSeatedIn views p → Begins p.seen log × Fits log p (cell p.lane)
+  -- and no others
+  pub others : (lane : ℕ) → ((p : Part) → IsSeatedIn views p → p.lane ≢ lane) → events_of lane log ≡ []
+
+-- What each step keeps.
+
+-- the history, and who stands where
+pub record Witness : Type 0 where
+  pub log : List Event  -- the history
+  pub last : State  -- the state that it ends in
+  pub holder : ℕ  -- the seat that has the turn where it is out, or that deals the seats
+  pub dealt : ℕ  -- how many lanes have a seat
+  pub seat : ℕ → ℕ  -- which seat stands for a lane
+  pub serving : Option Service  -- the posted call that is being served, if any
+
+-- what all seats share: that, the cells, and the turn, which is 0 where it is free, 1 out, 2 while the seats are dealt
 pub record Shared : Type 0 where
-  pub log : List Event
+  pub witness : Witness
+  pub open witness use *
   pub turn : ℕ
-  pub holder : ℕ
-  pub dealt : ℕ
-  pub seat : ℕ → ℕ
   pub cell : ℕ → Cell
-  pub serving : Option Service
 
 -- what is so of a seat j that holds a list: the turn is out, and out here; the list is the whole history
 pub record Holds (s : Shared) (j : ℕ) (p : Part) (l : List Event) : Type 0 where
@@ -127,40 +155,55 @@ IsSeated lane place views = (v : View) × (get_elem? views place ≡ some v) × 
 abbrev pub IsDealing : ℕ → ℕ → List View → Type 0
 IsDealing dealt holder views = (v : View) × (get_elem? views holder ≡ some v) × (v.stands ≡ Opening dealt)
 
--- There is one history, `log`. The turn is 0 where it is free, 1 where it is out, and 2 while the seats are dealt;
--- `home` is the store's state, none where no store is at home; `views` is what each seat knows.
--- The claim is in four fields. `legal`: the history is the sequential store's. `at_home`: it ends in the store's state.
--- `each`, by `Known`: it begins with what each lane has seen (`seen`), and has the lane's operations once, in their
--- order (`fits`). `undealt`: it has no others. The other fields are there so that each step keeps these: who has the
--- turn, which seat stands for which lane, which call is served, and that no operation is lost between two of them.
-pub record OneHistory (opening : State) (turn : ℕ) (home : Option State) (cell : ℕ → Cell) (views : List View)
+-- the history is the store's, and ends in the state at home, which is there where the turn isn't out
+pub record KeepsStore (opening : State) (turn : ℕ) (home : Option State) (log : List Event) (last : State)
     : Type 0 where
-  pub log : List Event  -- the history
-  pub last : State  -- the state that it ends in
-  pub holder : ℕ  -- the seat that has the turn where it is out, or that deals the seats
-  pub dealt : ℕ  -- how many lanes have a seat
-  pub seat : ℕ → ℕ  -- which seat stands for a lane
-  pub serving : Option Service  -- the posted call that is being served, if any
+  pub legal : IsLegal opening log last
+  pub at_home : turn ≢ 1 → home ≡ Some last
+  pub away : turn ≡ 1 → home ≡ None
+
+-- what the turn's word says: no call is served unless it is out, and none was made while the seats are dealt
+pub record KeepsWord (turn : ℕ) (log : List Event) (serving : Option Service) : Type 0 where
   pub word : turn ≤ 2
-  pub held : turn ≡ 1 → IsHeld log holder views  -- it is what the holder holds, while the turn is out
-  pub longest : turn ≢ 1 → IsSeen log views  -- else the longest list that a seat has seen (each begins it: `seen`)
-  pub legal : IsLegal opening log last  -- it is one of the sequential store, from the opening on
-  pub at_home : turn ≢ 1 → home ≡ Some last  -- it ends in the state at home, where the turn is not out
-  pub away : turn ≡ 1 → home ≡ None  -- no store is at home while the turn is out
-  pub opener : turn ≡ 2 → IsDealing dealt holder views  -- while they are dealt, the dealer is at the holder's place
-  pub young : turn ≡ 2 → log ≡ []  -- the history is empty while the seats are dealt
-  pub unserved : turn ≢ 1 → serving ≡ None  -- no call is served unless the turn is out
-  pub seated : (lane : ℕ) → lane < dealt → IsSeated lane (seat lane) views  -- each lane that was dealt has a seat
-  -- a lane without a seat has posted and called nothing
+  pub young : turn ≡ 2 → log ≡ []
+  pub unserved : turn ≢ 1 → serving ≡ None
+
+-- a lane without a seat has posted and called nothing; a cell is served exactly where the holder serves it
+pub record KeepsCells (cell : ℕ → Cell) (dealt : ℕ) (log : List Event) (serving : Option Service) : Type 0 where
   pub undealt : (lane : ℕ) → dealt ≤ lane → (cell lane ≡ Empty) × (events_of lane log ≡ [])
-  -- a cell is served exactly where the holder serves it, with its moment and ask
   pub serves : (lane moment : ℕ) (ask : Ask) → cell lane ≡ Serving moment ask → serving ≡ Some (service lane moment ask)
   pub served : (s : Service) → serving ≡ Some s → cell s.lane ≡ Serving s.moment s.ask
+
+-- what is so of the seats
+pub record KeepsSeats (opening : State) (turn : ℕ) (cell : ℕ → Cell) (views : List View) (w : Witness) : Type 0 where
+  pub held : turn ≡ 1 → IsHeld w.log w.holder views  -- the history is what the holder holds, while the turn is out
+  pub longest : turn ≢ 1 → IsSeen w.log views  -- else the longest list that a seat has seen
+  -- while the seats are dealt, the dealer is at the holder's place
+  pub opener : turn ≡ 2 → IsDealing w.dealt w.holder views
+  pub seated : (lane : ℕ) → lane < w.dealt → IsSeated lane (w.seat lane) views  -- each lane that was dealt has a seat
   -- each seat that stands for a lane knows the store's state at the opening; a spent one stands for none, and its
   -- opening, which may be any, is read by nobody
   pub openings : (j : ℕ) (v : View) → get_elem? views j ≡ some v → (v.stands ≡ Spent) ⊎ (v.opening ≡ opening)
-  -- what each seat knows is so
   pub each : (j : ℕ) (v : View) → get_elem? views j ≡ some v
-      → Stands
-      record { log = log; turn = turn; holder = holder; dealt = dealt; seat = seat; cell = cell; serving = serving }
-      j v.stands
+      → Stands record { witness = w; turn = turn; cell = cell } j v.stands  -- what each seat knows is so
+
+-- all that each step keeps
+pub record Kept (opening : State) (turn : ℕ) (home : Option State) (cell : ℕ → Cell) (views : List View) : Type 0 where
+  pub witness : Witness
+  pub open witness use *
+  pub store : KeepsStore opening turn home log last
+  pub open store use *
+  pub words : KeepsWord turn log serving
+  pub open words use *
+  pub cells : KeepsCells cell dealt log serving
+  pub open cells use *
+  pub seats : KeepsSeats opening turn cell views witness
+  pub open seats use *
+
+-- There is one history, with the turn's word, the store's state at home (none where no store is), each lane's cell, and
+-- what each seat knows.
+pub record OneHistory (opening : State) (turn : ℕ) (home : Option State) (cell : ℕ → Cell) (views : List View)
+    : Type 0 where
+  pub kept : Kept opening turn home cell views
+  pub open kept use *
+  pub claim : Linearizes opening home cell views log last

@@ -1,7 +1,7 @@
-//! The machine of many seats, and the check that a list of events may have happened to a new store.
-use krs_store_asks::{add, describe, hello, leave, read};
+//! The check that a list of events may have happened to a new store.
+use krs_store_asks::{add, describe, hello, read};
 use krs_types::{Answer, Ask, Body, Event, Reply};
-use krs_world::{Kind, World, WorldStep, replay_check};
+use krs_world::replay_check;
 use std::alloc::{AllocError, Global};
 use std::process::Abort;
 use std::test::Fail;
@@ -86,97 +86,5 @@ fn first_calls_may_have_happened(rt: HostRuntime) -> Result<(), Fail> {
     let (mut events, mut copies) = (Vec::new(alloc), Vec::new(alloc));
     let mut other = Vec::new(alloc);
     check_first_calls(&rt, alloc, &mut events, &mut copies, &mut other)?;
-    Ok(())
-}
-
-/// Makes a step, and stops the test where it answers otherwise.
-fn expect_step(rt: &impl Abort, world: &mut World, step: WorldStep, possible: bool, row: &str) {
-    let is_so = match world.step(step) {
-        Ok(made) => made == possible,
-        Err(_) => false,
-    };
-    assert!(rt; is_so, "{row}");
-}
-
-/// A step of the tests of a kept turn and of a posted call, by its lane and number.
-fn step(alloc: Global, lane: u32, number: u8) -> WorldStep {
-    let kind = match number {
-        0 => Kind::Take,
-        1 => Kind::TakeFound,
-        2 => Kind::Put(None),
-        3 => Kind::Post(0, hello(alloc, 1000)),
-        4 => Kind::Post(0, leave()),
-        5 => Kind::Grab(0),
-        6 => Kind::LookAt(0),
-        7 => Kind::Answer,
-        8 => Kind::CollectFound,
-        9 => Kind::Collect(0),
-        10 => Kind::Collect(1),
-        _ => Kind::Serve(0, leave()),
-    };
-    WorldStep { lane, kind }
-}
-
-/// A step's lane and number, whether it is possible, and why.
-type Row<'a> = (u32, u8, bool, &'a str);
-
-fn check_steps(rt: &impl Abort, alloc: Global, world: &mut World, rows: &[Row<'_>]) {
-    for (lane, number, possible, name) in rows {
-        let step = step(alloc, *lane, *number);
-        expect_step(rt, world, step, *possible, name);
-    }
-}
-
-/// Seat 0 takes the turn, has two calls served in it, and gives it back: each step in turn, and between them those that
-/// aren't possible.
-#[rattlefmt::skip]
-const KEPT: [Row<'static>; 11] = [
-    (0, 11, false, "no turn"),
-    (0, 0, true, "the turn is free"),
-    (0, 11, true, "a call is served"),
-    (1, 0, false, "the turn is kept"),
-    (1, 1, true, "the turn is found out"),
-    (1, 11, false, "another's"),
-    (0, 11, true, "a second call"),
-    (0, 4, true, "a post"),
-    (0, 11, false, "a call is in its cell"),
-    (0, 2, true, "a put"),
-    (1, 0, true, "the turn is free again"),
-];
-
-#[test]
-fn a_turn_is_kept(rt: HostRuntime) -> Result<(), Fail> {
-    let mut world = World::new(rt.alloc(), 2)?;
-    check_steps(&rt, rt.alloc(), &mut world, &KEPT);
-    Ok(())
-}
-
-/// Seat 1 takes the turn and looks, seat 0 posts, seat 1 grabs the call and answers it, and seat 0 collects the reply:
-/// each step in turn, and before it those that aren't possible yet.
-#[rattlefmt::skip]
-const POSTED: [Row<'static>; 17] = [
-    (1, 0, true, "the turn is free"),
-    (1, 5, false, "no call"),
-    (1, 6, true, "a look"),
-    (0, 3, true, "a post"),
-    (0, 4, false, "twice"),
-    (1, 6, false, "a call waits"),
-    (0, 5, false, "not the holder"),
-    (1, 7, false, "nothing to answer"),
-    (1, 5, true, "a grab"),
-    (1, 2, false, "still to answer"),
-    (0, 8, true, "no reply yet"),
-    (1, 7, true, "an answer"),
-    (0, 8, false, "a reply"),
-    (0, 9, false, "not seen"),
-    (1, 10, false, "another's"),
-    (0, 10, true, "a collect"),
-    (1, 2, true, "a put"),
-];
-
-#[test]
-fn a_posted_call_is_answered(rt: HostRuntime) -> Result<(), Fail> {
-    let mut world = World::new(rt.alloc(), 2)?;
-    check_steps(&rt, rt.alloc(), &mut world, &POSTED);
     Ok(())
 }

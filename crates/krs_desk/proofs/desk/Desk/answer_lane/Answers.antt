@@ -22,7 +22,7 @@ exchange-requires c =
     let m = c.args.token.now.me in
     let told = c.compare_exchange.ensures.2 in
     let t = (told c.args.lane refl).0 c.if-compare_exchange-ne-POSTED.false in
-    (search rules, (Asked t.0 t.1, front _ _ _ (ap (λ k. k.1) t.2)))
+    (search rules, (Asked t.0 t.1, front (ap (λ k. k.1) t.2)))
 
 pub unreachable-requires : goal.unreachable-requires
 unreachable-requires c =
@@ -39,12 +39,14 @@ serve_behind-reply-requires-clause-behind c =
     let told = c.compare_exchange.ensures.2 in
     let t = (told c.args.lane refl).0 c.if-compare_exchange-ne-POSTED.false in
     let read =
-    read_is (opening m) (part m) c.args.lane _ c.compare_exchange.new.seat.me c.exchange.result t.0 c.in-Asked.moment t.1
+    read_is (opening m) (part m) c.args.lane _ c.compare_exchange.new.seat.me c.exchange.result t.0
+    c.in-Asked.moment t.1
     c.in-Asked.ask m.1 t.2 c.exchange.ensures.2 c.in-Asked.is in
     let h = c.requires.held in
     let w = c.exchange.new.seat.me in
     let bare =
-    emptied m c.compare_exchange.new.seat.me w c.args.lane c.in-Asked.moment c.in-Asked.ask h read c.exchange.ensures.3 in
+    emptied m c.compare_exchange.new.seat.me w c.args.lane c.in-Asked.moment c.in-Asked.ask h read
+    c.exchange.ensures.3 in
     ((c.args.lane + 1, Empty), h.last, lies_behind m w c.args.lane c.in-Asked.moment c.in-Asked.ask h bare)
 
 pub serve_behind-reply-requires-clause-hand : goal.serve_behind-reply-requires-clause-hand
@@ -53,12 +55,14 @@ serve_behind-reply-requires-clause-hand c =
     let told = c.compare_exchange.ensures.2 in
     let t = (told c.args.lane refl).0 c.if-compare_exchange-ne-POSTED.false in
     let read =
-    read_is (opening m) (part m) c.args.lane _ c.compare_exchange.new.seat.me c.exchange.result t.0 c.in-Asked.moment t.1
+    read_is (opening m) (part m) c.args.lane _ c.compare_exchange.new.seat.me c.exchange.result t.0
+    c.in-Asked.moment t.1
     c.in-Asked.ask m.1 t.2 c.exchange.ensures.2 c.in-Asked.is in
     let h = c.requires.held in
     let w = c.exchange.new.seat.me in
     let bare =
-    emptied m c.compare_exchange.new.seat.me w c.args.lane c.in-Asked.moment c.in-Asked.ask h read c.exchange.ensures.3 in
+    emptied m c.compare_exchange.new.seat.me w c.args.lane c.in-Asked.moment c.in-Asked.ask h read
+    c.exchange.ensures.3 in
     c.requires.hand ∙ sym (ap (λ (k : Me). is_free (part k).flight) bare)
 
 pub exchange-requires-2 : goal.exchange-requires-2
@@ -67,16 +71,17 @@ exchange-requires-2 c =
     let told = c.compare_exchange.ensures.2 in
     let t = (told c.args.lane refl).0 c.if-compare_exchange-ne-POSTED.false in
     let read =
-    read_is (opening m) (part m) c.args.lane _ c.compare_exchange.new.seat.me c.exchange.result t.0 c.in-Asked.moment t.1
+    read_is (opening m) (part m) c.args.lane _ c.compare_exchange.new.seat.me c.exchange.result t.0
+    c.in-Asked.moment t.1
     c.in-Asked.ask m.1 t.2 c.exchange.ensures.2 c.in-Asked.is in
     let h = c.requires.held in
     let w = c.exchange.new.seat.me in
     let bare =
-    emptied m c.compare_exchange.new.seat.me w c.args.lane c.in-Asked.moment c.in-Asked.ask h read c.exchange.ensures.3 in
-    let served =
-    c.serve_behind-reply.ensures.served (c.args.lane + 1, Empty) h.last
+    emptied m c.compare_exchange.new.seat.me w c.args.lane c.in-Asked.moment c.in-Asked.ask h read
+    c.exchange.ensures.3 in
+    let served = c.serve_behind-reply.ensures.served (c.args.lane + 1, Empty) h.last
     (lies_behind m w c.args.lane c.in-Asked.moment c.in-Asked.ask h bare) in
-    (search rules, (Empty, front _ _ _ (ap (λ (k : Me). k.1) served.1)))
+    (search rules, (Empty, front (ap (λ (k : Me). k.1) served.1)))
 
 pub store-requires : goal.store-requires
 store-requires c =
@@ -84,14 +89,15 @@ store-requires c =
     let told = c.compare_exchange.ensures.2 in
     let t = (told c.args.lane refl).0 c.if-compare_exchange-ne-POSTED.false in
     let read =
-    read_is (opening m) (part m) c.args.lane _ c.compare_exchange.new.seat.me c.exchange.result t.0 c.in-Asked.moment t.1
+    read_is (opening m) (part m) c.args.lane _ c.compare_exchange.new.seat.me c.exchange.result t.0
+    c.in-Asked.moment t.1
     c.in-Asked.ask m.1 t.2 c.exchange.ensures.2 c.in-Asked.is in
     let h = c.requires.held in
     let w = c.exchange.new.seat.me in
     let bare =
-    emptied m c.compare_exchange.new.seat.me w c.args.lane c.in-Asked.moment c.in-Asked.ask h read c.exchange.ensures.3 in
-    let served =
-    c.serve_behind-reply.ensures.served (c.args.lane + 1, Empty) h.last
+    emptied m c.compare_exchange.new.seat.me w c.args.lane c.in-Asked.moment c.in-Asked.ask h read
+    c.exchange.ensures.3 in
+    let served = c.serve_behind-reply.ensures.served (c.args.lane + 1, Empty) h.last
     (lies_behind m w c.args.lane c.in-Asked.moment c.in-Asked.ask h bare) in
     let laid =
     replied m w c.serve_behind-reply.new.token.me c.exchange-2.new.seat.me c.args.lane c.in-Asked.moment c.in-Asked.ask
@@ -109,14 +115,15 @@ returns-clause-served c =
     let told = c.compare_exchange.ensures.2 in
     let t = (told c.args.lane refl).0 c.if-compare_exchange-ne-POSTED.false in
     let read =
-    read_is (opening m) (part m) c.args.lane _ c.compare_exchange.new.seat.me c.exchange.result t.0 c.in-Asked.moment t.1
+    read_is (opening m) (part m) c.args.lane _ c.compare_exchange.new.seat.me c.exchange.result t.0
+    c.in-Asked.moment t.1
     c.in-Asked.ask m.1 t.2 c.exchange.ensures.2 c.in-Asked.is in
     let h = c.requires.held in
     let w = c.exchange.new.seat.me in
     let bare =
-    emptied m c.compare_exchange.new.seat.me w c.args.lane c.in-Asked.moment c.in-Asked.ask h read c.exchange.ensures.3 in
-    let served =
-    c.serve_behind-reply.ensures.served (c.args.lane + 1, Empty) h.last
+    emptied m c.compare_exchange.new.seat.me w c.args.lane c.in-Asked.moment c.in-Asked.ask h read
+    c.exchange.ensures.3 in
+    let served = c.serve_behind-reply.ensures.served (c.args.lane + 1, Empty) h.last
     (lies_behind m w c.args.lane c.in-Asked.moment c.in-Asked.ask h bare) in
     let laid =
     replied m w c.serve_behind-reply.new.token.me c.exchange-2.new.seat.me c.args.lane c.in-Asked.moment c.in-Asked.ask

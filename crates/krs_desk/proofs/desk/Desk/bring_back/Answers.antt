@@ -3,8 +3,7 @@ use Rattle.krs_desk.proofs.{Helps.{brought_is, brought_mine}, Serves.brings_at}
 use Rattle.krs_desk.proofs.desk.Desk.bring_back.Goals as goal
 
 pub compare_exchange-requires : goal.compare_exchange-requires
-compare_exchange-requires c =
-    (search rules, search rules, brings_at _ _ _ c.args.token.now.me c.requires.held)
+compare_exchange-requires c = (search rules, search rules, brings_at _ _ _ c.args.token.now.me c.requires.held)
 
 pub returns-clause-brought : goal.returns-clause-brought
 returns-clause-brought c =

@@ -5,14 +5,9 @@ pub give_back-requires-clause-kept : goal.give_back-requires-clause-kept
 give_back-requires-clause-kept c = c.into_parts-lane.ensures.placed.0.keeps
 
 pub fetch-requires-clause-rests : goal.fetch-requires-clause-rests
-fetch-requires-clause-rests c =
-    let t = c.into_parts-lane.result in
-    (given_seated t.0 t.1 t.2 t.3.me c.give_back.new.token.me c.into_parts-lane.ensures.placed.0
-    c.give_back.ensures.given).rests
+fetch-requires-clause-rests c = (given_seated c.into_parts-lane.ensures.placed.0 c.give_back.ensures.given).rests
 
 pub returns-in-Ok-clause-ended : goal.returns-in-Ok-clause-ended
-returns-in-Ok-clause-ended c =
-    let t = c.into_parts-lane.result in
-    ends_in _ _ _ _ _ _
-    (given_view t.3.table_id c.give_back.new.token.table_id t.2 t.3.me c.give_back.new.token.me c.args.seat
-    c.into_parts-lane.ensures.sitting c.give_back.ensures.table c.give_back.ensures.given) c.in-Ok.ensures.had
+returns-in-Ok-clause-ended c = ends_in _ _ _ _ _ _
+    (given_view c.into_parts-lane.ensures.placed.0 c.into_parts-lane.ensures.sitting c.give_back.ensures.table
+    c.give_back.ensures.given) c.in-Ok.ensures.had

@@ -1,4 +1,4 @@
-use Rattle.std.proofs.Common.{ap, false, refl, rules, true}
+use Rattle.std.proofs.Common.{ap, false, refl, rules}
 use Rattle.krs_world.specs.{Knowing.view, declared.view.Standing.TheVariants.Opening}
 use Rattle.krs_desk.specs.Parts.{sight}
 use Rattle.krs_desk.proofs.Dealing.{opens_at, picked_is, picks_at}
@@ -30,8 +30,7 @@ store-requires c = (
 
 pub invariant_of-push_reserved : goal.invariant_of-push_reserved
 invariant_of-push_reserved c = (
-  placed c.loop-lane.lane true 0 c.load.new.seat.me refl
-      (fresh_seated c.loop-lane.lane c.args.about.value c.load.new.seat.me c.requires.sound
+  placed refl (fresh_seated c.loop-lane.lane c.args.about.value c.load.new.seat.me c.requires.sound
       (picked_is c.args.about.value 0 c.loop-lane.lane 0 c.split_seat-token.result.me _
       (given_is _ _ _ _ c.loop-lane.invariant.opens c.split_seat-token.ensures.4) c.load.ensures.2)),
   search rules,

@@ -7,5 +7,6 @@ bring-requires-clause-held c = (c.requires.kept (search rules)).holds
 
 pub returns-clause-given : goal.returns-clause-given
 returns-clause-given c =
-    gives_back c.args.served.now c.args.token.now.me c.bring.new.token.me (search rules) (c.requires.kept (search rules))
+    gives_back c.args.served.now c.args.token.now.me c.bring.new.token.me (search rules)
+    (c.requires.kept (search rules))
     c.bring.ensures.brought

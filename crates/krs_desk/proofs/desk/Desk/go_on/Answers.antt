@@ -7,28 +7,27 @@ use Rattle.krs_desk.proofs.desk.Desk.go_on.Goals as goal
 
 pub serve_into-told-requires-clause-has : goal.serve_into-told-requires-clause-has
 serve_into-told-requires-clause-has g c =
-    (c.requires.held.last, front _ _ _ (ap (λ (k : Me). k.1) c.requires.held.has))
+    (c.requires.turn.held.last, front (ap (λ (k : Me). k.1) c.requires.turn.held.has))
 
 pub keep-requires-clause-held : goal.keep-requires-clause-held
 keep-requires-clause-held g c =
     let after = c.serve_into-told.new.token.me in (
-      c.requires.held.log,
-      subst (HoldsBefore after c.requires.held.log)
+      c.requires.turn.held.log,
+      subst (HoldsBefore after c.requires.turn.held.log)
           (λ i. event_of c.args.lane c.args.moment (sym c.of-asked.ensures i) (reply_of (sym c.of.ensures i)))
-          (holds_before c.args.token.now.me after _ c.requires.idle c.requires.held c.serve_into-told.ensures.served),
+          (holds_before c.args.token.now.me after _ c.requires.turn.idle c.requires.turn.held
+          c.serve_into-told.ensures.served),
     )
 
 pub keep-requires-clause-event : goal.keep-requires-clause-event
 keep-requires-clause-event g c = (
   refl,
-  c.requires.lane
-      ∙ sym (ap (λ (k : Me). (part k).lane)
-      (serves_is c.args.token.now.me _ _ c.requires.held c.serve_into-told.ensures.served)),
+  c.requires.turn.own ∙ sym (ap (λ (k : Me). (part k).lane)
+      (serves_is c.args.token.now.me _ _ c.requires.turn.held c.serve_into-told.ensures.served)),
 )
 
 pub returns-clause-gone : goal.returns-clause-gone
-returns-clause-gone g c =
-    goes_on c.args.token.now.me c.serve_into-told.new.token.me c.keep.new.token.me _
+returns-clause-gone g c = goes_on c.args.token.now.me c.serve_into-told.new.token.me c.keep.new.token.me _
     (event_of c.args.lane c.args.moment c.args.ask (reply_of c.serve_into-told.result))
-    (λ i. event_of c.args.lane c.args.moment (c.of-asked.ensures i) (reply_of (c.of.ensures i))) c.requires.held
+    (λ i. event_of c.args.lane c.args.moment (c.of-asked.ensures i) (reply_of (c.of.ensures i))) c.requires.turn.held
     c.serve_into-told.ensures.served c.keep.ensures.kept c.keep.ensures.mine

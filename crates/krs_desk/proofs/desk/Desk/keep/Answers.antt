@@ -13,9 +13,7 @@ load-requires g c =
     )
 
 pub returns-clause-kept : goal.returns-clause-kept
-returns-clause-kept g c =
-    λ log held. (c.load.ensures.2 log (event_in c.args.call) held c.requires.event.0).0
+returns-clause-kept g c = λ log held. (c.load.ensures.2 log (event_in c.args.call) held c.requires.event.0).0
 
 pub returns-clause-mine : goal.returns-clause-mine
-returns-clause-mine g c =
-    λ log held. (c.load.ensures.2 log (event_in c.args.call) held c.requires.event.0).1
+returns-clause-mine g c = λ log held. (c.load.ensures.2 log (event_in c.args.call) held c.requires.event.0).1

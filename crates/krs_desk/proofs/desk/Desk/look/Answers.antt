@@ -60,8 +60,7 @@ settle_seat-requires c =
     let m = c.args.first.now.me in
     let n = c.args.second.now.me in
     let other_is = given_is _ _ n c.split_seat-other.result.me c.requires.rest.1.0 c.split_seat-other.ensures.4 in
-    let left_is =
-    kept_is _ _ n c.split_seat-other.new.seat.me c.requires.rest.1.0 c.split_seat-other.ensures.2 in
+    let left_is = kept_is _ _ n c.split_seat-other.new.seat.me c.requires.rest.1.0 c.split_seat-other.ensures.2 in
     let joined = both_is _ _ _ _ m c.split_seat-other.result.me c.join_seat.new.seat.me c.requires.rest.0.0 other_is
     c.join_seat.ensures.2 in
     let told =
@@ -84,8 +83,7 @@ returns-clause-seen c =
     let m = c.args.first.now.me in
     let n = c.args.second.now.me in
     let other_is = given_is _ _ n c.split_seat-other.result.me c.requires.rest.1.0 c.split_seat-other.ensures.4 in
-    let left_is =
-    kept_is _ _ n c.split_seat-other.new.seat.me c.requires.rest.1.0 c.split_seat-other.ensures.2 in
+    let left_is = kept_is _ _ n c.split_seat-other.new.seat.me c.requires.rest.1.0 c.split_seat-other.ensures.2 in
     let joined = both_is _ _ _ _ m c.split_seat-other.result.me c.join_seat.new.seat.me c.requires.rest.0.0 other_is
     c.join_seat.ensures.2 in
     let told =
@@ -96,12 +94,11 @@ returns-clause-seen c =
     record {
       log = told.0;
       last = told.1;
-      first =
-          kept_is _ _ c.load.new.seat.me c.split_seat-back.new.seat.me told.2 c.split_seat-back.ensures.2
+      first = kept_is _ _ c.load.new.seat.me c.split_seat-back.new.seat.me told.2 c.split_seat-back.ensures.2
           ∙ (λ i. (sat (opening m) (loaded (part m) told.0), (sym slots_m) i));
       second =
-          settled_is _ _ _ _ c.split_seat-other.new.seat.me c.split_seat-back.result.me c.settle_seat.new.seat.me left_is
-          back_is c.settle_seat.ensures.2
-          ∙ (λ i. (sat (opening m) (loaded (part n) told.0), (sym slots_n) i));
+          settled_is _ _ _ _ c.split_seat-other.new.seat.me c.split_seat-back.result.me
+          c.settle_seat.new.seat.me left_is
+          back_is c.settle_seat.ensures.2 ∙ (λ i. (sat (opening m) (loaded (part n) told.0), (sym slots_n) i));
       founds = (told.3, told.4);
     }

@@ -8,8 +8,7 @@ compare_exchange-requires g c =
     let held = c.requires.held in (
       search rules,
       search rules,
-      rw c.requires.event.0
-          (puts_at _ _ _ c.args.token.now.me (event_in c.args.call) held.0 held.1 c.requires.event.1),
+      rw c.requires.event.0 (puts_at _ _ _ c.args.token.now.me (event_in c.args.call) held.0 held.1 c.requires.event.1),
     )
 
 pub returns-clause-mine : goal.returns-clause-mine

@@ -6,7 +6,6 @@ pub loop-lane-preserved : goal.loop-lane-preserved
 loop-lane-preserved c = record {
   table = search rules;
   few = search rules;
-  gone =
-      goes_at c.args.token.now.me c.loop-lane.token.me c.serve_lane-answered.new.token.me c.loop-lane.answered
+  gone = goes_at c.args.token.now.me c.loop-lane.token.me c.serve_lane-answered.new.token.me c.loop-lane.answered
       c.serve_lane-answered.result c.loop-lane.lane c.loop-lane.invariant.gone c.serve_lane-answered.ensures.served;
 }

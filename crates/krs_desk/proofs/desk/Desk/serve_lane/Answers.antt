@@ -21,11 +21,9 @@ answer_lane-requires-clause-held c =
     c.requires.held
 
 pub answer_lane-requires-clause-hand : goal.answer_lane-requires-clause-hand
-answer_lane-requires-clause-hand c =
-    c.requires.hand
+answer_lane-requires-clause-hand c = c.requires.hand
     ∙ sym (ap (λ (k : Me). is_free (part k).flight) ((c.load.ensures.2 c.args.lane refl).0 c.if-load-ne-POSTED.false))
 
 pub returns-clause-served : goal.returns-clause-served
-returns-clause-served c =
-    subst (λ (z : Me). ServesLane z c.args.lane c.answer_lane.result c.answer_lane.new.token.me)
+returns-clause-served c = subst (λ (z : Me). ServesLane z c.args.lane c.answer_lane.result c.answer_lane.new.token.me)
     ((c.load.ensures.2 c.args.lane refl).0 c.if-load-ne-POSTED.false) c.answer_lane.ensures.served

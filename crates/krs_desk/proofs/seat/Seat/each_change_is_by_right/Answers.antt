@@ -6,6 +6,5 @@ use Rattle.krs_desk.proofs.KeptTurns.{knows}
 use Rattle.krs_desk.proofs.seat.Seat.each_change_is_by_right.Goals as goal
 
 pub returns : goal.returns
-returns c =
-    subst (λ (s : Sitting). AllChangesAreByRight s.opening) c.self.view_is
+returns c = subst (λ (s : Sitting). AllChangesAreByRight s.opening) c.self.view_is
     (all_by_right _ (knows _ _ _ _ c.self.invariant.0).sound)

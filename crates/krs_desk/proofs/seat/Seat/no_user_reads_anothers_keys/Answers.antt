@@ -13,17 +13,14 @@ returns-clause-seen c =
     (read_alone _ seated.last _ seated.sound seated.legal)
 
 pub returns-clause-always : goal.returns-clause-always
-returns-clause-always c =
-    subst (λ (s : Sitting). (uid : ℕ) (private : ℕ → Bool) → HasToItself uid private s.opening
+returns-clause-always c = subst (λ (s : Sitting). (uid : ℕ) (private : ℕ → Bool) → HasToItself uid private s.opening
     → ReadsAlone uid private s.opening) c.self.view_is
     (λ uid private alone. keeps_to_itself uid private _ (knows _ _ _ _ c.self.invariant.0).sound alone)
 
 pub returns-clause-kept : goal.returns-clause-kept
-returns-clause-kept c =
-    subst (λ (s : Sitting). (uid : ℕ) (private last : ℕ → Bool) (events : List Event) (end : State)
+returns-clause-kept c = subst (λ (s : Sitting). (uid : ℕ) (private last : ℕ → Bool) (events : List Event) (end : State)
     → HasToItself uid private s.opening → KeepsPrivate uid private s.opening events end last
-    → HasToItself uid last end) c.self.view_is
-    (λ uid private last events end alone keeps.
+    → HasToItself uid last end) c.self.view_is (λ uid private last events end alone keeps.
     end_alone uid private last _ end events (knows _ _ _ _ c.self.invariant.0).sound alone keeps)
 
 pub returns-clause-begins : goal.returns-clause-begins

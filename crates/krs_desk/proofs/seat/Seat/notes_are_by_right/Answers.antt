@@ -9,13 +9,11 @@ pub returns-clause-owners : goal.returns-clause-owners
 returns-clause-owners c = owners_ask
 
 pub returns-clause-watches : goal.returns-clause-watches
-returns-clause-watches c =
-    subst (λ (s : Sitting). AllWatchesAreByRight s.opening) c.self.view_is
+returns-clause-watches c = subst (λ (s : Sitting). AllWatchesAreByRight s.opening) c.self.view_is
     (all_set _ (knows _ _ _ _ c.self.invariant.0).sound)
 
 pub returns-clause-records : goal.returns-clause-records
-returns-clause-records c =
-    subst (λ (s : Sitting). AllNotesAreCalledFor s.opening) c.self.view_is
+returns-clause-records c = subst (λ (s : Sitting). AllNotesAreCalledFor s.opening) c.self.view_is
     (all_called _ (knows _ _ _ _ c.self.invariant.0).sound)
 
 pub returns-clause-set : goal.returns-clause-set

@@ -12,6 +12,5 @@ pub returns-clause-added : goal.returns-clause-added
 returns-clause-added c = adds_forget
 
 pub returns-clause-expired : goal.returns-clause-expired
-returns-clause-expired c =
-    subst (λ (s : Sitting). ExpiredStaysUnread s.opening) c.self.view_is
+returns-clause-expired c = subst (λ (s : Sitting). ExpiredStaysUnread s.opening) c.self.view_is
     (expired_unread _ (knows _ _ _ _ c.self.invariant.0).sound)

@@ -12,16 +12,13 @@ returns-clause-seen c =
     (not_read_revoked _ seated.last _ (revoked_unread _ seated.sound.unused) seated.legal)
 
 pub returns-clause-always : goal.returns-clause-always
-returns-clause-always c =
-    subst (λ (s : Sitting). StaysUnread s.opening) c.self.view_is
+returns-clause-always c = subst (λ (s : Sitting). StaysUnread s.opening) c.self.view_is
     (revoked_unread _ (knows _ _ _ _ c.self.invariant.0).sound.unused)
 
 pub returns-clause-between : goal.returns-clause-between
-returns-clause-between c =
-    subst (λ (s : Sitting). RefusesRevoked s.opening) c.self.view_is
+returns-clause-between c = subst (λ (s : Sitting). RefusesRevoked s.opening) c.self.view_is
     (refuses_revoked _ (revoked_unread _ (knows _ _ _ _ c.self.invariant.0).sound.unused))
 
 pub returns-clause-running : goal.returns-clause-running
-returns-clause-running c =
-    subst (λ (s : Sitting). StaysRefused s.opening) c.self.view_is
+returns-clause-running c = subst (λ (s : Sitting). StaysRefused s.opening) c.self.view_is
     (stays_refused _ (revoked_unread _ (knows _ _ _ _ c.self.invariant.0).sound.unused))

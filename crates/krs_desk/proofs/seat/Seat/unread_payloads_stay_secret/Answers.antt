@@ -18,6 +18,5 @@ pub returns-clause-gone : goal.returns-clause-gone
 returns-clause-gone c = tells_nobody
 
 pub returns-clause-ended : goal.returns-clause-ended
-returns-clause-ended c =
-    subst (λ (s : Sitting). TellsNobodyAfter s.opening) c.self.view_is
+returns-clause-ended c = subst (λ (s : Sitting). TellsNobodyAfter s.opening) c.self.view_is
     (told_to_nobody _ (knows _ _ _ _ c.self.invariant.0).sound.unused)

@@ -18,14 +18,12 @@ one_call : (a b : Service) → Some a ≡ Some b → a ≡ b
 one_call a b is = cc
 
 pub returns-in_default-serving-clause-moved : goal.returns-in_default-serving-clause-moved
-returns-in_default-serving-clause-moved c = let w = c.self.inside in
-    serves_none c.args.self.now w.store w.out w.serving w.log.items w.lanes.items c.args.lane c.self.view_is
+returns-in_default-serving-clause-moved c = serves_none c.self.invariant c.args.lane c.self.view_is
     c.in_default-serving.is
 
 pub index_mut-seat-requires : goal.index_mut-seat-requires
 index_mut-seat-requires c = let w = c.self.inside in
-    subst (λ (n : ℕ). c.args.lane < n) (sym w.lanes.ok.0)
-    (out_within w.store w.out w.serving w.log.items w.lanes.items c.args.lane c.self.invariant
+    subst (λ (n : ℕ). c.args.lane < n) (sym w.lanes.ok.0) (out_within c.self.invariant
     (c.in-Some.is ∙ ap (λ (n : ℕ). Some n) c.if-holder-lane.false))
 
 -- there is no memory, and nothing is changed but the room
@@ -33,18 +31,14 @@ no_room : (c : After-reserve) → let w = c.self.inside in let x = c.index_mut-s
     let lanes = set w.lanes.items c.args.lane (record x { checked = c.reserve.new.self }) in
     IsKept w.store w.out w.serving w.log.items lanes
     × RefusedBy c.args.self.now c.args.lane Answer ENOMEM (world_of w.store w.out w.serving w.log.items lanes)
-no_room c = let w = c.self.inside in let x = c.index_mut-seat.result.now in
+no_room c = let w = c.self.inside in
     let here : w.out ≡ Some c.args.lane = c.in-Some.is ∙ ap (λ (n : ℕ). Some n) c.if-holder-lane.false in
-    let at = out_here w.store w.out w.serving w.log.items w.lanes.items c.args.lane x c.self.invariant here
-    c.index_mut-seat.ensures.value in
-    let refused = refuses c.args.self.now w.store w.out w.serving w.log.items w.lanes.items c.args.lane c.self.view_is x
-    at Answer ENOMEM (
+    let at = out_here c.self.invariant here c.index_mut-seat.ensures.value in
+    let refused = refuses c.self.invariant c.args.lane c.self.view_is at Answer ENOMEM (
       refl,
-      server w.store w.out w.serving w.log.items w.lanes.items c.args.lane x c.self.invariant at c.in-Some-serving.call
-          here c.in-Some-serving.is,
+      server c.args.lane c.self.invariant at c.in-Some-serving.call here c.in-Some-serving.is,
     ) in
-    let room = room_refused w.store w.out w.serving w.log.items w.lanes.items c.args.lane x c.self.invariant at
-    c.reserve.new.self c.reserve.ensures.items in
+    let room = room_refused c.args.lane c.self.invariant at c.reserve.new.self c.reserve.ensures.items in
     (room.0, (room.1 ∙ c.self.view_is, refused.1))
 
 pub invariant_of-self : goal.invariant_of-self
@@ -76,8 +70,7 @@ index_mut-requires c = let w = c.self.inside in
 
 pub serve-requires-clause-copy : goal.serve-requires-clause-copy
 serve-requires-clause-copy c = c.in-Ok-copy_with_room.ensures.copy ∙ ap (λ (v : Service). v.ask) (sym (one_call
-    c.in-Some-take.call c.in-Some-serving.call
-    (sym c.in-Some-take.is ∙ (c.take.ensures.value ∙ c.in-Some-serving.is))))
+    c.in-Some-take.call c.in-Some-serving.call (sym c.in-Some-take.is ∙ (c.take.ensures.value ∙ c.in-Some-serving.is))))
 
 -- the call is answered
 made : (c : goal.After-serve) → let w = c.self.inside in
@@ -88,8 +81,7 @@ made : (c : goal.After-serve) → let w = c.self.inside in
     })) c.in-Some-serving.call.lane (record c.index_mut.result.now { slot = Answered c.len.result }))
 made c = let w = c.self.inside in let x = c.index_mut-seat.result.now in
     let here : w.out ≡ Some c.args.lane = c.in-Some.is ∙ ap (λ (n : ℕ). Some n) c.if-holder-lane.false in
-    let at = out_here w.store w.out w.serving w.log.items w.lanes.items c.args.lane x c.self.invariant here
-    c.index_mut-seat.ensures.value in
+    let at = out_here c.self.invariant here c.index_mut-seat.ensures.value in
     let call = c.in-Some-serving.call in let reply = c.serve.ensures.0 in
     let same : c.in-Some-take.call ≡ call =
     one_call c.in-Some-take.call call (sym c.in-Some-take.is ∙ (c.take.ensures.value ∙ c.in-Some-serving.is)) in
@@ -107,9 +99,7 @@ made c = let w = c.self.inside in let x = c.index_mut-seat.result.now in
     lane_here (set w.lanes.items c.args.lane y) call.lane c.index_mut.result.now
     (subst (λ (n : ℕ). call.lane < n) (sym (length-set w.lanes.items c.args.lane y))
     (in_bounds w.lanes.items call.lane k.0 k.1)) c.index_mut.ensures.value in
-    moves c.args.self.now w.store w.out w.serving w.log.items w.lanes.items c.args.lane c.self.view_is x at
-    Answer
-    (answers_at w.store w.out w.serving w.log.items w.lanes.items c.args.lane x c.self.invariant at call reply
+    moves c.self.invariant c.args.lane c.self.view_is at Answer (answers_at c.args.lane c.self.invariant at call reply
     c.push_reserved.new.self c.is_done-seat.result c.index_mut.result.now here c.in-Some-serving.is
     (c.push_reserved.ensures.items ∙ ap (λ (l : List ℕ). l ++ call.lane ∷ []) c.reserve.ensures.items)
     c.is_done-seat.ensures there c.serve.new.store c.take.new.self c.serve.new.log.items c.len.result step

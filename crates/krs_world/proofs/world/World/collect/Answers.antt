@@ -7,15 +7,14 @@ use Rattle.krs_world.proofs.world.World.collect.Goals as goal
 use Rattle.krs_world.specs.declared.lane.Slot.TheVariants as slots
 
 pub returns-in_default : goal.returns-in_default
-returns-in_default c = let w = c.self.inside in
-    none_there c.args.self.now w.store w.out w.serving w.log.items w.lanes.items c.args.lane c.self.view_is
+returns-in_default c = none_there c.self.invariant c.args.lane c.self.view_is
     c.deref.result.now (Collect c.args.seen) c.deref.ensures.value c.in_default.ensures.lookup.3
 
 pub returns-in_default-slot : goal.returns-in_default-slot
 returns-in_default-slot c = let w = c.self.inside in
-    moves_not c.args.self.now w.store w.out w.serving w.log.items w.lanes.items c.args.lane c.self.view_is
-    (Collect c.args.seen) (no_reply w.store w.out w.serving w.log.items w.lanes.items c.args.lane c.in-Some.seat.now
-    c.self.invariant (lane_at w.lanes.items c.deref.result.now c.args.lane c.in-Some.seat.now c.deref.ensures.value
+    moves_not c.self.invariant c.args.lane c.self.view_is
+    (Collect c.args.seen) (no_reply c.args.lane c.self.invariant
+    (lane_at w.lanes.items c.deref.result.now c.args.lane c.in-Some.seat.now c.deref.ensures.value
     c.in-Some.ensures.lookup.0 c.in-Some.ensures.lookup.1) c.args.seen c.in_default-slot.not-Answered)
 
 -- the length isn't one that the seat may have seen
@@ -23,9 +22,9 @@ not : (c : In-Answered) → (c.args.seen ≤ c.in-Answered.place)
     ⊎ ((c.args.seen < c.in-Some.seat.now.seen) ⊎ (length c.self.inside.log.items < c.args.seen))
     → MovesBy c.args.self.now c.args.lane (Collect c.args.seen) false c.args.self.now
 not c outside = let w = c.self.inside in
-    moves_not c.args.self.now w.store w.out w.serving w.log.items w.lanes.items c.args.lane c.self.view_is
-    (Collect c.args.seen) (no_collect w.store w.out w.serving w.log.items w.lanes.items c.args.lane c.in-Some.seat.now
-    c.self.invariant (lane_at w.lanes.items c.deref.result.now c.args.lane c.in-Some.seat.now c.deref.ensures.value
+    moves_not c.self.invariant c.args.lane c.self.view_is
+    (Collect c.args.seen) (no_collect c.args.lane c.self.invariant
+    (lane_at w.lanes.items c.deref.result.now c.args.lane c.in-Some.seat.now c.deref.ensures.value
     c.in-Some.ensures.lookup.0 c.in-Some.ensures.lookup.1) c.in-Answered.place c.args.seen c.in-Answered.is outside)
 
 pub returns-then-seen-place : goal.returns-then-seen-place
@@ -40,15 +39,13 @@ returns-then-len-seen c = not (goal.at.returns-then-len-seen c).In-Answered (inr
 
 -- the reply is collected
 made : (c : goal.Joined-seat-2) → Comes c.args.self.now c.args.lane (Collect c.args.seen) c.self.inside.store
-    c.self.inside.out
-    c.self.inside.serving c.self.inside.log.items (set c.self.inside.lanes.items c.args.lane
+    c.self.inside.out c.self.inside.serving c.self.inside.log.items (set c.self.inside.lanes.items c.args.lane
     (record c.index_mut-seat.result.now { seen = c.args.seen; slot = slots.Empty; done = false }))
 made c = let w = c.self.inside in let x = c.index_mut-seat.result.now in
     let t = lanes_same w.lanes.items c.deref.result.now c.args.lane c.in-Some.seat.now x c.deref.ensures.value
     c.in-Some.ensures.lookup.0 c.in-Some.ensures.lookup.1 c.index_mut-seat.ensures.value in
-    moves c.args.self.now w.store w.out w.serving w.log.items w.lanes.items c.args.lane c.self.view_is x t.0
-    (Collect c.args.seen)
-    (collects w.store w.out w.serving w.log.items w.lanes.items c.args.lane x c.self.invariant t.0 c.in-Answered.place
+    moves c.self.invariant c.args.lane c.self.view_is t.0 (Collect c.args.seen)
+    (collects c.args.lane c.self.invariant t.0 c.in-Answered.place
     c.args.seen (ap (λ (z : Lane). z.slot) (sym t.1) ∙ c.in-Answered.is) c.if-seen-place.false
     (subst (λ (z : Lane). z.seen ≤ c.args.seen) t.1 c.if-seen-seat.false)
     (subst (λ (n : ℕ). c.args.seen ≤ n) (c.len.ensures ∙ w.log.ok.0) c.if-len-seen.false))

@@ -7,8 +7,7 @@ use Rattle.krs_world.proofs.world.World.collect_found.Goals.{in-Answered, in_def
 use Rattle.krs_world.proofs.world.World.collect_found.Goals as goal
 
 pub returns-in_default : goal.returns-in_default
-returns-in_default c = let w = c.self.inside in
-    none_there c.args.self.now w.store w.out w.serving w.log.items w.lanes.items c.args.lane c.self.view_is
+returns-in_default c = none_there c.self.invariant c.args.lane c.self.view_is
     c.deref.result.now CollectFound c.deref.ensures.value c.in_default.ensures.lookup.3
 
 pub returns : goal.returns
@@ -18,19 +17,13 @@ returns c = let w = c.self.inside in let x = c.in-Some.seat.now in
     c.in-Some.ensures.lookup.1 in
     elim c.match-matches.branch [
       | in-Answered y ↦ subst (λ (b : Bool). MovesBy c.args.self.now c.args.lane CollectFound (not b) c.args.self.now)
-          (sym y.matches-is)
-          (moves_not c.args.self.now w.store w.out w.serving w.log.items w.lanes.items c.args.lane c.self.view_is
-          CollectFound
-          (no_finds w.store w.out w.serving w.log.items w.lanes.items c.args.lane x c.self.invariant at _
-          y.in-Answered.is))
+          (sym y.matches-is) (moves_not c.self.invariant c.args.lane c.self.view_is CollectFound
+          (no_finds c.args.lane c.self.invariant at _ y.in-Answered.is))
       | in_default-matches y ↦ subst (λ (b : Bool). MovesBy c.args.self.now c.args.lane CollectFound (not b)
           c.args.self.now)
           (sym y.matches-is) (subst (λ (z : World). MovesBy c.args.self.now c.args.lane CollectFound true z)
-          c.self.view_is
-          (moves c.args.self.now w.store w.out w.serving w.log.items w.lanes.items c.args.lane c.self.view_is x at
-          CollectFound (
+          c.self.view_is (moves c.self.invariant c.args.lane c.self.view_is at CollectFound (
             c.self.invariant,
-            finds w.store w.out w.serving w.log.items w.lanes.items c.args.lane x c.self.invariant at
-                y.in_default-matches.not-Answered,
+            finds c.args.lane c.self.invariant at y.in_default-matches.not-Answered,
           )).1)
     ]

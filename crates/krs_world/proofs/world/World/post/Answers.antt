@@ -5,9 +5,7 @@ use Rattle.krs_world.proofs.world.World.post.Goals as goal
 use Rattle.krs_world.specs.declared.lane.Slot.TheVariants as slots
 
 pub returns-then-not-is_idle : goal.returns-then-not-is_idle
-returns-then-not-is_idle c = let w = c.self.inside in
-    posts_not c.args.self.now w.store w.out w.serving w.log.items w.lanes.items c.args.lane c.self.view_is
-    c.self.invariant c.args.moment c.args.ask
+returns-then-not-is_idle c = posts_not c.self.invariant c.args.lane c.self.view_is c.args.moment c.args.ask
     (subst (λ (l : List Lane). IsIdle l c.args.lane → ⊥) c.deref.ensures.value (c.if-not-is_idle.ensures.not refl))
 
 pub index_mut-seat-requires : goal.index_mut-seat-requires
@@ -28,11 +26,8 @@ made c = let w = c.self.inside in let x = c.index_mut-seat.result.now in
     let here = idle_here w.lanes.items c.args.lane x
     (subst (λ (l : List Lane). IsIdle l c.args.lane) c.deref.ensures.value (c.if-not-is_idle.ensures.idle refl))
     c.index_mut-seat.ensures.value in
-    moves c.args.self.now w.store w.out w.serving w.log.items w.lanes.items c.args.lane c.self.view_is x here.0
-    (Post c.args.moment c.args.ask)
-    (posts w.store w.out w.serving w.log.items w.lanes.items c.args.lane x c.self.invariant here.0 c.args.moment
-    c.args.ask
-    here.1)
+    moves c.self.invariant c.args.lane c.self.view_is here.0 (Post c.args.moment c.args.ask)
+    (posts c.args.lane c.self.invariant here.0 c.args.moment c.args.ask here.1)
 
 pub invariant_of-self : goal.invariant_of-self
 invariant_of-self c = (made c).0

@@ -4,29 +4,23 @@ use Rattle.krs_world.proofs.{Answering.{busy, Comes, moves, out_here}, KeptHisto
 use Rattle.krs_world.proofs.world.World.put_none.Goals as goal
 
 pub returns-in_default-serving : goal.returns-in_default-serving
-returns-in_default-serving c = let w = c.self.inside in
-    busy c.args.self.now w.store w.out w.serving w.log.items w.lanes.items c.args.lane c.self.view_is c.self.invariant
+returns-in_default-serving c = busy c.self.invariant c.args.lane c.self.view_is
     (Put None) c.in_default-serving.not-None (λ p other steps. steps.0)
 
 pub index_mut-seat-requires : goal.index_mut-seat-requires
 index_mut-seat-requires c = let w = c.self.inside in
-    subst (λ (n : ℕ). c.args.lane < n) (sym w.lanes.ok.0)
-    (out_within w.store w.out w.serving w.log.items w.lanes.items c.args.lane c.self.invariant
+    subst (λ (n : ℕ). c.args.lane < n) (sym w.lanes.ok.0) (out_within c.self.invariant
     (c.in-Some.is ∙ ap (λ (n : ℕ). Some n) c.if-holder-lane.false))
 
 -- the store is brought home
 made : (c : goal.After-self-2-1) → Comes c.args.self.now c.args.lane (Put None) c.self.inside.store None
-    c.self.inside.serving
-    c.self.inside.log.items (set c.self.inside.lanes.items c.args.lane
+    c.self.inside.serving c.self.inside.log.items (set c.self.inside.lanes.items c.args.lane
     (record c.index_mut-seat.result.now { seen = c.len-seat.result; holding = false }))
-made c = let w = c.self.inside in let x = c.index_mut-seat.result.now in
+made c = let w = c.self.inside in
     let here : w.out ≡ Some c.args.lane = c.in-Some.is ∙ ap (λ (n : ℕ). Some n) c.if-holder-lane.false in
-    let at = out_here w.store w.out w.serving w.log.items w.lanes.items c.args.lane x c.self.invariant here
-    c.index_mut-seat.ensures.value in
-    moves c.args.self.now w.store w.out w.serving w.log.items w.lanes.items c.args.lane c.self.view_is x at (Put None)
-    (puts_none w.store w.out w.serving w.log.items w.lanes.items c.args.lane x c.self.invariant at c.len-seat.result
-    here
-    c.in-None.is (c.len-seat.ensures ∙ w.log.ok.0))
+    let at = out_here c.self.invariant here c.index_mut-seat.ensures.value in
+    moves c.self.invariant c.args.lane c.self.view_is at (Put None)
+    (puts_none c.args.lane c.self.invariant at c.len-seat.result here c.in-None.is (c.len-seat.ensures ∙ w.log.ok.0))
 
 pub invariant_of-self : goal.invariant_of-self
 invariant_of-self c = (made c).0

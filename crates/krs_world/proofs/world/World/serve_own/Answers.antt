@@ -7,8 +7,7 @@ use Rattle.krs_world.proofs.world.World.serve_own.Goals as goal
 
 pub returns-then-not-may_put-clause-moved : goal.returns-then-not-may_put-clause-moved
 returns-then-not-may_put-clause-moved c = let w = c.self.inside in
-    own_not c.args.self.now w.store w.out w.serving w.log.items w.lanes.items c.args.lane c.self.view_is
-    c.self.invariant
+    own_not c.self.invariant c.args.lane c.self.view_is
     (Serve c.args.moment c.args.ask) (λ p other steps. (steps.0, steps.3))
     (subst (λ (l : List Lane). MayPut w.out w.serving l c.args.lane → ⊥) c.deref.ensures.value
     (c.if-not-may_put.ensures.not refl))
@@ -17,11 +16,8 @@ pub returns-in_default-clause-refused : goal.returns-in_default-clause-refused
 returns-in_default-clause-refused c = let w = c.self.inside in
     let may = may_now w.out w.serving w.lanes.items c.deref.result.now c.args.lane c.deref.ensures.value
     (c.if-not-may_put.ensures.may refl) in
-    let refused = refuses c.args.self.now w.store w.out w.serving w.log.items w.lanes.items c.args.lane c.self.view_is
-    may.2.0 may.2.1 (Serve c.args.moment c.args.ask) ENOMEM
-    (own_refused w.store w.out w.serving w.log.items w.lanes.items c.args.lane may.2.0 c.self.invariant may.2.1 may.0
-    may.1
-    may.2.2) in (
+    let refused = refuses c.self.invariant c.args.lane c.self.view_is may.2.1 (Serve c.args.moment c.args.ask) ENOMEM
+    (own_refused c.args.lane c.self.invariant may.2.1 may.0 may.1 may.2.2) in (
       ap (λ (l : List Event). world_of w.store w.out w.serving l w.lanes.items) c.copy_with_room.ensures.same
           ∙ c.self.view_is,
       refused.1,
@@ -36,15 +32,13 @@ index_mut-seat-requires c = let w = c.self.inside in
 -- the call is served
 made : (c : goal.After-self-1) → Comes c.args.self.now c.args.lane (Serve c.args.moment c.args.ask)
     c.serve.new.store c.self.inside.out c.self.inside.serving c.serve.new.log.items
-    (set c.self.inside.lanes.items c.args.lane
-    (record c.index_mut-seat.result.now { seen = c.len-seat.result }))
+    (set c.self.inside.lanes.items c.args.lane (record c.index_mut-seat.result.now { seen = c.len-seat.result }))
 made c = let w = c.self.inside in let x = c.index_mut-seat.result.now in
     let may = may_now w.out w.serving w.lanes.items c.deref.result.now c.args.lane c.deref.ensures.value
     (c.if-not-may_put.ensures.may refl) in
     let here = idle_here w.lanes.items c.args.lane x may.2 c.index_mut-seat.ensures.value in
-    moves c.args.self.now w.store w.out w.serving w.log.items w.lanes.items c.args.lane c.self.view_is x here.0
-    (Serve c.args.moment c.args.ask)
-    (keeps_at w.store w.out w.serving w.log.items w.lanes.items c.args.lane x c.self.invariant here.0 c.len-seat.result
+    moves c.self.invariant c.args.lane c.self.view_is here.0 (Serve c.args.moment c.args.ask)
+    (keeps_at c.args.lane c.self.invariant here.0 c.len-seat.result
     c.args.moment c.args.ask c.serve.new.store c.copy_with_room.new.log.items c.serve.new.log.items may.0 may.1 here.1
     c.copy_with_room.ensures.same c.serve.ensures (c.len-seat.ensures ∙ c.serve.new.log.ok.0))
 

@@ -6,13 +6,12 @@ use Rattle.krs_world.proofs.Moves.{misses}
 use Rattle.krs_world.proofs.world.World.take_found.Goals as goal
 
 pub returns-in_default-get-clause-moved : goal.returns-in_default-get-clause-moved
-returns-in_default-get-clause-moved c = let w = c.self.inside in
-    none_there c.args.self.now w.store w.out w.serving w.log.items w.lanes.items c.args.lane c.self.view_is
+returns-in_default-get-clause-moved c = none_there c.self.invariant c.args.lane c.self.view_is
     c.deref.result.now TakeFound c.deref.ensures.value c.in_default-get.ensures.lookup.3
 
 pub returns-in_default-checked_add-clause-refused : goal.returns-in_default-checked_add-clause-refused
 returns-in_default-checked_add-clause-refused c = let w = c.self.inside in let x = c.in-Some-get.seat.now in
-    refuses c.args.self.now w.store w.out w.serving w.log.items w.lanes.items c.args.lane c.self.view_is x
+    refuses c.self.invariant c.args.lane c.self.view_is
     (lane_at w.lanes.items c.deref.result.now c.args.lane x c.deref.ensures.value c.in-Some-get.ensures.lookup.0
     c.in-Some-get.ensures.lookup.1) TakeFound ENOSPC (
       refl,
@@ -27,8 +26,7 @@ made : (c : goal.After-self-1) → Comes c.args.self.now c.args.lane TakeFound c
 made c = let w = c.self.inside in let x = c.index_mut.result.now in
     let t = lanes_same w.lanes.items c.deref.result.now c.args.lane c.in-Some-get.seat.now x c.deref.ensures.value
     c.in-Some-get.ensures.lookup.0 c.in-Some-get.ensures.lookup.1 c.index_mut.ensures.value in
-    moves c.args.self.now w.store w.out w.serving w.log.items w.lanes.items c.args.lane c.self.view_is x t.0 TakeFound
-    (misses w.store w.out w.serving w.log.items w.lanes.items c.args.lane x c.self.invariant t.0
+    moves c.self.invariant c.args.lane c.self.view_is t.0 TakeFound (misses c.args.lane c.self.invariant t.0
     c.in-Some-checked_add.found c.in-Some.holder c.in-Some.is c.if-holder-lane.false
     (c.in-Some-checked_add.ensures.1 ∙ ap (λ (z : Lane). z.found + 1) t.1))
 
