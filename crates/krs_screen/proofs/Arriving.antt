@@ -1,23 +1,21 @@
 -- What a daemon reads from all that was passed on.
-use Rattle.std.proofs.Common.{[], ◌*◌, ◌++◌, ◌+◌, ◌<◌, ◌==◌, ◌^◌, ◌||◌, ◌∙◌, ◌∷◌, ◌≡◌, ◌≤◌, ap, arith, Bool, cond, drop}
-use Rattle.std.proofs.Common.{drop_at, false, flat_map, get_or, get_or-append-add, inl, inr, length, length-append}
-use Rattle.std.proofs.Common.{List, map, not, Ok, refl, slice_index, Some, subst, suc, sym, take, true, zero, ℕ}
-use Rattle.std.specs.{Int.from_le_bytes, List.{AllByRecursion, list_any}}
-use Rattle.std.proofs.lemmas.{Bool.{and_from, and_parts, or_cases, or_left}, Nat.from_le_bytes-to_le_bytes_4}
+use Rattle.std.proofs.Common.{[], ◌*◌, ◌++◌, ◌+◌, ◌<◌, ◌^◌, ◌∙◌, ◌∷◌, ◌≡◌, ◌≤◌, ap, arith, Bool, drop, drop_at, false}
+use Rattle.std.proofs.Common.{flat_map, get_or-append-add, length, length-append, List, map, Ok, refl, slice_index}
+use Rattle.std.proofs.Common.{Some, subst, sym, true, ℕ}
+use Rattle.std.specs.List.{AllByRecursion}
+use Rattle.std.proofs.lemmas.{Bool.{Decides.nat_tests, or_cases, or_left}, Nat.from_le_bytes-to_le_bytes_4}
 use Rattle.krs_types.specs.declared.{ask.Op.TheVariants.Hello as AsksHello, caller.Caller.Caller}
-use Rattle.krs_wire.specs.Encoding.{ask_frame, ask_text}
-use Rattle.krs_wire.specs.{Frame.{End, Frames, front_of as read_front}, declared.framed.Framed.Framed}
+use Rattle.krs_wire.specs.{declared.framed.Framed.Framed, Encoding.{ask_frame, ask_text}, Frame.{End, Frames}}
+use Rattle.krs_wire.specs.Frame.{front_of as read_front}
 use Rattle.krs_wire.proofs.AskLemmas.{front_takes}
-use Rattle.krs_screen.specs.Claim.{is_group, is_void, may_name, voided}
-use Rattle.krs_screen.specs.{Front.{front_of, le32}, Reading.{Harmless, nobody, own, passed_of, trusted}}
-use Rattle.krs_screen.specs.Run.{AreFrames, crowded, EachHelloOfARunIsHarmless, Heard, IsRight, IsRightOf, kept}
-use Rattle.krs_screen.specs.Run.{may_pass, named, passed_as, refused, run, start, Verdict}
-use Rattle.krs_screen.specs.{Step.Safe, declared.claim.Peer.Peer}
-use Rattle.krs_screen.specs.declared.front.Front.{Front, TheVariants.{Crowd, Fault, Hello, Other, Part}}
-use Rattle.krs_screen.proofs.Answering.{faithful}
-use Rattle.krs_screen.proofs.{Claiming.claims, Growing.{front_more, IsSeated, le32_more, may_pass_more, seated}}
-use Rattle.krs_screen.proofs.Staying.{crowd_stays, hello_stays}
-use Rattle.krs_screen.proofs.Voiding.{le32_before, le32_voided, length_voided, void_is_void}
+use Rattle.krs_screen.specs.{Claim.{is_group, may_name, voided}, declared.{claim.Peer.Peer, front.Front.Front}}
+use Rattle.krs_screen.specs.{declared.front.Front.TheVariants.{Crowd, Hello, Other}, Front.{front_of, le32}}
+use Rattle.krs_screen.specs.{Reading.{Harmless, nobody, own, passed_of, trusted}, Run.{AreFrames, crowded}}
+use Rattle.krs_screen.specs.Run.{EachHelloOfARunIsHarmless, Heard, IsRight, IsRightOf, kept, named, passed_as, refused}
+use Rattle.krs_screen.specs.{Run.{run, start, Verdict}, Step.Safe}
+use Rattle.krs_screen.proofs.{Answering.faithful, Claiming.claims, Growing.{front_more, IsSeated, le32_more}}
+use Rattle.krs_screen.proofs.{Growing.{may_pass_more, seated}, Staying.{crowd_stays, hello_stays}, Voiding.le32_before}
+use Rattle.krs_screen.proofs.Voiding.{le32_voided, length_voided, void_is_void}
 
 -- ---- an ask as it was passed on
 
@@ -27,10 +25,6 @@ record IsSafe (peer : Peer) (groups bytes passed : List ℕ) : Type 0 where
   size : length passed ≡ length bytes
   says : le32 passed 0 ≡ le32 bytes 0
   head : 4 ≤ length bytes
-
-safe_if : (peer : Peer) (groups passed : List ℕ) (at count : ℕ) → may_pass peer groups passed at count ≡ true
-    → Safe peer groups passed (Hello at count)
-safe_if peer groups passed at count e = or_cases (is_void passed at count) (may_name peer groups passed at count) e
 
 module _ (peer : Peer) (groups bytes : List ℕ) where
   -- what stands at the front of what was passed, whatever comes behind it
@@ -44,79 +38,52 @@ module _ (peer : Peer) (groups bytes : List ℕ) where
 
   as_passed : (front : Front) (verdict : Verdict) → front_of bytes ≡ front → IsSeated bytes front
       → IsRight peer groups bytes front verdict → IsSafe peer groups bytes (passed_as verdict bytes)
-  as_passed Part kept is s r = absurd r
-  as_passed Part (crowded place) is s r = absurd r
-  as_passed Part (refused place) is s r = absurd r
-  as_passed Fault kept is s r = absurd r
-  as_passed Fault (crowded place) is s r = absurd r
-  as_passed Fault (refused place) is s r = absurd r
-  as_passed (Other frame) kept is s r =
-      record {
-        safe = with_front bytes (Other frame) is (omega arith)
-            (λ ys. tt);
-        size = refl;
-        says = refl;
-        head = omega (arith, s.sits.0);
-      }
-  as_passed (Other frame) (crowded place) is s r = absurd r
-  as_passed (Other frame) (refused place) is s r = absurd r
-  as_passed (Crowd frame at) kept is s r = absurd r
+  as_passed (Other frame) kept is s r = record {
+    safe = with_front bytes (Other frame) is (omega arith) (λ ys. tt);
+    size = refl;
+    says = refl;
+    head = omega (arith, s.sits.0);
+  }
   as_passed (Crowd frame at) (crowded place) is s r =
-      let there : at + 12 ≤ length bytes = s.sits.1 in
-      let within : at + 4 ≤ length bytes = omega (arith, there) in
-      let here : at ≤ length bytes = omega (arith, there) in
+      let within : at + 4 ≤ length bytes = omega (arith, s.sits.1) in
+      let here : at ≤ length bytes = omega (arith, within) in
       let size : length (voided bytes at) ≡ length bytes = length_voided bytes at within in
-      subst (λ p. IsSafe peer groups bytes (voided bytes p)) (sym r)
-      (record {
-        safe = with_front (voided bytes at) (Crowd frame at) (crowd_stays bytes frame at is there ∙ is) (omega arith)
+      rw r (record {
+        safe = with_front (voided bytes at) (Crowd frame at) (crowd_stays bytes frame at is s.sits.1 ∙ is) (omega arith)
             (λ ys. le32_more (voided bytes at) ys at (omega (arith, size, within)) ∙ le32_voided bytes at here);
         size = size;
         says = le32_before bytes at 0 (omega (arith, s.sits.0)) here;
         head = omega (arith, within);
       })
-  as_passed (Crowd frame at) (refused place) is s r = absurd r
-  as_passed (Hello at count) kept is s r =
-      record {
-        safe = with_front bytes (Hello at count) is (omega arith)
-            (λ ys. safe_if peer groups (bytes ++ ys) at count (may_pass_more peer groups bytes ys at count s.sits.1
-            ∙ r));
-        size = refl;
-        says = refl;
-        head = omega (arith, s.sits.1);
-      }
-  as_passed (Hello at count) (crowded place) is s r = absurd r
+  as_passed (Hello at count) kept is s r = record {
+    safe = with_front bytes (Hello at count) is (omega arith) (λ ys.
+        or_cases _ _ (may_pass_more peer groups bytes ys at count s.sits.1 ∙ r));
+    size = refl;
+    says = refl;
+    head = omega (arith, s.sits.1);
+  }
   as_passed (Hello at count) (refused place) is s r =
       let there : at + 12 + 4 * count ≤ length bytes = s.sits.1 in
-      let some : at + 12 ≤ length bytes = omega (arith, there) in
       let within : at + 4 ≤ length bytes = omega (arith, there) in
       let here : at ≤ length bytes = omega (arith, there) in
       let size : length (voided bytes at) ≡ length bytes = length_voided bytes at within in
-      let void : may_pass peer groups (voided bytes at) at count ≡ true =
-      or_left (is_void (voided bytes at) at count) (may_name peer groups (voided bytes at) at count)
-      (void_is_void bytes at count here) in
+      let void = or_left _ (may_name peer groups (voided bytes at) at count) (void_is_void bytes at count here) in
       let long : at + 12 + 4 * count ≤ length (voided bytes at) = omega (arith, size, there) in
-      subst (λ p. IsSafe peer groups bytes (voided bytes p)) (sym r.0)
-      (record {
-        safe = with_front (voided bytes at) (Hello at count) (hello_stays bytes at count is some ∙ is) (omega arith)
-            (λ ys. safe_if peer groups (voided bytes at ++ ys) at count
-            (may_pass_more peer groups (voided bytes at) ys at count long ∙ void));
+      rw r.0 (record {
+        safe = with_front (voided bytes at) (Hello at count) (hello_stays bytes at count is (omega
+            (arith, there)) ∙ is) (omega arith) (λ ys. or_cases _ _ (may_pass_more peer groups (voided
+            bytes at) ys at count long ∙ void));
         size = size;
         says = le32_before bytes at 0 (omega (arith, s.sits.0)) here;
         head = omega (arith, within);
       })
+  as_passed front verdict is s r = absurd r
 
 -- ---- who isn't known to be in a group may name less
 
 group_named : (peer : Peer) (groups : List ℕ) (gid : ℕ) → is_group peer [] gid ≡ true → is_group peer groups gid ≡ true
 unfolding is_group
-group_named peer groups gid e =
-    let both = and_parts (not (gid == peer.unknown)) ((gid == peer.gid) || false) e in
-    let its : (gid == peer.gid) ≡ true = elim (or_cases (gid == peer.gid) false both.1) [
-      | inl h ↦ h
-      | inr h ↦ absurd cc
-    ] in
-    and_from (not (gid == peer.unknown)) ((gid == peer.gid) || list_any (λ g. g == gid) groups) both.0
-    (or_left (gid == peer.gid) (list_any (λ g. g == gid) groups) its)
+group_named peer groups gid e = grind (arith, nat_tests)
 
 harmless_named : (peer : Peer) (groups : List ℕ) (is_named : Bool) (caller : Caller)
     → Harmless peer (named is_named groups) caller → Harmless peer groups caller

@@ -1,17 +1,14 @@
 -- What is said of some bytes stays so where more come behind them.
-use Rattle.std.proofs.Common.{[], ◌&&◌, ◌*◌, ◌++◌, ◌+◌, ◌-◌, ◌<◌, ◌==◌, ◌||◌, ◌∙◌, ◌∷◌, ◌≡◌, ◌≤◌, ap, append-nil}
-use Rattle.std.proofs.Common.{append_assoc, arith, Bool, cond, drop, drop_at, eqb-true, false, length, length-append}
-use Rattle.std.proofs.Common.{length-drop, length-take-le, List, nat_lt, refl, subst, suc, sym, take, take-append-drop}
-use Rattle.std.proofs.Common.{take_all, take_at, true, w32, zero, ℕ}
+use Rattle.std.proofs.Common.{[], ◌&&◌, ◌*◌, ◌++◌, ◌+◌, ◌<◌, ◌==◌, ◌||◌, ◌∙◌, ◌≡◌, ◌≤◌, ap, append-nil, append_assoc}
+use Rattle.std.proofs.Common.{arith, drop, drop_at, eqb-true, false, length, length-drop, length-take-le, List, nat_lt}
+use Rattle.std.proofs.Common.{refl, subst, suc, sym, take, take-append-drop, take_all, take_at, w32, zero, ℕ}
 use Rattle.std.specs.Int.{from_le_bytes, to_le_bytes}
-use Rattle.std.proofs.lemmas.List.{drop-append-le, take-append-le}
-use Rattle.krs_types.specs.Caller.{no_id}
-use Rattle.krs_screen.specs.Claim.{are_groups, is_group, is_own, is_void, some_nobody}
-use Rattle.krs_screen.specs.Front.{front_of, is_known, le16, le32, with_le32}
-use Rattle.krs_screen.specs.{Reading.passed_of, Run.may_pass, declared.claim.Peer.Peer}
+use Rattle.std.proofs.lemmas.{Bool.cond_both, List.{drop-append-le, take-append-le}}
+use Rattle.krs_screen.specs.{Claim.{are_groups, is_own, is_void, some_nobody}, declared.claim.Peer.Peer}
 use Rattle.krs_screen.specs.declared.front.Front.{Front, TheVariants.{Crowd, Fault, Hello, Other, Part}}
-use Rattle.krs_screen.proofs.Following.{front_stays, P}
-use Rattle.krs_screen.proofs.{Staying.{as_layout, at_least, at_of, layout}, Voiding.front_only}
+use Rattle.krs_screen.specs.{Front.{front_of, is_known, le16, le32, with_le32}, Reading.passed_of, Run.may_pass}
+use Rattle.krs_screen.proofs.{Following.{front_stays, P}, Staying.{as_layout, at_least, at_of, layout}}
+use Rattle.krs_screen.proofs.Voiding.{front_only, length_with}
 
 pub le32_more : (bytes ys : List ℕ) (i : ℕ) → i + 4 ≤ length bytes → le32 (bytes ++ ys) i ≡ le32 bytes i
 unfolding le32
@@ -21,82 +18,36 @@ some_nobody_more : (bytes ys : List ℕ) (at count : ℕ) → at + 4 * count ≤
     → some_nobody (bytes ++ ys) at count ≡ some_nobody bytes at count
 some_nobody_more bytes ys at zero h = refl
 some_nobody_more bytes ys at (suc k) h =
-    let a : at + 4 * k ≤ length bytes = omega (arith, h) in
-    let b : at + 4 * k + 4 ≤ length bytes = omega (arith, h) in
-    ap (λ (x : Bool). x || (le32 (bytes ++ ys) (at + 4 * k) == no_id)) (some_nobody_more bytes ys at k a)
-    ∙ ap (λ (n : ℕ). some_nobody bytes at k || (n == no_id)) (le32_more bytes ys (at + 4 * k) b)
+    rw (some_nobody_more bytes ys at k (omega arith), le32_more bytes ys (at + 4 * k) (omega arith))
 
 are_groups_more : (peer : Peer) (groups bytes ys : List ℕ) (at count : ℕ) → at + 4 * count ≤ length bytes
     → are_groups peer groups (bytes ++ ys) at count ≡ are_groups peer groups bytes at count
 are_groups_more peer groups bytes ys at zero h = refl
 are_groups_more peer groups bytes ys at (suc k) h =
-    let a : at + 4 * k ≤ length bytes = omega (arith, h) in
-    let b : at + 4 * k + 4 ≤ length bytes = omega (arith, h) in
-    ap (λ (x : Bool). x && is_group peer groups (le32 (bytes ++ ys) (at + 4 * k)))
-    (are_groups_more peer groups bytes ys at k a)
-    ∙ ap (λ (n : ℕ). are_groups peer groups bytes at k && is_group peer groups n) (le32_more bytes ys (at + 4 * k) b)
-
--- whether a HELLO may pass, by what it says
-said : Peer → List ℕ → (uid gid : ℕ) → (nobody own : Bool) → Bool
-said peer groups uid gid nobody own =
-    (uid == no_id || (gid == no_id || nobody)) || (peer.is_trusted
-    || (uid == peer.uid && (is_group peer groups gid && own)))
-
-as_said : (peer : Peer) (groups bytes : List ℕ) (at count : ℕ) → may_pass peer groups bytes at count
-    ≡ said peer groups (le32 bytes at) (le32 bytes (at + 4)) (some_nobody bytes (at + 12) count)
-    (are_groups peer groups bytes (at + 12) count)
-unfolding said is_void is_own
-as_said peer groups bytes at count = refl
+    rw (are_groups_more peer groups bytes ys at k (omega arith), le32_more bytes ys (at + 4 * k) (omega arith))
 
 pub may_pass_more : (peer : Peer) (groups bytes ys : List ℕ) (at count : ℕ) → at + 12 + 4 * count ≤ length bytes
     → may_pass peer groups (bytes ++ ys) at count ≡ may_pass peer groups bytes at count
+unfolding is_void is_own
 may_pass_more peer groups bytes ys at count h =
-    let u : le32 (bytes ++ ys) at ≡ le32 bytes at = le32_more bytes ys at (omega (arith, h)) in
-    let g : le32 (bytes ++ ys) (at + 4) ≡ le32 bytes (at + 4) = le32_more bytes ys (at + 4) (omega (arith, h)) in
-    let n : some_nobody (bytes ++ ys) (at + 12) count ≡ some_nobody bytes (at + 12) count =
-    some_nobody_more bytes ys (at + 12) count h in
-    let o : are_groups peer groups (bytes ++ ys) (at + 12) count ≡ are_groups peer groups bytes (at + 12) count =
-    are_groups_more peer groups bytes ys (at + 12) count h in
-    as_said peer groups (bytes ++ ys) at count
-    ∙ ap (λ (x : ℕ). said peer groups x (le32 (bytes ++ ys) (at + 4)) (some_nobody (bytes ++ ys) (at + 12) count)
-    (are_groups peer groups (bytes ++ ys) (at + 12) count)) u
-    ∙ ap (λ (x : ℕ). said peer groups (le32 bytes at) x (some_nobody (bytes ++ ys) (at + 12) count)
-    (are_groups peer groups (bytes ++ ys) (at + 12) count)) g
-    ∙ ap (λ (x : Bool). said peer groups (le32 bytes at) (le32 bytes (at + 4)) x
-    (are_groups peer groups (bytes ++ ys) (at + 12) count)) n
-    ∙ ap (λ (x : Bool). said peer groups (le32 bytes at) (le32 bytes (at + 4)) (some_nobody bytes (at + 12) count) x) o
-    ∙ sym (as_said peer groups bytes at count)
+    rw (
+      le32_more bytes ys at (omega arith),
+      le32_more bytes ys (at + 4) (omega arith),
+      some_nobody_more bytes ys (at + 12) count h,
+      are_groups_more peer groups bytes ys (at + 12) count h,
+    )
 
 -- a number that is put into bytes
 
 pub with_more : (bytes ys : List ℕ) (at n : ℕ) → at + 4 ≤ length bytes
     → with_le32 (bytes ++ ys) at n ≡ with_le32 bytes at n ++ ys
 with_more bytes ys at n h =
-    let a : at ≤ length bytes = omega (arith, h) in
-    let b : 4 ≤ length (drop at bytes) = omega (arith, length-drop at bytes, h) in
-    let number : List ℕ = to_le_bytes w32 n in
-    let d : drop 4 (drop at (bytes ++ ys)) ≡ drop 4 (drop at bytes) ++ ys =
-    ap (λ (zs : List ℕ). drop 4 zs) (drop-append-le at bytes ys a) ∙ drop-append-le 4 (drop at bytes) ys b in
-    ap (λ (zs : List ℕ). zs ++ (number ++ drop 4 (drop at (bytes ++ ys)))) (take-append-le at bytes ys a)
-    ∙ ap (λ (zs : List ℕ). take at bytes ++ (number ++ zs)) d
-    ∙ ap (λ (zs : List ℕ). take at bytes ++ zs) (sym (append_assoc number (drop 4 (drop at bytes)) ys))
-    ∙ sym (append_assoc (take at bytes) (number ++ drop 4 (drop at bytes)) ys)
-
-pub length_with : (bytes : List ℕ) (at n : ℕ) → at + 4 ≤ length bytes → length (with_le32 bytes at n) ≡ length bytes
-length_with bytes at n h =
-    let k : at ≤ length bytes = omega (arith, h) in
-    let l = length-take-le at bytes k in
-    let number : List ℕ = to_le_bytes w32 n in
-    let m : length (number ++ drop 4 (drop at bytes)) ≡ 4 + length (drop 4 (drop at bytes)) =
-    length-append number (drop 4 (drop at bytes)) in
-    omega (
-      arith,
-      length-append (take at bytes) (number ++ drop 4 (drop at bytes)),
-      l,
-      length-drop at bytes,
-      length-drop 4 (drop at bytes),
-      m,
-      h,
+    let b : 4 ≤ length (drop at bytes) = omega (arith, length-drop at bytes) in
+    rw (
+      take-append-le at bytes ys (omega arith),
+      drop-append-le at bytes ys (omega arith),
+      drop-append-le 4 (drop at bytes) ys b,
+      append_assoc (take at bytes) (to_le_bytes w32 n ++ drop 4 (drop at bytes)) ys,
     )
 
 -- a number within the first so many bytes
@@ -136,22 +87,8 @@ Sits bytes (Hello at count) = (12 ≤ at) × (at + 12 + 4 * count ≤ length byt
 pub record IsSeated (bytes : List ℕ) (front : Front) : Type 0 where
   pub sits : Sits bytes front
 
-by_test : (bytes : List ℕ) (b : Bool) (x y : Front) → (b ≡ true → IsSeated bytes x) → (b ≡ false → IsSeated bytes y)
-    → IsSeated bytes (cond b x y)
-by_test bytes true x y f g = f refl
-by_test bytes false x y f g = g refl
-
-not_there : (bytes : List ℕ) → IsSeated bytes Part
-not_there bytes = record { sits = tt }
-
-bad : (bytes : List ℕ) → IsSeated bytes Fault
-bad bytes = record { sits = tt }
-
 at_most : (a b : ℕ) → nat_lt a b ≡ false → b ≤ a
 at_most a b e = grind arith
-
-long_enough : (n : ℕ) → (nat_lt n 8 || nat_lt 65536 n) ≡ false → 8 ≤ n
-long_enough n e = grind arith
 
 pub seated : (bytes : List ℕ) → IsSeated bytes (front_of bytes)
 unfolding layout
@@ -163,30 +100,28 @@ seated bytes =
     let k : ℕ = le32 bytes (at + 8) in
     let t : ℕ = length bytes in
     let least : 12 ≤ at = at_least v in
-    let whole : IsSeated bytes (layout t n v o at k) =
-    by_test bytes (nat_lt t 4) _ _ (λ e. not_there bytes) (λ e0.
-    by_test bytes (nat_lt n 8 || nat_lt 65536 n) _ _ (λ e. bad bytes) (λ e1.
-    by_test bytes (nat_lt t 12) _ _ (λ e. not_there bytes) (λ e2.
-    by_test bytes (v == 1 || (v == 2 && nat_lt 15 n)) _ _ (λ e3.
-    by_test bytes (is_known o) _ _ (λ e4.
-    by_test bytes (o == 256) _ _ (λ e5.
-    by_test bytes (nat_lt (4 + n) (at + 12)) _ _ (λ e. bad bytes) (λ e6.
-    by_test bytes (nat_lt t (at + 12)) _ _ (λ e. not_there bytes) (λ e7.
-    by_test bytes (4 + n == at + 12 + 4 * k) _ _ (λ e8.
-    by_test bytes (nat_lt 32 k) _ _
+    let is : Front → Type 0 = IsSeated bytes in
+    let no : IsSeated bytes Part = record { sits = tt } in
+    let bad : IsSeated bytes Fault = record { sits = tt } in
+    rw (as_layout bytes)
+    (cond_both (nat_lt t 4) _ _ is (λ e. no) (λ e0.
+    cond_both (nat_lt n 8 || nat_lt 65536 n) _ _ is (λ e. bad) (λ e1.
+    cond_both (nat_lt t 12) _ _ is (λ e. no) (λ e2.
+    cond_both (v == 1 || (v == 2 && nat_lt 15 n)) _ _ is (λ e3.
+    cond_both (is_known o) _ _ is (λ e4.
+    cond_both (o == 256) _ _ is (λ e5.
+    cond_both (nat_lt (4 + n) (at + 12)) _ _ is (λ e. bad) (λ e6.
+    cond_both (nat_lt t (at + 12)) _ _ is (λ e. no) (λ e7.
+    cond_both (4 + n == at + 12 + 4 * k) _ _ is (λ e8.
+    cond_both (nat_lt 32 k) _ _ is
     (λ e9. record { sits = (least, at_most t (at + 12) e7, at_most (4 + n) (at + 12) e6, refl) })
-    (λ e9. by_test bytes (nat_lt t (4 + n)) _ _ (λ e. not_there bytes)
-    (λ e10.
-    let is : 4 + n ≡ at + 12 + 4 * k = eqb-true (4 + n) (at + 12 + 4 * k) e8 in
-    let there : 4 + n ≤ t = at_most t (4 + n) e10 in
-    record { sits = (least, omega (arith, is, there), sym is) })))
-    (λ e. bad bytes))))
-    (λ e. let long : 8 ≤ n = long_enough n e1 in record { sits = (at_most t 12 e2, omega (arith, long), refl) }))
-    (λ e. bad bytes))
-    (λ e. bad bytes)))) in
-    subst (λ f. IsSeated bytes f) (sym (as_layout bytes)) whole
+    (λ e9. cond_both (nat_lt t (4 + n)) _ _ is (λ e. no) (λ e10.
+    let same : 4 + n ≡ at + 12 + 4 * k = eqb-true (4 + n) (at + 12 + 4 * k) e8 in
+    record { sits = (least, omega (arith, same, at_most t (4 + n) e10), sym same) })))
+    (λ e. bad))))
+    (λ e. record { sits = (at_most t 12 e2, grind arith, refl) })) (λ e. bad)) (λ e. bad)))))
 
-fits : (bytes : List ℕ) (front : Front) → IsSeated bytes front → passed_of front ≤ length bytes
+pub fits : (bytes : List ℕ) (front : Front) → IsSeated bytes front → passed_of front ≤ length bytes
 fits bytes Part s = omega arith
 fits bytes Fault s = omega arith
 fits bytes (Other frame) s = s.sits.0

@@ -1,10 +1,11 @@
 -- Which numbers have an operation.
 use Rattle.std.proofs.Common.{[], ◌&&◌, ◌+◌, ◌==◌, ◌||◌, ◌∙◌, ◌∷◌, ◌≡◌, ap, arith, Bool, cond, false, List, map, nat_le}
-use Rattle.std.proofs.Common.{nat_lt, None, Option, refl, Result, Some, suc, sym, true, zero, ℕ}
+use Rattle.std.proofs.Common.{nat_lt, None, Option, refl, Result, Some, suc, true, zero, ℕ}
 use Rattle.std.specs.List.{list_any}
+use Rattle.std.proofs.lemmas.Bool.Decides.{nat_tests}
 use Rattle.krs_types.specs.declared.ask.Op.{Op}
-use Rattle.krs_wire.specs.{Bodies.fields_of, Faulting.or_bad_body, Field.whole}
-use Rattle.krs_wire.specs.{Frame.{op_of, read_by, Reading, readings}, declared.fault.WireFault.WireFault}
+use Rattle.krs_wire.specs.{Bodies.fields_of, declared.fault.WireFault.WireFault, Faulting.or_bad_body, Field.whole}
+use Rattle.krs_wire.specs.Frame.{op_of, read_by, Reading, readings}
 use Rattle.krs_screen.specs.Front.{is_known, is_operation}
 
 -- the number of HELLO
@@ -35,24 +36,10 @@ abbrev each_from : (op first count : ℕ) → Bool → Bool
 each_from op first zero others = others
 each_from op first (suc k) others = op == first || each_from op (first + 1) k others
 
-none_in : (op first : ℕ) → (nat_le first op && nat_lt op (first + 0)) ≡ false
-none_in op first = grind arith
-
-one_in : (op first k : ℕ) → (op == first || (nat_le (first + 1) op && nat_lt op (first + 1 + k)))
-    ≡ (nat_le first op && nat_lt op (first + suc k))
-one_in op first k = grind arith
-
-or_or : (a b c : Bool) → (a || (b || c)) ≡ ((a || b) || c)
-or_or true b c = refl
-or_or false b c = refl
-
 in_row : (op first count : ℕ) (others : Bool) → each_from op first count others
     ≡ ((nat_le first op && nat_lt op (first + count)) || others)
-in_row op first zero others = ap (λ (b : Bool). b || others) (sym (none_in op first))
-in_row op first (suc k) others =
-    ap (λ (b : Bool). op == first || b) (in_row op (first + 1) k others)
-    ∙ or_or (op == first) (nat_le (first + 1) op && nat_lt op (first + 1 + k)) others
-    ∙ ap (λ (b : Bool). b || others) (one_in op first k)
+in_row op first zero others = grind (arith, nat_tests)
+in_row op first (suc k) others = grind (arith, nat_tests, in_row op (first + 1) k others)
 
 abbrev between : ℕ → Bool → Bool
 between op last = op == 15 || (op == 21 || (op == 29 || (op == 30 || (op == 32 || last))))

@@ -1,8 +1,8 @@
 -- A peer's groups count for HELLOs alone.
-use Rattle.std.proofs.Common.{◌-◌, ◌≡◌, ap, Bool, cond, false, length, List, min, nat_lt, refl, true, ℕ}
-use Rattle.krs_screen.specs.Front.{front_of, is_hello}
-use Rattle.krs_screen.specs.{Step.{ask_step, Done, front_step}, declared.{claim.Peer.Peer, counting.Screen.Screen}}
-use Rattle.krs_screen.specs.declared.front.Front.{Front, TheVariants.{Crowd, Fault, Hello, Other, Part}}
+use Rattle.std.proofs.Common.{◌-◌, ◌≡◌, ap, cond, false, length, List, min, nat_lt, refl, ℕ}
+use Rattle.krs_screen.specs.declared.{claim.Peer.Peer, counting.Screen.Screen, front.Front.{Front, TheVariants.Crowd}}
+use Rattle.krs_screen.specs.{declared.front.Front.TheVariants.{Fault, Hello, Other, Part}, Front.{front_of, is_hello}}
+use Rattle.krs_screen.specs.Step.{ask_step, Done, front_step}
 
 same_front : (peer : Peer) (groups others : List ℕ) (s : Screen) (bytes : List ℕ) (front : Front)
     → is_hello front ≡ false

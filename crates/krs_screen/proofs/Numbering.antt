@@ -1,6 +1,7 @@
 -- A reply gets EPERM where, and only where, its number is that of an ask that was made void.
-use Rattle.std.proofs.Common.{[], ◌%◌, ◌&&◌, ◌++◌, ◌+◌, ◌<◌, ◌==◌, ◌∙◌, ◌∷◌, ◌≡◌, ◌≢◌, ◌≤◌, ap, arith, Bool, eq-eqb}
-use Rattle.std.proofs.Common.{false, inl, inr, length, List, nat_lt, slice_index, subst, suc, sym, true, zero, ℕ}
+use Rattle.std.proofs.Common.{[], ◌%◌, ◌&&◌, ◌++◌, ◌+◌, ◌<◌, ◌==◌, ◌∙◌, ◌∷◌, ◌≡◌, ◌≢◌, ◌≤◌, ap, arith, false, inl, inr}
+use Rattle.std.proofs.Common.{length, List, nat_lt, slice_index, suc, sym, true, zero, ℕ}
+use Rattle.std.proofs.lemmas.Bool.{Decides.nat_tests, true≢false}
 use Rattle.krs_screen.specs.Counting.{Among, answered_more, asked_more, Between, is_refused, IsCounted, most, next}
 use Rattle.krs_screen.specs.Counting.{one_forgotten, refused_next, waiting, waiting_from}
 use Rattle.krs_screen.specs.declared.counting.Screen.{Screen}
@@ -23,47 +24,29 @@ ask_counted s left h b = higher s.answered s.asked (next s.asked) (waiting s) (o
 pub refusal_counted : (s : Screen) (left : ℕ) → s.asked < most → length s.refused ≡ 64 → s.count < 64 → IsCounted s
     → IsCounted (asked_more (refused_next s) left)
 refusal_counted s left h long room b =
-    let one : next s.asked ≡ s.asked + 1 = next_is s.asked h in
-    let all : Between s.answered (next s.asked) (waiting s ++ (next s.asked ∷ [])) =
-    subst (λ n. Between s.answered n (waiting s ++ (n ∷ []))) (sym one) (behind s.answered s.asked (waiting s) b) in
-    subst (λ xs. Between s.answered (next s.asked) xs) (sym (appended s long room)) all
+    rw (appended s long room, next_is s.asked h) (behind s.answered s.asked (waiting s) b)
 
 lower : (low high : ℕ) (xs : List ℕ) → low < high → Between low high xs → ((rest : List ℕ) → xs ≡ (low + 1) ∷ rest → ⊥)
     → Between (low + 1) high xs
 lower low high [] h b other = omega (arith, h)
 lower low high (x ∷ xs) h b other =
-    let apart : x ≢ low + 1 = λ e. other xs (ap (λ y. y ∷ xs) e) in
-    (omega (arith, b.0, apart), b.1)
+    let apart : x ≢ low + 1 = λ e. other xs (rw e) in (omega (arith, b.0, apart), b.1)
 
 pub first_is : (ring : List ℕ) (first count n : ℕ) (rest : List ℕ) → waiting_from ring first count ≡ n ∷ rest
     → (nat_lt 0 count && (slice_index ring (first % 64) == n)) ≡ true
 first_is ring first zero n rest e = absurd cc
-first_is ring first (suc k) n rest e =
-    let head : slice_index ring (first % 64) ≡ n = cc in
-    let some : nat_lt 0 (suc k) ≡ true = grind arith in
-    subst (λ b. (b && (slice_index ring (first % 64) == n))
-    ≡ true) (sym some) (eq-eqb (slice_index ring (first % 64)) n head)
-
-pub differ : (b : Bool) → b ≡ true → b ≡ false → ⊥
-differ true e f = absurd cc
-differ false e f = absurd cc
+first_is ring first (suc k) n rest e = grind (arith, nat_tests)
 
 pub reply_counted : (s : Screen) (left : ℕ) → s.answered < s.asked → s.asked ≤ most → is_refused s ≡ false → IsCounted s
     → IsCounted (answered_more s left)
 reply_counted s left h small isnt b =
-    let less : s.answered < most = omega (arith, h, small) in
-    let one : next s.answered ≡ s.answered + 1 = next_is s.answered less in
-    subst (λ n. Between n s.asked (waiting s)) (sym one)
-    (lower s.answered s.asked (waiting s) h b
-    (λ rest e. differ (is_refused s)
-    (first_is s.refused s.first s.count (next s.answered) rest (e ∙ ap (λ n. n ∷ rest) (sym one))) isnt))
+    let one : next s.answered ≡ s.answered + 1 = next_is s.answered (omega (arith, h, small)) in
+    rw one (lower s.answered s.asked (waiting s) h b (λ rest e.
+    true≢false (sym (first_is s.refused s.first s.count (next s.answered) rest (rw one e)) ∙ isnt)))
 
 pub eperm_counted : (s : Screen) (left : ℕ) → is_refused s ≡ true → IsCounted s
     → IsCounted (answered_more (one_forgotten s) left)
-eperm_counted s left is b =
-    let all : Between s.answered s.asked (next s.answered ∷ waiting (one_forgotten s)) =
-    subst (λ xs. Between s.answered s.asked xs) (taken s is) b in
-    all.1
+eperm_counted s left is b = (rw (taken s is) at b).1
 
 above : (low high n : ℕ) (xs : List ℕ) → Between low high xs → Among n xs → low < n
 above low high n [] b a = absurd a
@@ -83,6 +66,5 @@ head_of low high (x ∷ xs) b a = elim a [
 pub gets_eperm : (s : Screen) → s.answered < most → IsCounted s → Among (s.answered + 1) (waiting s)
     → is_refused s ≡ true
 gets_eperm s less b a =
-    let one : next s.answered ≡ s.answered + 1 = next_is s.answered less in
     let x = head_of s.answered s.asked (waiting s) b a in
-    first_is s.refused s.first s.count (next s.answered) x.0 (x.1 ∙ ap (λ n. n ∷ x.0) (sym one))
+    first_is s.refused s.first s.count (next s.answered) x.0 (rw (next_is s.answered less) x.1)

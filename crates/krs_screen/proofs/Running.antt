@@ -1,15 +1,13 @@
 -- However a connection runs, what was passed on is what came, frame by frame.
-use Rattle.std.proofs.Common.{[], ◌++◌, ◌+◌, ◌-◌, ◌<◌, ◌∙◌, ◌∷◌, ◌≡◌, ◌≤◌, ◌⊎◌, ap, append-nil, append_assoc, arith}
-use Rattle.std.proofs.Common.{Bool, cond, drop, false, flat_map, inl, inr, length, length-append, length-take-le, List}
-use Rattle.std.proofs.Common.{map, refl, subst, suc, sym, take, take-append-drop, true, zero, ℕ}
+use Rattle.std.proofs.Common.{[], ◌++◌, ◌+◌, ◌<◌, ◌∙◌, ◌∷◌, ◌≡◌, ◌≤◌, ◌⊎◌, ap, append-nil, append_assoc, arith, Bool}
+use Rattle.std.proofs.Common.{drop, false, flat_map, inl, inr, length, length-append, length-take-le, List, map, refl}
+use Rattle.std.proofs.Common.{sym, take, take-append-drop, true, ℕ}
 use Rattle.std.specs.List.{AllByRecursion}
-use Rattle.std.proofs.lemmas.List.{map-append}
-use Rattle.krs_screen.specs.{Claim.voided, Counting.waiting, Front.{front_of, le32}, Reading.passed_of, Run.AreAsks}
-use Rattle.krs_screen.specs.Run.{AreFrames, AreReplies, asks_gone, crowded, gets_eperm, gone, Heard, IsRight, IsRightOf}
-use Rattle.krs_screen.specs.Run.{kept, Line, may_pass, more, named, passed_as, refused, replies_gone, Told, Verdict}
-use Rattle.krs_screen.specs.Run.{Way}
-use Rattle.krs_screen.specs.declared.claim.Peer.{Peer}
-use Rattle.krs_screen.specs.declared.front.Front.{Front, TheVariants.{Crowd, Fault, Hello, Other, Part}}
+use Rattle.std.proofs.lemmas.List.{Concat.flat_map-append, map-append}
+use Rattle.krs_screen.specs.{Claim.voided, Counting.waiting, declared.{claim.Peer.Peer, front.Front.Front}}
+use Rattle.krs_screen.specs.{declared.front.Front.TheVariants.{Crowd, Hello, Other}, Front.{front_of, le32}}
+use Rattle.krs_screen.specs.{Reading.passed_of, Run.{AreFrames, asks_gone, crowded, gets_eperm, gone, Heard, IsRight}}
+use Rattle.krs_screen.specs.Run.{IsRightOf, kept, Line, more, named, passed_as, refused, Told, told_as, Verdict, Way}
 use Rattle.krs_screen.proofs.Growing.{front_more, IsSeated, le32_more, may_pass_more, seated, with_more}
 
 -- ---- lists that grow at their end
@@ -35,35 +33,76 @@ pub all_last : {X : Type 0} (P : X → Type 0) (xs : List X) (x : X) → AllByRe
 all_last P [] x all = all.0
 all_last P (y ∷ xs) x all = all_last P xs x all.1
 
-pub flat_grown : {X : Type 0} (f : X → List ℕ) (before : List X) (x y : X) (ys : List ℕ) → f y ≡ f x ++ ys
-    → flat_map f (before ++ y ∷ []) ≡ flat_map f (before ++ x ∷ []) ++ ys
-flat_grown f [] x y ys e = append-nil (f y) ∙ e ∙ ap (λ (zs : List ℕ). zs ++ ys) (sym (append-nil (f x)))
-flat_grown f (b ∷ before) x y ys e =
-    ap (λ (zs : List ℕ). f b ++ zs) (flat_grown f before x y ys e)
-    ∙ sym (append_assoc (f b) (flat_map f (before ++ x ∷ [])) ys)
+flat_push : {X : Type 0} (f : X → List ℕ) (xs : List X) (x : X) → flat_map f (xs ++ x ∷ []) ≡ flat_map f xs ++ f x
+flat_push f xs x = rw (flat_map-append f xs (x ∷ []), append-nil (f x))
 
-pub flat_push : {X : Type 0} (f : X → List ℕ) (xs : List X) (x : X) → flat_map f (xs ++ x ∷ []) ≡ flat_map f xs ++ f x
-flat_push f [] x = append-nil (f x)
-flat_push f (b ∷ xs) x = ap (λ (zs : List ℕ). f b ++ zs) (flat_push f xs x)
-    ∙ sym (append_assoc (f b) (flat_map f xs) (f x))
+flat_grown : {X : Type 0} (f : X → List ℕ) (xs : List X) (x y : X) (ys : List ℕ) → f y ≡ f x ++ ys
+    → flat_map f (xs ++ y ∷ []) ≡ flat_map f (xs ++ x ∷ []) ++ ys
+flat_grown f xs x y ys e = rw (flat_push f xs x, flat_push f xs y, e, append_assoc (flat_map f xs) (f x) ys)
 
 pub length_push : {X : Type 0} (xs : List X) (x : X) → length (xs ++ x ∷ []) ≡ length xs + 1
 length_push xs x = length-append xs (x ∷ [])
 
 -- ---- frames
 
-pub frames_pushed : (fs : List (List ℕ)) (f : List ℕ) (left : ℕ) → AreFrames fs 0 → length f + left ≡ 4 + le32 f 0
+frames_pushed : (fs : List (List ℕ)) (f : List ℕ) (left : ℕ) → AreFrames fs 0 → length f + left ≡ 4 + le32 f 0
     → AreFrames (fs ++ f ∷ []) left
 frames_pushed [] f left h e = e
 frames_pushed (x ∷ []) f left h e = (omega (arith, h), e)
 frames_pushed (x ∷ y ∷ fs) f left h e = (h.0, frames_pushed (y ∷ fs) f left h.1 e)
 
-pub frames_grown : (fs : List (List ℕ)) (f ys : List ℕ) (left later : ℕ) → 4 ≤ length f → left ≡ length ys + later
+frames_grown : (fs : List (List ℕ)) (f ys : List ℕ) (left later : ℕ) → 4 ≤ length f → left ≡ length ys + later
     → AreFrames (fs ++ f ∷ []) left → AreFrames (fs ++ (f ++ ys) ∷ []) later
 frames_grown [] f ys left later long parts h =
     omega (arith, h, length-append f ys, le32_more f ys 0 long, parts)
 frames_grown (x ∷ []) f ys left later long parts h = (h.0, frames_grown [] f ys left later long parts h.1)
 frames_grown (x ∷ y ∷ fs) f ys left later long parts h = (h.0, frames_grown (y ∷ fs) f ys left later long parts h.1)
+
+-- ---- one way, and what went there: as it came, as it was passed on, and what of the last is still to come
+
+pub record IsWay {X : Type 0} (sent told : X → List ℕ) (way : Way) (left : ℕ) (xs : List X) : Type 0 where
+  pub came : way.came ≡ flat_map sent xs ++ way.waits
+  pub passed : way.passed ≡ flat_map told xs
+  pub frames : AreFrames (map sent xs) left
+
+module _ {X : Type 0} (sent told : X → List ℕ) (way : Way) where
+  pub way_more : (left : ℕ) (xs : List X) (piece : List ℕ) → IsWay sent told way left xs
+      → IsWay sent told (more way piece) left xs
+  way_more left xs piece w = record {
+    came = rw w.came (append_assoc (flat_map sent xs) way.waits piece);
+    passed = w.passed;
+    frames = w.frames;
+  }
+
+  pub way_idle : (left : ℕ) (xs : List X) → IsWay sent told way left xs
+      → IsWay sent told (gone way 0 way.waits) left xs
+  way_idle left xs w = record { came = w.came; passed = append-nil way.passed ∙ w.passed; frames = w.frames }
+
+  -- one more, or its beginning
+  pub way_pushed : (n left : ℕ) (bytes : List ℕ) (xs : List X) (x : X) → IsWay sent told way 0 xs
+      → sent x ≡ take n way.waits → told x ≡ take n bytes → drop n bytes ≡ drop n way.waits
+      → length (sent x) + left ≡ 4 + le32 (sent x) 0 → IsWay sent told (gone way n bytes) left (xs ++ x ∷ [])
+  way_pushed n left bytes xs x w is goes rest whole = record {
+    came = w.came ∙ rw (flat_push sent xs x, is, rest, append_assoc, take-append-drop);
+    passed = rw (w.passed, flat_push told xs x, goes);
+    frames = rw (map-append sent xs (x ∷ [])) (frames_pushed (map sent xs) (sent x) left w.frames whole);
+  }
+
+  -- more of the last
+  pub way_grown : (n left later : ℕ) (xs : List X) (x y : X) → IsWay sent told way left (xs ++ x ∷ [])
+      → sent y ≡ sent x ++ take n way.waits → told y ≡ told x ++ take n way.waits → left ≡ n + later
+      → n ≤ length way.waits → 4 ≤ length (sent x)
+      → IsWay sent told (gone way n way.waits) later (xs ++ y ∷ [])
+  way_grown n left later xs x y w is goes parts there long =
+      let ys : List ℕ = take n way.waits in
+      let size : length ys ≡ n = length-take-le n way.waits there in
+      let before : AreFrames (map sent xs ++ sent x ∷ []) left = rw (map-append sent xs (x ∷ [])) at w.frames in
+      record {
+        came = w.came ∙ rw (flat_grown sent xs x y ys is, append_assoc, take-append-drop);
+        passed = rw (w.passed, flat_grown told xs x y ys goes);
+        frames = rw (map-append sent xs (y ∷ []), is) (frames_grown (map sent xs) (sent x) ys left later long (omega
+            (arith, parts, size)) before);
+      }
 
 -- ---- which asks get EPERM, by their numbers, behind the first so many
 
@@ -80,12 +119,8 @@ pub numbers_pushed : (n : ℕ) (marks : List Bool) (m : Bool) (last : ℕ) → l
     → numbers n (marks ++ m ∷ []) ≡ numbers n marks ++ if_marked m last
 numbers_pushed n [] true last e = ap (λ (k : ℕ). k ∷ []) (omega (arith, e))
 numbers_pushed n [] false last e = refl
-numbers_pushed n (true ∷ marks) m last e =
-    let e' : last ≡ n + 1 + length marks + 1 = omega (arith, e) in
-    ap (λ (ns : List ℕ). (n + 1) ∷ ns) (numbers_pushed (n + 1) marks m last e')
-numbers_pushed n (false ∷ marks) m last e =
-    let e' : last ≡ n + 1 + length marks + 1 = omega (arith, e) in
-    numbers_pushed (n + 1) marks m last e'
+numbers_pushed n (true ∷ marks) m last e = rw (numbers_pushed (n + 1) marks m last (omega arith))
+numbers_pushed n (false ∷ marks) m last e = numbers_pushed (n + 1) marks m last (omega arith)
 
 -- the first of them is behind those
 pub first_behind : (n : ℕ) (marks : List Bool) (k : ℕ) (rest : List ℕ) → numbers n marks ≡ k ∷ rest → n < k
@@ -93,81 +128,64 @@ first_behind n [] k rest e = absurd cc
 first_behind n (true ∷ marks) k rest e = let h : n + 1 ≡ k = cc in omega (arith, h)
 first_behind n (false ∷ marks) k rest e = let h = first_behind (n + 1) marks k rest e in omega (arith, h)
 
--- ---- the facts that stay
+-- ---- what stays so of a line, by the asks that were heard and the replies that were told
+
+abbrev pub ask_bytes : Heard → List ℕ
+ask_bytes ask = ask.bytes
+
+abbrev pub ask_passed : Heard → List ℕ
+ask_passed ask = passed_as ask.verdict ask.bytes
+
+abbrev pub reply_bytes : Told → List ℕ
+reply_bytes reply = reply.bytes
+
+abbrev pub reply_passed : Told → List ℕ
+reply_passed reply = told_as reply.is_rewritten reply.bytes
+
+abbrev pub marks_of : List Heard → List Bool
+marks_of asks = map (λ ask. gets_eperm ask.verdict) asks
 
 pub record IsSo (peer : Peer) (groups : List ℕ) (line : Line) (asks : List Heard) (replies : List Told) : Type 0 where
-  pub asks-are : AreAsks peer groups line asks
-  pub replies-are : AreReplies line asks replies
+  pub asked-way : IsWay ask_bytes ask_passed line.asks line.screen.ask_left asks
+  pub told-way : IsWay reply_bytes reply_passed line.replies line.screen.reply_left replies
+  pub right : AllByRecursion (IsRightOf peer groups) asks
+  pub marked : map (λ reply. reply.is_rewritten) replies ≡ take (length replies) (marks_of asks)
   pub asked : line.screen.asked ≡ length asks
   pub answered : line.screen.answered ≡ length replies
   pub fewer : length replies ≤ length asks
-  pub queue : waiting line.screen
-      ≡ numbers (length replies) (drop (length replies) (map (λ ask. gets_eperm ask.verdict) asks))
+  pub queue : waiting line.screen ≡ numbers (length replies) (drop (length replies) (marks_of asks))
   pub room : length line.screen.refused ≡ 64
   pub long : AllByRecursion (λ reply. 8 ≤ length reply.bytes) replies
 
--- they stay where the screen keeps its counts, and the same is passed on
-so_still : (peer : Peer) (groups : List ℕ) (line : Line) (asks : List Heard) (replies : List Told) (g a r : Bool)
+-- a line that a run reaches, which has heard at most so many asks
+pub record IsReached (peer : Peer) (groups : List ℕ) (most : ℕ) (line : Line) : Type 0 where
+  pub asks : List Heard
+  pub replies : List Told
+  pub so : IsSo peer groups line asks replies
+  pub few : length asks ≤ most
+
+-- it stays so where the screen keeps its counts, and the ways what went there
+pub so_still : (peer : Peer) (groups : List ℕ) (line : Line) (asks : List Heard) (replies : List Told) (g a r : Bool)
     (to from : Way) → IsSo peer groups line asks replies
-    → to.came ≡ flat_map (λ ask. ask.bytes) asks ++ to.waits → to.passed ≡ line.asks.passed
-    → from.came ≡ flat_map (λ reply. reply.bytes) replies ++ from.waits → from.passed ≡ line.replies.passed
+    → IsWay ask_bytes ask_passed to line.screen.ask_left asks
+    → IsWay reply_bytes reply_passed from line.screen.reply_left replies
     → IsSo peer groups (record {
       screen = record line.screen { greeted = g; ask_fault = a; reply_fault = r };
       asks = to;
       replies = from;
     }) asks replies
-so_still peer groups line asks replies g a r to from i came passed told answers =
-    let s = i.asks-are in let t = i.replies-are in record {
-      asks-are = record { came = came; passed = passed ∙ s.passed; frames = s.frames; right = s.right };
-      replies-are = record { came = told; passed = answers ∙ t.passed; frames = t.frames; right = t.right };
-      asked = i.asked;
-      answered = i.answered;
-      fewer = i.fewer;
-      queue = i.queue;
-      room = i.room;
-      long = i.long;
-    }
-
-pub client_sent : (peer : Peer) (groups : List ℕ) (line : Line) (asks : List Heard) (replies : List Told)
-    (piece : List ℕ)
-    → IsSo peer groups line asks replies → IsSo peer groups (record line { asks = more line.asks piece }) asks replies
-client_sent peer groups line asks replies piece i = let s = line.screen in
-    so_still peer groups line asks replies s.greeted s.ask_fault s.reply_fault (more line.asks piece) line.replies i
-    (ap (λ (zs : List ℕ). zs ++ piece) i.asks-are.came
-    ∙ append_assoc (flat_map (λ ask. ask.bytes) asks) line.asks.waits piece) refl i.replies-are.came refl
-
-pub daemon_sent : (peer : Peer) (groups : List ℕ) (line : Line) (asks : List Heard) (replies : List Told)
-    (piece : List ℕ)
-    → IsSo peer groups line asks replies
-    → IsSo peer groups (record line { replies = more line.replies piece }) asks replies
-daemon_sent peer groups line asks replies piece i = let s = line.screen in
-    so_still peer groups line asks replies s.greeted s.ask_fault s.reply_fault line.asks (more line.replies piece) i
-    i.asks-are.came refl (ap (λ (zs : List ℕ). zs ++ piece) i.replies-are.came
-    ∙ append_assoc (flat_map (λ reply. reply.bytes) replies) line.replies.waits piece) refl
-
--- nothing is passed on
-pub asks_idle : (peer : Peer) (groups : List ℕ) (line : Line) (asks : List Heard) (replies : List Told) (g a r : Bool)
-    → IsSo peer groups line asks replies
-    → IsSo peer groups (asks_gone line (
-      0,
-      (line.asks.waits, record line.screen { greeted = g; ask_fault = a; reply_fault = r }),
-    )) asks replies
-asks_idle peer groups line asks replies g a r i =
-    so_still peer groups line asks replies g a r (gone line.asks 0 line.asks.waits) line.replies i i.asks-are.came
-    (append-nil line.asks.passed) i.replies-are.came refl
-
-pub replies_idle : (peer : Peer) (groups : List ℕ) (line : Line) (asks : List Heard) (replies : List Told)
-    (g a r : Bool)
-    → IsSo peer groups line asks replies
-    → IsSo peer groups (replies_gone line (
-      0,
-      (line.replies.waits, record line.screen { greeted = g; ask_fault = a; reply_fault = r }),
-    )) asks replies
-replies_idle peer groups line asks replies g a r i =
-    so_still peer groups line asks replies g a r line.asks (gone line.replies 0 line.replies.waits) i i.asks-are.came
-    refl i.replies-are.came (append-nil line.replies.passed)
-
--- ---- the rest of the frame at hand
+so_still peer groups line asks replies g a r to from i asked told = record {
+  asked-way = asked;
+  told-way = told;
+  right = i.right;
+  marked = i.marked;
+  asked = i.asked;
+  answered = i.answered;
+  fewer = i.fewer;
+  queue = i.queue;
+  room = i.room;
+  long = i.long;
+}
 
 -- what is known of an ask that has a right verdict
 record IsHeard (peer : Peer) (groups bytes : List ℕ) (front : Front) (verdict : Verdict) : Type 0 where
@@ -182,43 +200,27 @@ voided_more bytes ys at h = with_more bytes ys at 4294967295 h
 
 heard : (peer : Peer) (groups bytes : List ℕ) (front : Front) (verdict : Verdict) → IsSeated bytes front
     → IsRight peer groups bytes front verdict → IsHeard peer groups bytes front verdict
-heard peer groups bytes Part kept s r = absurd r
-heard peer groups bytes Part (crowded place) s r = absurd r
-heard peer groups bytes Part (refused place) s r = absurd r
-heard peer groups bytes Fault kept s r = absurd r
-heard peer groups bytes Fault (crowded place) s r = absurd r
-heard peer groups bytes Fault (refused place) s r = absurd r
 heard peer groups bytes (Other frame) kept s r =
     record { some = omega arith; long = s.sits.0; as_more = λ ys. refl; right_more = λ ys. tt }
-heard peer groups bytes (Other frame) (crowded place) s r = absurd r
-heard peer groups bytes (Other frame) (refused place) s r = absurd r
-heard peer groups bytes (Crowd frame at) kept s r = absurd r
-heard peer groups bytes (Crowd frame at) (crowded place) s r =
-    let there : place + 4 ≤ length bytes = omega (arith, r, s.sits.1) in
-    record {
-      some = omega arith;
-      long = omega
-          (arith, s.sits.0, s.sits.1);
-      as_more = λ ys. voided_more bytes ys place there;
-      right_more = λ ys. r;
-    }
-heard peer groups bytes (Crowd frame at) (refused place) s r = absurd r
-heard peer groups bytes (Hello at count) kept s r =
-    record {
-      some = omega arith;
-      long = omega (arith, s.sits.0, s.sits.1);
-      as_more = λ ys. refl;
-      right_more = λ ys. may_pass_more peer groups bytes ys at count s.sits.1 ∙ r;
-    }
-heard peer groups bytes (Hello at count) (crowded place) s r = absurd r
-heard peer groups bytes (Hello at count) (refused place) s r =
-    let there : place + 4 ≤ length bytes = omega (arith, r.0, s.sits.1) in
-    record {
-      some = omega arith;
-      long = omega (arith, s.sits.0, s.sits.1);
-      as_more = λ ys. voided_more bytes ys place there;
-      right_more = λ ys. (r.0, may_pass_more peer groups bytes ys at count s.sits.1 ∙ r.1);
-    }
+heard peer groups bytes (Crowd frame at) (crowded place) s r = record {
+  some = omega arith;
+  long = omega (arith, s.sits.0, s.sits.1);
+  as_more = λ ys. voided_more bytes ys place (omega (arith, r, s.sits.1));
+  right_more = λ ys. r;
+}
+heard peer groups bytes (Hello at count) kept s r = record {
+  some = omega arith;
+  long = omega (arith, s.sits.0, s.sits.1);
+  as_more = λ ys. refl;
+  right_more = λ ys. may_pass_more peer groups bytes ys at count s.sits.1 ∙ r;
+}
+heard peer groups bytes (Hello at count) (refused place) s r = record {
+  some = omega arith;
+  long = omega (arith, s.sits.0, s.sits.1);
+  as_more = λ ys. voided_more bytes ys place (omega (arith, r.0, s.sits.1));
+  right_more = λ ys. (r.0, may_pass_more peer groups bytes ys at count s.sits.1 ∙ r.1);
+}
+heard peer groups bytes front verdict s r = absurd r
 
 longer : Heard → List ℕ → Heard
 longer ask ys = record { bytes = ask.bytes ++ ys; is_named = ask.is_named; verdict = ask.verdict }
@@ -227,27 +229,7 @@ right_longer : (peer : Peer) (groups : List ℕ) (ask : Heard) (ys : List ℕ)
     → IsHeard peer (named ask.is_named groups) ask.bytes (front_of ask.bytes) ask.verdict
     → IsRightOf peer groups (longer ask ys)
 unfolding longer
-right_longer peer groups ask ys h =
-    subst (λ f. IsRight peer (named ask.is_named groups) (ask.bytes ++ ys) f ask.verdict) (sym
-    (front_more ask.bytes ys h.some)) (h.right_more ys)
-
-marks_longer : (before : List Heard) (ask : Heard) (ys : List ℕ)
-    → map (λ a. gets_eperm a.verdict) (before ++ longer ask ys ∷ [])
-    ≡ map (λ a. gets_eperm a.verdict) (before ++ ask ∷ [])
-unfolding longer
-marks_longer before ask ys =
-    map-append (λ (a : Heard). gets_eperm a.verdict) before (longer ask ys ∷ [])
-    ∙ sym (map-append (λ (a : Heard). gets_eperm a.verdict) before (ask ∷ []))
-
--- the rest of a list, behind what is passed of it
-pub came_on : (all front waits ys front' : List ℕ) (n : ℕ) → all ≡ front ++ waits → ys ≡ take n waits
-    → front' ≡ front ++ ys
-    → all ≡ front' ++ drop n waits
-came_on all front waits ys front' n e t f =
-    e ∙ ap (λ (zs : List ℕ). front ++ zs) (sym (take-append-drop n waits))
-    ∙ sym (append_assoc front (take n waits) (drop n waits))
-    ∙ ap (λ (zs : List ℕ). (front ++ zs) ++ drop n waits) (sym t)
-    ∙ ap (λ (zs : List ℕ). zs ++ drop n waits) (sym f)
+right_longer peer groups ask ys h = rw (front_more ask.bytes ys h.some) (h.right_more ys)
 
 last_goes_on : (peer : Peer) (groups : List ℕ) (line : Line) (before : List Heard) (ask : Heard)
     (replies : List Told) (n later : ℕ)
@@ -258,64 +240,39 @@ unfolding longer
 last_goes_on peer groups line before ask replies n later parts there i =
     let ys : List ℕ = take n line.asks.waits in
     let ask' : Heard = longer ask ys in
-    let size : length ys ≡ n = length-take-le n line.asks.waits there in
-    let is : IsRightOf peer groups ask = all_last (IsRightOf peer groups) before ask i.asks-are.right in
+    let is : IsRightOf peer groups ask = all_last (IsRightOf peer groups) before ask i.right in
     let h = heard peer (named ask.is_named groups) ask.bytes (front_of ask.bytes) ask.verdict (seated ask.bytes) is in
-    let long : 4 ≤ length ask.bytes = omega (arith, h.long) in
-    let same = marks_longer before ask ys in
-    let frames : AreFrames (map (λ a. a.bytes) before ++ ask.bytes ∷ []) line.screen.ask_left =
-    subst (λ fs. AreFrames fs line.screen.ask_left) (map-append (λ (a : Heard). a.bytes) before
-    (ask ∷ [])) i.asks-are.frames in
+    let same : marks_of (before ++ ask' ∷ []) ≡ marks_of (before ++ ask ∷ []) =
+    map-append (λ (a : Heard). gets_eperm a.verdict) before (ask' ∷ [])
+    ∙ sym (map-append (λ (a : Heard). gets_eperm a.verdict) before (ask ∷ [])) in
     let count : length (before ++ ask' ∷ []) ≡ length (before ++ ask ∷ []) = length_push before ask'
-    ∙ sym (length_push before ask) in
-    let t = i.replies-are in record {
-      asks-are = record {
-        came = came_on line.asks.came (flat_map (λ a. a.bytes) (before ++ ask ∷ [])) line.asks.waits ys
-            (flat_map (λ a. a.bytes) (before ++ ask' ∷ [])) n i.asks-are.came refl
-            (flat_grown (λ (a : Heard). a.bytes) before ask ask' ys refl);
-        passed = ap (λ (zs : List ℕ). zs ++ ys) i.asks-are.passed
-            ∙ sym (flat_grown (λ (a : Heard). passed_as a.verdict a.bytes) before ask ask' ys (h.as_more ys));
-        frames = subst (λ fs. AreFrames fs later) (sym (map-append (λ (a : Heard). a.bytes) before (ask' ∷ [])))
-            (frames_grown (map (λ a. a.bytes) before) ask.bytes ys line.screen.ask_left later long (omega
-            (arith, parts, size)) frames);
-        right = all_push (IsRightOf peer groups) before ask' (all_before
-            (IsRightOf peer groups) before ask i.asks-are.right)
-            (right_longer peer groups ask ys h);
-      };
-      replies-are = record {
-        came = t.came;
-        passed = t.passed;
-        frames = t.frames;
-        right = t.right ∙ ap (λ (ms : List Bool). take (length replies) ms) (sym same);
-      };
+    ∙ sym (length_push before ask) in record {
+      asked-way = way_grown ask_bytes ask_passed line.asks n line.screen.ask_left later before ask ask' i.asked-way refl
+          (h.as_more ys) parts there (omega (arith, h.long));
+      told-way = i.told-way;
+      right = all_push (IsRightOf peer groups) before ask' (all_before (IsRightOf peer groups) before ask i.right)
+          (right_longer peer groups ask ys h);
+      marked = rw same i.marked;
       asked = i.asked ∙ sym count;
       answered = i.answered;
       fewer = omega (arith, i.fewer, count);
-      queue = i.queue ∙ ap (λ (ms : List Bool). numbers (length replies) (drop (length replies) ms)) (sym same);
+      queue = rw same i.queue;
       room = i.room;
       long = i.long;
     }
 
 pub asks_go_on : (peer : Peer) (groups : List ℕ) (line : Line) (asks : List Heard) (replies : List Told) (n later : ℕ)
     → line.screen.ask_left ≡ n + later → n ≤ length line.asks.waits → 0 < line.screen.ask_left
-    → IsSo peer groups line asks replies
-    → (asks' : List Heard) × (IsSo peer groups (asks_gone line (
-      n,
-      (line.asks.waits, record line.screen { ask_left = later }),
-    )) asks' replies)
-    × (length asks' ≡ length asks)
+    → IsSo peer groups line asks replies → IsReached peer groups (length asks + 1)
+    (asks_gone line (n, (line.asks.waits, record line.screen { ask_left = later })))
 asks_go_on peer groups line asks replies n later parts there some i =
     elim (ends asks) [
       | inl none ↦
-          let e : line.screen.ask_left ≡ 0 =
-          subst (λ all. AreFrames (map (λ a. a.bytes) all) line.screen.ask_left) none i.asks-are.frames in
+          let e : AreFrames [] line.screen.ask_left = rw none at i.asked-way.frames in
           absurd (omega (arith, e, some))
       | inr last ↦
-          let i' : IsSo peer groups line (last.0 ++ last.1 ∷ []) replies = subst
-          (λ all. IsSo peer groups line all replies) last.2 i in (
-            last.0 ++ longer last.1 (take n line.asks.waits) ∷ [],
-            last_goes_on peer groups line last.0 last.1 replies n later parts there i',
-            length_push last.0 (longer last.1 (take n line.asks.waits)) ∙ sym (length_push last.0 last.1)
-                ∙ ap (λ (all : List Heard). length all) (sym last.2),
-          )
+          let asks' : List Heard = last.0 ++ longer last.1 (take n line.asks.waits) ∷ [] in
+          let i' : IsSo peer groups line (last.0 ++ last.1 ∷ []) replies = rw last.2 at i in
+          let so = last_goes_on peer groups line last.0 last.1 replies n later parts there i' in
+          record { asks = asks'; replies = replies; so = so; few = omega (arith, so.asked, i.asked) }
     ]

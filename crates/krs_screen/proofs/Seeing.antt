@@ -1,16 +1,16 @@
 -- What a daemon reads as HELLO is seen as HELLO.
-use Rattle.std.proofs.Common.{[], ◌*◌, ◌++◌, ◌+◌, ◌<◌, ◌^◌, ◌∙◌, ◌∷◌, ◌≡◌, ◌≤◌, ap, append-nil, arith, Bool, cond, drop}
-use Rattle.std.proofs.Common.{false, flat_map, length, length-append, List, nat_lt, None, Ok, Option, refl, slice_index}
-use Rattle.std.proofs.Common.{Some, subst, suc, sym, take, true, w32, zero, ℕ}
+use Rattle.std.proofs.Common.{[], ◌*◌, ◌++◌, ◌+◌, ◌<◌, ◌^◌, ◌∙◌, ◌∷◌, ◌≡◌, ◌≤◌, ◌⊎◌, ap, append-nil, arith, Bool, cond}
+use Rattle.std.proofs.Common.{drop, false, flat_map, inl, inr, length, length-append, List, nat_lt, None, Ok, Option}
+use Rattle.std.proofs.Common.{refl, slice_index, Some, subst, suc, sym, take, true, w32, zero, ℕ}
 use Rattle.std.specs.{Int.{from_le_bytes, to_le_bytes}, List.AllByRecursion}
-use Rattle.std.proofs.{Math.Seq.drop-append-add, lemmas.{Grind.common_steps, Nat.from_le_bytes-to_le_bytes_4}}
+use Rattle.std.proofs.{lemmas.{Grind.common_steps, Nat.from_le_bytes-to_le_bytes_4}, Math.Seq.drop-append-add}
 use Rattle.krs_types.specs.declared.{ask.{Ask.Ask, Op.{Op, TheVariants.Hello as AsksHello}}, caller.Caller.Caller}
-use Rattle.krs_wire.specs.Encoding.{ask_frame, ask_text, FitsAsk}
-use Rattle.krs_wire.specs.{Frame.front_of as read_front, declared.framed.Framed.Framed}
+use Rattle.krs_wire.specs.{declared.framed.Framed.Framed, Encoding.{ask_frame, ask_text, FitsAsk}}
+use Rattle.krs_wire.specs.Frame.{front_of as read_front}
 use Rattle.krs_wire.proofs.{AskLemmas.front_takes, CountLemmas.length_numbers}
-use Rattle.krs_screen.specs.Front.{front_by, front_of, hello_front, is_known, le16, le32}
-use Rattle.krs_screen.specs.{Reading.Sees, declared.front.Front.{Front, TheVariants.{Crowd, Hello}}}
-use Rattle.krs_screen.proofs.Knowing.{hello_is_known}
+use Rattle.krs_screen.specs.{declared.front.Front.{Front, TheVariants.{Crowd, Hello}}, Front.{front_by, front_of}}
+use Rattle.krs_screen.specs.{Front.{hello_front, is_known, le16, le32}, Reading.Sees}
+use Rattle.krs_screen.proofs.{Knowing.hello_is_known, Staying.at_of}
 
 abbrev choice : (b : Bool) (frame at count : ℕ) → Front
 choice b frame at count = cond b (Crowd frame at) (Hello at count)
@@ -39,94 +39,70 @@ number_at (x ∷ xs) more (suc i) h all =
     (ap (λ bs. from_le_bytes w32 (take 4 bs)) rest ∙ number_at xs more i less all.1)
 
 -- the same behind the last field of a body
-pub number_in : (xs more : List ℕ) (i : ℕ) → i < length xs → AllByRecursion (λ n. n < 256 ^ 4) xs
-    → from_le_bytes w32 (take 4 (drop (4 * i) ((encoded xs ++ []) ++ more))) ≡ slice_index xs i
-number_in xs more i h all =
-    subst (λ (ys : List ℕ). from_le_bytes w32 (take 4 (drop (4 * i) (ys ++ more))) ≡ slice_index xs i)
-    (sym (append-nil (encoded xs))) (number_at xs more i h all)
-
-pub front_untagged : (bytes : List ℕ) (n count : ℕ) → le32 bytes 0 ≡ n → le16 bytes 4 ≡ 1 → le16 bytes 6 ≡ 256
-    → le32 bytes 20 ≡ count → n ≡ 20 + 4 * count → n ≤ 65536 → 4 + n ≤ length bytes
-    → front_of bytes ≡ choice (nat_lt 32 count) (4 + n) 12 count
+-- with what stands at its front, by its version
+front_seen : (bytes : List ℕ) (v n count : ℕ) → (v ≡ 1) ⊎ (v ≡ 2) → le32 bytes 0 ≡ n → le16 bytes 4 ≡ v
+    → le16 bytes 6 ≡ 256 → le32 bytes (at_of v + 8) ≡ count → n ≡ at_of v + 8 + 4 * count → n ≤ 65536
+    → 4 + n ≤ length bytes → front_of bytes ≡ choice (nat_lt 32 count) (4 + n) (at_of v) count
 unfolding front_of front_by hello_front
-front_untagged bytes n count l v o k e most there =
-    let known : is_known (le16 bytes 6) ≡ true = ap is_known o ∙ hello_is_known in
-    grind (arith, common_steps)
-
-pub front_tagged : (bytes : List ℕ) (n count : ℕ) → le32 bytes 0 ≡ n → le16 bytes 4 ≡ 2 → le16 bytes 6 ≡ 256
-    → le32 bytes 28 ≡ count → n ≡ 28 + 4 * count → n ≤ 65536 → 4 + n ≤ length bytes
-    → front_of bytes ≡ choice (nat_lt 32 count) (4 + n) 20 count
-unfolding front_of front_by hello_front
-front_tagged bytes n count l v o k e most there =
+front_seen bytes v n count either l w o k e most there =
     let known : is_known (le16 bytes 6) ≡ true = ap is_known o ∙ hello_is_known in
     grind (arith, common_steps)
 
 abbrev hello : ℕ → Caller → Ask
 hello context caller = record { context = context; op = AsksHello caller }
 
-pub seen_untagged : (context : ℕ) (caller : Caller) (more : List ℕ) → FitsAsk None (hello context caller)
-    → Sees (ask_frame None (hello context caller) ++ more) caller (front_of (ask_frame None
-    (hello context caller) ++ more))
-unfolding le16 le32
-seen_untagged context caller more fits =
-    let bytes : List ℕ = ask_frame None (hello context caller) ++ more in
-    let count : ℕ = length caller.groups in
-    let n : ℕ = length (ask_text None (hello context caller)) in
-    let size : n ≡ 20 + 4 * count =
-    omega (arith, length_numbers caller.groups, ap length (append-nil (encoded caller.groups))) in
-    let whole : length bytes ≡ 4 + n + length more = omega (
-      arith,
-      length-append (ask_frame None
-          (hello context caller)) more,
-    ) in
-    let u : le32 bytes 12 ≡ caller.uid = from_le_bytes-to_le_bytes_4 caller.uid fits.op.0.0 in
-    let g : le32 bytes 16 ≡ caller.gid = from_le_bytes-to_le_bytes_4 caller.gid fits.op.0.1.0 in
-    let gs : (i : ℕ) → i < count → le32 bytes (12 + 12 + 4 * i) ≡ slice_index caller.groups i =
-    λ i h. ap (λ bs. from_le_bytes w32 (take 4 bs)) (drop-append-add (take 24 bytes) ((encoded caller.groups ++ []) ++ more)
-    (4 * i))
-    ∙ number_in caller.groups more i h fits.op.0.1.1.1 in
-    let k : le32 bytes 20 ≡ count = from_le_bytes-to_le_bytes_4 count fits.op.0.1.1.0 in
-    let small : n < 2 ^ 32 = omega (arith, fits.size) in
-    let l : le32 bytes 0 ≡ n = from_le_bytes-to_le_bytes_4 n small in
-    let there : 4 + n ≤ length bytes = omega (arith, whole) in
-    let is = front_untagged bytes n count l refl refl k size fits.size there in
-    subst (λ front. Sees bytes caller front) (sym is) (seen_in bytes caller (nat_lt 32 count)
-    (4 + n) 12 count refl u g refl gs)
+-- a HELLO's fields, its groups, and whatever follows them
+abbrev behind : (front more : List ℕ) → Caller → List ℕ
+behind front more caller = front ++ ((encoded caller.groups ++ []) ++ more)
 
-pub seen_tagged : (tag : ℕ) (context : ℕ) (caller : Caller) (more : List ℕ) → FitsAsk (Some tag) (hello context caller)
-    → Sees (ask_frame (Some tag) (hello context caller) ++ more) caller (front_of (ask_frame (Some tag)
-    (hello context caller) ++ more))
-unfolding le16 le32
-seen_tagged tag context caller more fits =
-    let bytes : List ℕ = ask_frame (Some tag) (hello context caller) ++ more in
+seen_at : (front more : List ℕ) (caller : Caller) (v n : ℕ) → (v ≡ 1) ⊎ (v ≡ 2) → length front ≡ at_of v + 12
+    → le32 (behind front more caller) 0 ≡ n → le16 (behind front more caller) 4 ≡ v
+    → le16 (behind front more caller) 6 ≡ 256 → n ≡ at_of v + 8 + 4 * length caller.groups → n ≤ 65536
+    → le32 (behind front more caller) (at_of v) ≡ caller.uid
+    → le32 (behind front more caller) (at_of v + 4) ≡ caller.gid
+    → le32 (behind front more caller) (at_of v + 8) ≡ length caller.groups
+    → AllByRecursion (λ n. n < 256 ^ 4) caller.groups
+    → Sees (behind front more caller) caller (front_of (behind front more caller))
+unfolding le32
+seen_at front more caller v n either head l w o size most u g k all =
+    let bytes : List ℕ = behind front more caller in
     let count : ℕ = length caller.groups in
-    let n : ℕ = length (ask_text (Some tag) (hello context caller)) in
-    let size : n ≡ 28 + 4 * count =
-    omega (arith, length_numbers caller.groups, ap length (append-nil (encoded caller.groups))) in
-    let whole : length bytes ≡ 4 + n + length more = omega (
+    let rest : List ℕ = (encoded caller.groups ++ []) ++ more in
+    let there : 4 + n ≤ length bytes = omega (
       arith,
-      length-append (ask_frame (Some tag)
-          (hello context caller)) more,
+      length-append front rest,
+      length-append (encoded caller.groups ++ []) more,
+      length-append (encoded caller.groups) [],
+      length_numbers caller.groups,
     ) in
-    let u : le32 bytes 20 ≡ caller.uid = from_le_bytes-to_le_bytes_4 caller.uid fits.op.0.0 in
-    let g : le32 bytes 24 ≡ caller.gid = from_le_bytes-to_le_bytes_4 caller.gid fits.op.0.1.0 in
-    let gs : (i : ℕ) → i < count → le32 bytes (20 + 12 + 4 * i) ≡ slice_index caller.groups i =
-    λ i h. ap (λ bs. from_le_bytes w32 (take 4 bs)) (drop-append-add (take 32 bytes) ((encoded caller.groups ++ []) ++ more)
-    (4 * i))
-    ∙ number_in caller.groups more i h fits.op.0.1.1.1 in
-    let k : le32 bytes 28 ≡ count = from_le_bytes-to_le_bytes_4 count fits.op.0.1.1.0 in
-    let small : n < 2 ^ 32 = omega (arith, fits.size) in
-    let l : le32 bytes 0 ≡ n = from_le_bytes-to_le_bytes_4 n small in
-    let there : 4 + n ≤ length bytes = omega (arith, whole) in
-    let is = front_tagged bytes n count l refl refl k size fits.size there in
-    subst (λ front. Sees bytes caller front) (sym is) (seen_in bytes caller (nat_lt 32 count)
-    (4 + n) 20 count refl u g refl gs)
+    let gs : (i : ℕ) → i < count → le32 bytes (at_of v + 12 + 4 * i) ≡ slice_index caller.groups i = λ i h.
+    rw (← head, drop-append-add front rest (4 * i), append-nil (encoded caller.groups))
+    (number_at caller.groups more i h all) in
+    rw (front_seen bytes v n count either l w o k size most there)
+    (seen_in bytes caller (nat_lt 32 count) (4 + n) (at_of v) count refl u g refl gs)
 
 seen_by : (tag : Option ℕ) (context : ℕ) (caller : Caller) (more : List ℕ) → FitsAsk tag (hello context caller)
     → Sees (ask_frame tag (hello context caller) ++ more) caller (front_of (ask_frame tag
     (hello context caller) ++ more))
-seen_by None context caller more fits = seen_untagged context caller more fits
-seen_by (Some tag) context caller more fits = seen_tagged tag context caller more fits
+unfolding le16 le32
+seen_by None context caller more fits =
+    let n : ℕ = length (ask_text None (hello context caller)) in
+    let small : n < 2 ^ 32 = omega (arith, fits.size) in
+    let size : n ≡ 20 + 4 * length caller.groups =
+    omega (arith, length_numbers caller.groups, ap length (append-nil (encoded caller.groups))) in
+    seen_at (take 24 (ask_frame None (hello context caller))) more caller 1 n (inl refl) refl
+    (from_le_bytes-to_le_bytes_4 n small) refl refl size fits.size (from_le_bytes-to_le_bytes_4 caller.uid fits.op.0.0)
+    (from_le_bytes-to_le_bytes_4 caller.gid fits.op.0.1.0)
+    (from_le_bytes-to_le_bytes_4 (length caller.groups) fits.op.0.1.1.0) fits.op.0.1.1.1
+seen_by (Some tag) context caller more fits =
+    let n : ℕ = length (ask_text (Some tag) (hello context caller)) in
+    let small : n < 2 ^ 32 = omega (arith, fits.size) in
+    let size : n ≡ 28 + 4 * length caller.groups =
+    omega (arith, length_numbers caller.groups, ap length (append-nil (encoded caller.groups))) in
+    seen_at (take 32 (ask_frame (Some tag) (hello context caller))) more caller 2 n (inr refl) refl
+    (from_le_bytes-to_le_bytes_4 n small) refl refl size fits.size (from_le_bytes-to_le_bytes_4 caller.uid fits.op.0.0)
+    (from_le_bytes-to_le_bytes_4 caller.gid fits.op.0.1.0)
+    (from_le_bytes-to_le_bytes_4 (length caller.groups) fits.op.0.1.1.0) fits.op.0.1.1.1
 
 seen_ask : (tag : Option ℕ) (context : ℕ) (op : Op) (caller : Caller) (more : List ℕ) → op ≡ AsksHello caller
     → FitsAsk tag (record { context = context; op = op })
@@ -136,12 +112,11 @@ seen_ask tag context op caller more is fits =
     subst (λ op'. FitsAsk tag (record { context = context; op = op' })
     → Sees (ask_frame tag (record { context = context; op = op' }) ++ more) caller
     (front_of (ask_frame tag (record { context = context; op = op' }) ++ more)))
-    (sym is) (λ fits'. seen_by tag context caller more fits') fits
+    (sym is) (seen_by tag context caller more) fits
 
 pub seen : (bytes : List ℕ) (framed : Framed) (more : List ℕ) (caller : Caller) → ((i : ℕ) → slice_index bytes i < 256)
     → read_front bytes ≡ Ok (Some (framed, more)) → framed.ask.op ≡ AsksHello caller
     → Sees bytes caller (front_of bytes)
 seen bytes framed more caller fits is op =
     let p = front_takes bytes framed more fits is in
-    subst (λ bs. Sees bs caller (front_of bs)) (sym p.0)
-    (seen_ask framed.tag framed.ask.context framed.ask.op caller more op p.1)
+    rw p.0 (seen_ask framed.tag framed.ask.context framed.ask.op caller more op p.1)

@@ -1,10 +1,9 @@
 -- What a HELLO says that was made void: its uid is 4294967295, and nothing else has changed.
-use Rattle.std.proofs.Common.{[], ◌++◌, ◌+◌, ◌==◌, ◌||◌, ◌∙◌, ◌∷◌, ◌≡◌, ◌≤◌, ap, arith, drop, length, length-append}
-use Rattle.std.proofs.Common.{length-drop, length-take-le, List, refl, subst, sym, take, take-append-drop, true, w16}
-use Rattle.std.proofs.Common.{w32, ℕ}
-use Rattle.std.specs.Int.{from_le_bytes}
-use Rattle.std.proofs.{Math.Seq.drop-append-add, lemmas.List.{drop-append-le, take-append-le}}
-use Rattle.krs_screen.specs.{Claim.{is_void, some_nobody, voided}, Front.{le16, le32}}
+use Rattle.std.proofs.Common.{[], ◌++◌, ◌+◌, ◌∙◌, ◌∷◌, ◌≡◌, ◌≤◌, ap, arith, drop, length, length-append, length-drop}
+use Rattle.std.proofs.Common.{length-take-le, List, subst, sym, take, take-append-drop, true, w16, w32, ℕ}
+use Rattle.std.specs.Int.{from_le_bytes, to_le_bytes}
+use Rattle.std.proofs.{lemmas.List.{drop-append-le, take-append-le}, Math.Seq.drop-append-add}
+use Rattle.krs_screen.specs.{Claim.{is_void, voided}, Front.{le16, le32, with_le32}}
 
 abbrev nobody : List ℕ
 nobody = 255 ∷ 255 ∷ 255 ∷ 255 ∷ []
@@ -39,19 +38,19 @@ drop_voided bytes at h =
 
 pub le32_voided : (bytes : List ℕ) (at : ℕ) → at ≤ length bytes → le32 (voided bytes at) at ≡ 4294967295
 unfolding le32
-le32_voided bytes at h =
-    subst (λ zs. from_le_bytes w32 (take 4 zs) ≡ 4294967295) (sym (drop_voided bytes at h)) refl
+le32_voided bytes at h = rw (drop_voided bytes at h)
+
+pub length_with : (bytes : List ℕ) (at n : ℕ) → at + 4 ≤ length bytes → length (with_le32 bytes at n) ≡ length bytes
+length_with bytes at n h =
+    let rest : List ℕ = drop 4 (drop at bytes) in
+    let m : length (to_le_bytes w32 n ++ rest) ≡ 4 + length rest = length-append (to_le_bytes w32 n) rest in
+    let l = length-take-le at bytes (omega (arith, h)) in
+    let d = length-drop at bytes in
+    omega (arith, length-append (take at bytes) (to_le_bytes w32 n ++ rest), l, d, length-drop 4 (drop at bytes), m)
 
 pub length_voided : (bytes : List ℕ) (at : ℕ) → at + 4 ≤ length bytes → length (voided bytes at) ≡ length bytes
 unfolding voided
-length_voided bytes at h =
-    let k : at ≤ length bytes = omega (arith, h) in
-    let l = length-take-le at bytes k in
-    let d = length-drop at bytes in
-    let e = length-drop 4 (drop at bytes) in
-    let m : length (nobody ++ drop 4 (drop at bytes))
-    ≡ 4 + length (drop 4 (drop at bytes)) = length-append nobody (drop 4 (drop at bytes)) in
-    omega (arith, length-append (take at bytes) (nobody ++ drop 4 (drop at bytes)), l, d, e, m, h)
+length_voided bytes at h = length_with bytes at 4294967295 h
 
 pub le32_before : (bytes : List ℕ) (at i : ℕ) → i + 4 ≤ at → at ≤ length bytes → le32 (voided bytes at) i ≡ le32 bytes i
 unfolding le32 voided
@@ -71,7 +70,4 @@ drop_behind bytes at n h = behind bytes (nobody ++ drop 4 (drop at bytes)) at (4
 
 pub void_is_void : (bytes : List ℕ) (at count : ℕ) → at ≤ length bytes → is_void (voided bytes at) at count ≡ true
 unfolding is_void
-void_is_void bytes at count h =
-    subst (λ n. (n == 4294967295 || (le32 (voided bytes at) (at + 4) == 4294967295
-    || some_nobody (voided bytes at) (at + 12) count)) ≡ true)
-    (sym (le32_voided bytes at h)) refl
+void_is_void bytes at count h = rw (le32_voided bytes at h)

@@ -1,14 +1,18 @@
 -- How pieces and turns join into a session.
-use Rattle.std.proofs.Common.{[], ◌*◌, ◌++◌, ◌+◌, ◌∙◌, ◌≡◌, ◌≤◌, ap, append-nil, arith, inl, inr, length, length-append}
-use Rattle.std.proofs.{Common.{List, None, refl, Some, subst, sym, ℕ}, lemmas.List.map-append}
-use Rattle.krs_types.specs.declared.{ask.Ask.Ask, event.Event.Event}
+use Rattle.std.proofs.Common.{[], ◌*◌, ◌++◌, ◌+◌, ◌-◌, ◌∙◌, ◌≡◌, ◌≤◌, ap, append-nil, arith, inl, inr, length}
+use Rattle.std.proofs.Common.{length-append, List, None, refl, Some, subst, sym, ℕ}
+use Rattle.krs_types.specs.declared.event.Event.{Event}
 use Rattle.krs_wire.specs.Feeding.{fault_of, Feeds, Refuses}
 use Rattle.krs_wire.specs.{Frame.{bad, End, Frames, rest}, declared.{fault.WireFault.WireFault, framed.Framed.Framed}}
 use Rattle.krs_session.specs.Events.{asks_in, asks_of, replies_of, session_text}
-use Rattle.krs_session.specs.Serving.{Asked, FeedsMore, Finished, PieceEndsBy, PieceServes, Served, StopsBy, TurnEndsBy}
-use Rattle.krs_session.specs.{Serving.Wrote, Session.{AreFirst, counted, Counts, EndsBy, ServesBytes}}
+use Rattle.krs_session.specs.Serving.{Asked, FeedsMore, Finished, PieceEndsBy, PieceServes, Served, Stand}
+use Rattle.krs_session.specs.{Serving.{TurnEndsBy, Wrote}, Session.{AreFirst, counted, Counts, EndsBy, ServesBytes}}
 use Rattle.krs_session.specs.declared.ended.Ended.{Ended, TheVariants.{Closed, Memory, Read, Turns, Wire, Write}}
-use Rattle.krs_session.proofs.JoinLemmas.{asked_joins, front_joins, Joins, text_joins}
+use Rattle.krs_session.proofs.JoinLemmas.{asked_joins, front_joins, Joins, order_joins, text_joins}
+use Rattle.krs_session.specs.declared.clock.Clock as clocks
+use Rattle.krs_session.specs.declared.keeper.Keeper as keepers
+use Rattle.krs_session.specs.declared.source_and_sink.Sink as sinks
+use Rattle.krs_session.specs.declared.source_and_sink.Source as sources
 use Rattle.krs_wire.specs.declared.fault.WireFault.TheVariants as faults
 
 pub refused_more : (old : End) (piece : List ℕ) (fault : WireFault) → fault_of old ≡ None → Refuses old piece fault
@@ -23,24 +27,25 @@ pub refused_fault : (old : End) (piece : List ℕ) (fault : WireFault) → fault
 refused_fault (rest left) piece fault n other r = r.0 other
 refused_fault (bad f) piece fault n other r = absurd cc
 
--- what a piece led to where something stopped the writing
-pub stopped_serves : {W : Type 0} (took : W → List ℕ → W → Type 0) (w0 w1 : W) (f0 f1 : End) (piece : List ℕ)
+-- what a piece led to where something stopped the writing, and what has ended it
+pub stopped_serves : {W : Type 0} (sink : sinks.Ghosts W) (w0 w1 : W) (f0 f1 : End) (piece : List ℕ)
     (frames : List Framed) (text : List ℕ) (stop : Ended) → Feeds f0 piece frames f1
-    → Wrote took w0 w1 text (Some stop) → PieceServes took w0 w1 f0 f1 piece frames text (Some stop)
-stopped_serves took w0 w1 f0 f1 piece frames text Write fed wrote = (fed, wrote)
-stopped_serves took w0 w1 f0 f1 piece frames text Memory fed wrote = inl (fed, wrote)
-stopped_serves took w0 w1 f0 f1 piece frames text Closed fed wrote = absurd wrote
-stopped_serves took w0 w1 f0 f1 piece frames text (Wire fault) fed wrote = absurd wrote
-stopped_serves took w0 w1 f0 f1 piece frames text Read fed wrote = absurd wrote
-stopped_serves took w0 w1 f0 f1 piece frames text Turns fed wrote = absurd wrote
+    → Wrote sink w0 w1 text (Some stop) → PieceServes sink.took w0 w1 f0 f1 piece frames text (Some stop)
+stopped_serves sink w0 w1 f0 f1 piece frames text Write fed wrote = (fed, wrote.0)
+stopped_serves sink w0 w1 f0 f1 piece frames text Memory fed wrote = inl (fed, wrote.0)
+stopped_serves sink w0 w1 f0 f1 piece frames text Closed fed wrote = absurd wrote
+stopped_serves sink w0 w1 f0 f1 piece frames text (Wire fault) fed wrote = absurd wrote
+stopped_serves sink w0 w1 f0 f1 piece frames text Read fed wrote = absurd wrote
+stopped_serves sink w0 w1 f0 f1 piece frames text Turns fed wrote = absurd wrote
 
-pub stopped_ends : (old new : ℕ) (stop : Ended) → StopsBy old new (Some stop) → PieceEndsBy old new (Some stop)
-stopped_ends old new Write by = by
-stopped_ends old new Memory by = by
-stopped_ends old new Closed by = absurd by
-stopped_ends old new (Wire fault) by = absurd by
-stopped_ends old new Read by = absurd by
-stopped_ends old new Turns by = absurd by
+pub stopped_ends : {W : Type 0} (sink : sinks.Ghosts W) (w0 w1 : W) (text : List ℕ) (stop : Ended)
+    → Wrote sink w0 w1 text (Some stop) → PieceEndsBy (sink.failures w0) (sink.failures w1) (Some stop)
+stopped_ends sink w0 w1 text Write wrote = wrote.1
+stopped_ends sink w0 w1 text Memory wrote = wrote.1
+stopped_ends sink w0 w1 text Closed wrote = absurd wrote
+stopped_ends sink w0 w1 text (Wire fault) wrote = absurd wrote
+stopped_ends sink w0 w1 text Read wrote = absurd wrote
+stopped_ends sink w0 w1 text Turns wrote = absurd wrote
 
 -- what is counted as a session ends is so whatever number of reads came before
 counted_on : (first before : Counts) (reads : ℕ) (ended : Ended) → before ≡ record first { reads = before.reads }
@@ -66,15 +71,6 @@ turn_ends turns first before after ended by empties reads writes = record {
   over = λ is. absurd (by.1 is);
 }
 
-pub stopped_unwired : (old new : ℕ) (stop : Ended) → StopsBy old new (Some stop)
-    → Some stop ≡ Some (Wire faults.Memory) → ⊥
-stopped_unwired old new Write by is = cc
-stopped_unwired old new Memory by is = cc
-stopped_unwired old new Closed by is = by
-stopped_unwired old new (Wire fault) by is = by
-stopped_unwired old new Read by is = by
-stopped_unwired old new Turns by is = by
-
 fault_behind : (f : End) (fault : WireFault) → fault_of f ≡ Some fault → f ≡ bad fault
 fault_behind (rest left) fault is = absurd cc
 fault_behind (bad other) fault is = cc
@@ -86,18 +82,18 @@ faulty_feeds f0 f1 piece frames fault is fed =
     subst (λ (f : End). Feeds f0 piece frames f) (fault_behind f1 fault is) fed
 
 -- the session so far, where nothing has ended it
-pub record SoFar {R S C W : Type 0} (gave : R → List ℕ → R → Type 0) (leads : S → List Event → S → Type 0)
-    (ticked : C → List ℕ → C → Type 0) (took : W → List ℕ → W → Type 0) (lane made : ℕ) (r0 r1 : R) (s0 s1 : S)
-    (c0 c1 : C) (w0 w1 : W) (f1 : End) : Type 0 where
+pub record SoFar {R S D H C W : Type 0} (source : sources.Ghosts R) (keeper : keepers.Ghosts D S H)
+    (timer : clocks.Ghosts C) (sink : sinks.Ghosts W) (made : ℕ) (r0 r1 : R) (a b : Stand S C W) (f1 : End)
+    : Type 0 where
   pub bytes : List ℕ
   pub frames : List Framed
   pub events : List Event
-  pub read : gave r0 bytes r1
+  pub read : source.gave r0 bytes r1
   pub size : length bytes ≤ 4096 * made
   pub order : asks_of events ≡ asks_in frames
-  pub asked : Asked leads ticked lane s0 s1 c0 c1 events
+  pub asked : Asked keeper timer a.seat b.seat a.clock b.clock events
   pub cut : Frames bytes frames f1
-  pub wrote : took w0 (session_text frames (replies_of events)) w1
+  pub wrote : sink.took a.writer (session_text frames (replies_of events)) b.writer
 
 fed_on : (f0 f1 : End) (bytes piece : List ℕ) (frames more : List Framed) → fault_of f0 ≡ None
     → Frames bytes frames f0 → Feeds f0 piece more f1 → Frames (bytes ++ piece) (frames ++ more) f1
@@ -146,71 +142,65 @@ module _ {W : Type 0} (took : W → List ℕ → W → Type 0) (joins : Joins to
       (unread_cut f0 bytes piece frames more n h p.0 p.1, joins w0 w1 w2 xs ys t p.2)
   piece_ends w0 w1 w2 f0 f1 bytes piece frames more xs ys Turns n h t p = absurd p
 
-order_joins : (xs ys : List Event) (fs gs : List Framed) → asks_of xs ≡ asks_in fs → asks_of ys ≡ asks_in gs
-    → asks_of (xs ++ ys) ≡ asks_in (fs ++ gs)
-order_joins xs ys fs gs a b =
-    map-append (λ (x : Event). x.ask) xs ys ∙ ap (λ (x : List Ask). x ++ asks_of ys) a
-    ∙ ap (λ (x : List Ask). asks_in fs ++ x) b ∙ sym (map-append (λ (x : Framed). x.ask) fs gs)
-
-module _ {R S C W : Type 0} (gave : R → List ℕ → R → Type 0) (leads : S → List Event → S → Type 0)
-    (ticked : C → List ℕ → C → Type 0) (took : W → List ℕ → W → Type 0)
-    (gives : Joins gave) (led : (a b c : S) (p q : List Event) → leads a p b → leads b q c → leads a (p ++ q) c)
-    (ticks : Joins ticked) (takes : Joins took) where
-  pub so_far_more : (lane made mid : ℕ) (r0 r1 r2 : R) (s0 s1 s2 : S) (c0 c1 c2 : C) (w0 w1 w2 : W) (f1 f2 : End)
-      (piece : List ℕ) → fault_of f1 ≡ None
-      → SoFar gave leads ticked took lane made r0 r1 s0 s1 c0 c1 w0 w1 f1 → gave r1 piece r2 → length piece ≤ 4096
-      → mid ≡ lane → Served leads ticked took mid s1 s2 c1 c2 w1 w2 f1 f2 piece None
-      → SoFar gave leads ticked took lane (made + 1) r0 r2 s0 s2 c0 c2 w0 w2 f2
-  so_far_more lane made mid r0 r1 r2 s0 s1 s2 c0 c1 c2 w0 w1 w2 f1 f2 piece n a g small same served =
-      let b = subst (λ (n : ℕ). Served leads ticked took n s1 s2 c1 c2 w1 w2 f1 f2 piece None) same served in
+module _ {R S D H C W : Type 0} (source : sources.Ghosts R) (keeper : keepers.Ghosts D S H)
+    (timer : clocks.Ghosts C) (sink : sinks.Ghosts W) (gives : Joins source.gave) (led : Joins keeper.leads)
+    (ticks : Joins timer.ticked) (takes : Joins sink.took) where
+  pub so_far_more : (made : ℕ) (r0 r1 r2 : R) (a b c : Stand S C W) (f1 f2 : End) (piece : List ℕ)
+      → fault_of f1 ≡ None → SoFar source keeper timer sink made r0 r1 a b f1 → source.gave r1 piece r2
+      → length piece ≤ 4096 → keeper.lane_of b.seat ≡ keeper.lane_of a.seat
+      → Served keeper timer sink b c f1 f2 piece None → SoFar source keeper timer sink (made + 1) r0 r2 a c f2
+  so_far_more made r0 r1 r2 a b c f1 f2 piece n so_far g small lane more =
       record {
-        bytes = a.bytes ++ piece;
-        frames = a.frames ++ b.frames;
-        events = a.events ++ b.events;
-        read = gives r0 r1 r2 a.bytes piece a.read g;
-        size = omega (arith, a.size, length-append a.bytes piece);
-        order = order_joins a.events b.events a.frames b.frames a.order b.order;
-        asked = asked_joins leads ticked lane s0 s1 s2 c0 c1 c2 a.events b.events led ticks a.asked b.asked;
-        cut = fed_on f1 f2 a.bytes piece a.frames b.frames n a.cut b.served.0;
-        wrote = subst (λ (x : List ℕ). took w0 x w2) (sym (text_joins a.frames b.frames a.events b.events a.order))
-            (takes w0 w1 w2 (session_text a.frames (replies_of a.events)) (session_text b.frames (replies_of b.events))
-            a.wrote b.served.2);
+        bytes = so_far.bytes ++ piece;
+        frames = so_far.frames ++ more.frames;
+        events = so_far.events ++ more.events;
+        read = gives r0 r1 r2 so_far.bytes piece so_far.read g;
+        size = omega (arith, so_far.size, length-append so_far.bytes piece);
+        order = order_joins so_far.events more.events so_far.frames more.frames so_far.order more.order;
+        asked = asked_joins keeper timer a.seat b.seat c.seat a.clock b.clock c.clock so_far.events more.events led
+            ticks lane so_far.asked more.asked;
+        cut = fed_on f1 f2 so_far.bytes piece so_far.frames more.frames n so_far.cut more.served.0;
+        wrote = subst (λ (x : List ℕ). sink.took a.writer x c.writer)
+            (sym (text_joins so_far.frames more.frames so_far.events more.events so_far.order))
+            (takes a.writer b.writer c.writer (session_text so_far.frames (replies_of so_far.events))
+            (session_text more.frames (replies_of more.events)) so_far.wrote more.served.2);
       }
 
-  pub so_far_ends : (lane made reads mid : ℕ) (r0 r1 r2 : R) (s0 s1 s2 : S) (c0 c1 c2 : C) (w0 w1 w2 : W)
-      (f1 f2 : End) (piece : List ℕ) (ended : Ended) → fault_of f1 ≡ None
-      → SoFar gave leads ticked took lane made r0 r1 s0 s1 c0 c1 w0 w1 f1 → gave r1 piece r2 → length piece ≤ 4096
-      → reads ≡ made + 1 → mid ≡ lane → Served leads ticked took mid s1 s2 c1 c2 w1 w2 f1 f2 piece (Some ended)
-      → Finished gave leads ticked took lane reads r0 r2 s0 s2 c0 c2 w0 w2 ended
-  so_far_ends lane made reads mid r0 r1 r2 s0 s1 s2 c0 c1 c2 w0 w1 w2 f1 f2 piece ended n a g small all same served =
-      let b = subst (λ (n : ℕ). Served leads ticked took n s1 s2 c1 c2 w1 w2 f1 f2 piece (Some ended)) same served in
+  pub so_far_ends : (made : ℕ) (r0 r1 r2 : R) (a b c : Stand S C W) (f1 f2 : End) (piece : List ℕ) (ended : Ended)
+      → fault_of f1 ≡ None → SoFar source keeper timer sink made r0 r1 a b f1 → source.gave r1 piece r2
+      → length piece ≤ 4096 → source.reads r2 - source.reads r0 ≡ made + 1
+      → keeper.lane_of b.seat ≡ keeper.lane_of a.seat
+      → Served keeper timer sink b c f1 f2 piece (Some ended) → Finished source keeper timer sink r0 r2 a c ended
+  so_far_ends made r0 r1 r2 a b c f1 f2 piece ended n so_far g small all lane more =
       record {
-        bytes = a.bytes ++ piece;
-        frames = a.frames ++ b.frames;
-        events = a.events ++ b.events;
-        read = gives r0 r1 r2 a.bytes piece a.read g;
-        size = omega (arith, a.size, length-append a.bytes piece);
-        order = order_joins a.events b.events a.frames b.frames a.order b.order;
-        asked = asked_joins leads ticked lane s0 s1 s2 c0 c1 c2 a.events b.events led ticks a.asked b.asked;
-        served =
-            subst (λ (x : List ℕ). ServesBytes (λ text. took w0 text w2) (a.bytes ++ piece) (a.frames ++ b.frames) x
-            ended) (sym (text_joins a.frames b.frames a.events b.events a.order))
-            (piece_ends took takes w0 w1 w2 f1 f2 a.bytes piece a.frames b.frames
-            (session_text a.frames (replies_of a.events)) (session_text b.frames (replies_of b.events)) ended n a.cut
-            a.wrote b.served);
+        bytes = so_far.bytes ++ piece;
+        frames = so_far.frames ++ more.frames;
+        events = so_far.events ++ more.events;
+        read = gives r0 r1 r2 so_far.bytes piece so_far.read g;
+        size = omega (arith, so_far.size, length-append so_far.bytes piece);
+        order = order_joins so_far.events more.events so_far.frames more.frames so_far.order more.order;
+        asked = asked_joins keeper timer a.seat b.seat c.seat a.clock b.clock c.clock so_far.events more.events led
+            ticks lane so_far.asked more.asked;
+        served = subst (λ (x : List ℕ). ServesBytes (λ text. sink.took a.writer text c.writer) (so_far.bytes ++ piece)
+            (so_far.frames ++ more.frames) x ended)
+            (sym (text_joins so_far.frames more.frames so_far.events more.events so_far.order))
+            (piece_ends sink.took takes a.writer b.writer c.writer f1 f2 so_far.bytes piece so_far.frames more.frames
+            (session_text so_far.frames (replies_of so_far.events)) (session_text more.frames (replies_of more.events))
+            ended n so_far.cut so_far.wrote more.served);
       }
 
-  pub so_far_none : (lane : ℕ) (r : R) (s t : S) (c : C) (w : W) (f : End) → gave r [] r → leads s [] t
-      → ticked c [] c → took w [] w → Frames [] [] f → SoFar gave leads ticked took lane 0 r r s t c c w w f
-  so_far_none lane r s t c w f a b d e h =
+  pub so_far_none : (r : R) (a b : Stand S C W) (f : End) → source.gave r [] r → keeper.leads a.seat [] b.seat
+      → timer.ticked a.clock [] b.clock → sink.took a.writer [] b.writer → Frames [] [] f
+      → SoFar source keeper timer sink 0 r r a b f
+  so_far_none r a b f gave led_none ticked_none took_none cut =
       record {
         bytes = [];
         frames = [];
         events = [];
-        read = a;
+        read = gave;
         size = omega arith;
         order = refl;
-        asked = record { led = b; moments = d; lanes = tt };
-        cut = h;
-        wrote = e;
+        asked = record { led = led_none; moments = ticked_none; lanes = tt };
+        cut = cut;
+        wrote = took_none;
       }

@@ -1,7 +1,6 @@
 pub mod Events
 pub mod Session
 pub mod Calls
-pub mod Long
 pub mod Alike
 pub mod Serving
 pub mod Over

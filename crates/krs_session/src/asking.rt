@@ -1,31 +1,20 @@
 // The asks of a session.
 ghost use Rattle.std.specs.Prelude.{[], ◌<◌, ◌∷◌, ◌≡◌, ◌≢◌, false, None, Some, true};
-ghost use Rattle.krs_types.specs.declared.event.Event.{Event};
+ghost use Rattle.krs_types.specs.{Rows.row_of, declared.event.Event.Event};
 ghost use Rattle.krs_model.specs.History.{event_of};
 ghost use Rattle.krs_store.specs.Told.{bytes_of, reply_of};
 ghost use Rattle.krs_wire.specs.Reply.{reply_frame};
-ghost use Rattle.krs_session.specs.{Long.is_long, Replies.{HoldsFrame, TellsNext}};
-ghost use Rattle.krs_session.specs.Serving.{AsksAndHolds, AsksAndWrites, Asked, IsAskedAnew};
-ghost use Rattle.krs_session.specs.Serving.{PendingNext, StopsBy, StopsNext};
+ghost use Rattle.krs_session.specs.Replies.{HoldsFrame};
+ghost use Rattle.krs_session.specs.Serving.{Asked, AsksAndHolds, AsksAndWrites, IsAskedAnew, MayServe, OnlyWrites};
+ghost use Rattle.krs_session.specs.Serving.{PendingNext, ReadsNothing, RestsUnless, stand, Stays, TellsNext};
 
-use crate::writing::{flush, forget, send_reply};
+use crate::connection::{Connection, Setting};
+use crate::writing::forget;
 use crate::{Clock, Ended, Gate, Keeper, Point, Replies, Sink};
 use krs_store::Told;
-use krs_types::{Ask, Op, Reply};
+use krs_types::{Ask, Reply};
 use krs_wire::Framed;
-use std::alloc::Global;
 use std::collections::VecDeque;
-
-/// What stays the same over a session: the runtime of the desk's calls, the memory, the desk, the gate, and how many turns
-/// there are at most.
-#[derive(Drop)]
-pub(crate) struct Setting<'a, H, D, G> {
-    pub rt: &'a H,
-    pub alloc: Global,
-    pub desk: &'a D,
-    pub gate: &'a G,
-    pub turns: u64,
-}
 
 /// One ask at the clock's moment, and its reply.
 pub(crate) fn ask_one<H, S, D: Keeper<S, H>, C: Clock, G: Gate>(
@@ -36,7 +25,7 @@ pub(crate) fn ask_one<H, S, D: Keeper<S, H>, C: Clock, G: Gate>(
 ) -> Reply
     requires { D.ready setting.now.desk.now seat.old }
     ensures asked { (event : Event) × (event.ask ≡ ask) × (event.reply ≡ result)
-        × Asked D.leads C.ticked (D.lane_of seat.old) seat.old seat.new clock.old clock.new (event ∷ []) }
+        × Asked D.Keeper C.Clock seat.old seat.new clock.old clock.new (event ∷ []) }
     ensures anew { IsAskedAnew C.renewed clock.old }
     ensures ready { D.ready setting.now.desk.now seat.new }
     ensures lane { D.lane_of seat.new ≡ D.lane_of seat.old }
@@ -48,27 +37,6 @@ pub(crate) fn ask_one<H, S, D: Keeper<S, H>, C: Clock, G: Gate>(
     let reply = setting.desk.call(setting.rt, seat, moment, ask);
     setting.gate.pass(lane, Point::Answered);
     reply
-}
-
-/// Whether an ask may walk far, or make or drop much: behind such a one others don't wait for more.
-fn is_long(op: &Op) -> bool
-    ensures { result ≡ is_long op.now }
-{
-    matches!(
-        op,
-        Op::Link { .. }
-            | Op::Move { .. }
-            | Op::Search { .. }
-            | Op::Request { .. }
-            | Op::Revoke { .. }
-            | Op::Invalidate { .. }
-            | Op::Clear { .. }
-            | Op::Join { .. }
-            | Op::CloseQueue { .. }
-            | Op::Exec
-            | Op::Exit
-            | Op::Leave
-    )
 }
 
 /// One ask at a moment among those of a piece, and its reply, which may be held then. Where more follow, others may
@@ -87,9 +55,9 @@ fn ask_among<H, S, D: Keeper<S, H>, G: Gate>(
     ensures ready { D.ready setting.now.desk.now seat.new }
     ensures lane { D.lane_of seat.new ≡ D.lane_of seat.old }
     ensures rested { more ≡ false → D.rested seat.new }
-    ensures long { is_long ask.op ≡ true → D.rested seat.new }
+    ensures long { (row_of ask.op).long ≡ true → D.rested seat.new }
 {
-    let goes_on = more && !setting.gate.may_hold() && !is_long(&ask.op);
+    let goes_on = more && !setting.gate.may_hold() && !ask.op.is_long();
     let lane = setting.desk.lane(seat);
     setting.gate.pass(lane, Point::Asked);
     let told = setting
@@ -110,119 +78,88 @@ fn moment_of<C: Clock>(clock: &mut C, was_asked: bool) -> u64
     clock.now()
 }
 
-/// A reply is held or written where nothing stopped the writing before.
-fn reply_behind<H, W: Sink, S, D: Keeper<S, H>, G: Gate>(
-    setting: &Setting<'_, H, D, G>,
-    writer: &mut W,
-    out: &mut Vec<u8>,
-    seat: &mut S,
-    tag: Option<u64>,
-    reply: Reply,
-    stop: Option<Ended>,
-) -> Option<Ended>
-    requires ready { D.ready setting.now.desk.now seat.old }
-    requires failures { stop ≡ None → W.failures writer.old < u64.MAX }
-    ensures sent { PendingNext W.took writer.old writer.new out.old.items out.new.items
-        (reply_frame tag reply) stop result }
-    ensures count { StopsNext (W.failures writer.old) (W.failures writer.new) stop result }
+impl<H, W: Sink, S, D: Keeper<S, H>, C: Clock, G: Gate> Connection<'_, H, W, S, D, C, G> {
+    /// A reply is held or written where nothing stopped the writing before.
+    fn reply_behind(&mut self, tag: Option<u64>, reply: Reply, stop: Option<Ended>) -> Option<Ended>
+        requires ready { D.ready self.old.setting.now.desk.now self.old.seat.now }
+        requires failures { stop ≡ None → W.failures self.old.writer.now < u64.MAX }
+        ensures sent { PendingNext W.Sink self.old.writer.now self.new.writer.now
+            self.old.held.now.out.bytes.items self.new.held.now.out.bytes.items (reply_frame tag reply) stop result }
 
-    // Where it ends for memory, the replies that were held before are written.
-    ensures memory { stop ≡ None → result ≡ Some Ended.Memory → W.took writer.old out.old.items writer.new }
-    ensures led { D.leads seat.old [] seat.new }
-    ensures ready { D.ready setting.now.desk.now seat.new }
-    ensures lane { D.lane_of seat.new ≡ D.lane_of seat.old }
-{
-    match stop {
-        None => send_reply(setting, writer, out, seat, tag, &reply),
-        Some(_) => stop,
-    }
-}
-
-/// The same of a reply that may be held already.
-fn told_behind<H, W: Sink, S, D: Keeper<S, H>, G: Gate>(
-    setting: &Setting<'_, H, D, G>,
-    writer: &mut W,
-    out: &mut Replies,
-    seat: &mut S,
-    tag: Option<u64>,
-    told: Told,
-    stop: Option<Ended>,
-) -> Option<Ended>
-    requires ready { D.ready setting.now.desk.now seat.old }
-    requires failures { stop ≡ None → W.failures writer.old < u64.MAX }
-    ensures sent { TellsNext W.took writer.old writer.new out.old out.new tag told stop result }
-    ensures count { StopsNext (W.failures writer.old) (W.failures writer.new) stop result }
-    ensures led { D.leads seat.old [] seat.new }
-    ensures ready { D.ready setting.now.desk.now seat.new }
-    ensures lane { D.lane_of seat.new ≡ D.lane_of seat.old }
-{
-    match told {
-        Told::Taken(_) => stop,
-        Told::Reply(reply) => {
-            reply_behind(setting, writer, &mut out.bytes, seat, tag, reply, stop)
+        // Where it ends for memory, the replies that were held before are written.
+        ensures memory { stop ≡ None → result ≡ Some Ended.Memory
+            → W.took self.old.writer.now self.old.held.now.out.bytes.items self.new.writer.now }
+        ensures writes { OnlyWrites D.Keeper self.old self.new }
+        ensures stays { Stays D.Keeper self.old self.new }
+    {
+        match stop {
+            None => self.send_reply(tag, &reply),
+            Some(_) => stop,
         }
     }
-}
 
-/// Asks what all the frames ask, which are taken out: the clock is asked once for all of them. The replies are held or
-/// written while nothing stops the writing.
-fn ask_all<H, W: Sink, S, D: Keeper<S, H>, C: Clock, G: Gate>(
-    setting: &Setting<'_, H, D, G>,
-    writer: &mut W,
-    out: &mut Replies,
-    seat: &mut S,
-    clock: &mut C,
-    frames: &mut VecDeque<Framed>,
-) -> Option<Ended>
-    requires ready { D.ready setting.now.desk.now seat.old }
-    requires failures { W.failures writer.old < u64.MAX }
-    requires empty { out.old.bytes.items ≡ [] }
-    ensures holds { AsksAndHolds D.leads C.ticked W.took (D.lane_of seat.old) seat.old seat.new clock.old clock.new
-        writer.old writer.new out.new.bytes.items frames.old.items result }
-    ensures count { StopsBy (W.failures writer.old) (W.failures writer.new) result }
-    ensures anew { frames.old.items ≢ [] → IsAskedAnew C.renewed clock.old }
-    ensures ready { D.ready setting.now.desk.now seat.new }
-    ensures lane { D.lane_of seat.new ≡ D.lane_of seat.old }
-{
-    let mut stop = None;
-    let mut was_asked = false;
-    'frames: while let Some(framed) = frames.pop_front() {
-        let Framed { ask, tag } = framed;
-        let moment = moment_of(clock, was_asked);
-        was_asked = true;
-        let more = !frames.is_empty();
-        out.tag = tag;
-        let told = ask_among(setting, seat, moment, ask, more, out);
-        stop = told_behind(setting, writer, out, seat, tag, told, stop);
+    /// The same of a reply that may be held already.
+    fn told_behind(&mut self, tag: Option<u64>, told: Told, stop: Option<Ended>) -> Option<Ended>
+        requires ready { D.ready self.old.setting.now.desk.now self.old.seat.now }
+        requires failures { stop ≡ None → W.failures self.old.writer.now < u64.MAX }
+        ensures sent { TellsNext W.Sink self.old.writer.now self.new.writer.now
+            self.old.held.now.out self.new.held.now.out tag told stop result }
+        ensures writes { OnlyWrites D.Keeper self.old self.new }
+        ensures stays { Stays D.Keeper self.old self.new }
+    {
+        match told {
+            Told::Taken(_) => stop,
+            Told::Reply(reply) => self.reply_behind(tag, reply, stop),
+        }
     }
-    stop
-}
 
-/// Asks what all the frames ask, which are taken out, and writes the replies together while nothing stops it. `out` is room for those that
-/// are not written yet: what stands there before means nothing.
-pub(crate) fn answer_all<H, W: Sink, S, D: Keeper<S, H>, C: Clock, G: Gate>(
-    setting: &Setting<'_, H, D, G>,
-    writer: &mut W,
-    out: &mut Replies,
-    seat: &mut S,
-    clock: &mut C,
-    frames: &mut VecDeque<Framed>,
-) -> Option<Ended>
-    requires ready { D.ready setting.now.desk.now seat.old }
-    requires failures { W.failures writer.old < u64.MAX }
-    ensures answers { AsksAndWrites D.leads C.ticked W.took (D.lane_of seat.old)
-        seat.old seat.new clock.old clock.new writer.old writer.new frames.old.items result }
-    ensures count { StopsBy (W.failures writer.old) (W.failures writer.new) result }
-    ensures ready { D.ready setting.now.desk.now seat.new }
-    ensures lane { D.lane_of seat.new ≡ D.lane_of seat.old }
-    ensures rested { result ≡ None → D.rested seat.new }
-{
-    out.bytes.clear();
-    match ask_all(setting, writer, out, seat, clock, frames) {
-        None => flush(setting, writer, &mut out.bytes, seat),
-        Some(stop) => {
-            forget(&mut out.bytes);
-            Some(stop)
+    /// Asks what all the frames ask, which are taken out: the clock is asked once for all of them. The replies are held
+    /// or written while nothing stops the writing.
+    fn ask_all(&mut self, frames: &mut VecDeque<Framed>) -> Option<Ended>
+        requires able { MayServe D.Keeper W.Sink self.old }
+        requires empty { self.old.held.now.out.bytes.items ≡ [] }
+        ensures holds { AsksAndHolds D.Keeper C.Clock W.Sink (stand self.old) (stand self.new)
+            self.new.held.now.out.bytes.items frames.old.items result }
+        ensures anew { frames.old.items ≢ [] → IsAskedAnew C.renewed self.old.clock.now }
+        ensures reads { ReadsNothing self.old self.new }
+        ensures stays { Stays D.Keeper self.old self.new }
+    {
+        let mut stop = None;
+        let mut was_asked = false;
+        'frames: while let Some(framed) = frames.pop_front() {
+            let Framed { ask, tag } = framed;
+            let moment = moment_of(self.clock, was_asked);
+            was_asked = true;
+            let more = !frames.is_empty();
+            self.held.out.tag = tag;
+            let told = ask_among(
+                self.setting,
+                self.seat,
+                moment,
+                ask,
+                more,
+                &mut self.held.out,
+            );
+            stop = self.told_behind(tag, told, stop);
+        }
+        stop
+    }
+
+    /// Asks what all the frames ask, which are taken out, and writes the replies together while nothing stops it. What
+    /// is held before means nothing.
+    pub(crate) fn answer_all(&mut self, frames: &mut VecDeque<Framed>) -> Option<Ended>
+        requires able { MayServe D.Keeper W.Sink self.old }
+        ensures asks { AsksAndWrites D.Keeper C.Clock W.Sink (stand self.old) (stand self.new) frames.old.items result }
+        ensures reads { ReadsNothing self.old self.new }
+        ensures rests { RestsUnless D.Keeper self.old self.new result }
+    {
+        self.held.out.bytes.clear();
+        match self.ask_all(frames) {
+            None => self.flush(),
+            Some(stop) => {
+                forget(&mut self.held.out.bytes);
+                Some(stop)
+            }
         }
     }
 }

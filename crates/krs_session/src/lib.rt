@@ -5,6 +5,8 @@
 
 mod asking;
 mod clock;
+mod connection;
+mod cutting;
 mod desk;
 mod ended;
 mod gate;

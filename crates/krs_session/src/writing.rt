@@ -1,10 +1,11 @@
 // The writing end of a session.
 ghost use Rattle.std.specs.Prelude.{[], ◌++◌, ◌+◌, ◌<◌, ◌≡◌, ◌≢◌, All, OnErr, OnOk, Some, vec_len};
 ghost use Rattle.krs_wire.specs.Reply.{reply_frame};
-ghost use Rattle.krs_session.specs.{Serving.{Pending, StopsBy, Wrote}, Session.TookFront};
+ghost use Rattle.krs_session.specs.Serving.{MayServe, OnlyWrites, Pending, Stays, Wrote};
+ghost use Rattle.krs_session.specs.Session.{TookFront};
 
-use crate::asking::Setting;
-use crate::{Ended, Failed, Gate, Keeper, Sink};
+use crate::connection::Connection;
+use crate::{Ended, Failed, Keeper, Sink};
 use krs_types::Reply;
 use krs_wire::append_reply;
 
@@ -66,63 +67,49 @@ pub(crate) fn forget(out: &mut Vec<u8>)
     take_out(out);
 }
 
-/// Writes the replies that are held, and wipes them. As that may block, the seat rests first. What stops the writing is
-/// the answer.
-pub(crate) fn flush<H, W: Sink, S, D: Keeper<S, H>, G: Gate>(
-    setting: &Setting<'_, H, D, G>,
-    writer: &mut W,
-    out: &mut Vec<u8>,
-    seat: &mut S,
-) -> Option<Ended>
-    requires ready { D.ready setting.now.desk.now seat.old }
-    requires failures { W.failures writer.old < u64.MAX }
-    ensures wrote { Wrote W.took writer.old writer.new out.old.items result }
-    ensures count { StopsBy (W.failures writer.old) (W.failures writer.new) result }
-    ensures not_memory { result ≢ Some Ended.Memory }
-    ensures empty { out.new.items ≡ [] }
-    ensures led { D.leads seat.old [] seat.new }
-    ensures ready { D.ready setting.now.desk.now seat.new }
-    ensures lane { D.lane_of seat.new ≡ D.lane_of seat.old }
-    ensures rested { D.rested seat.new }
-{
-    setting.desk.rest(seat);
-    let written = write_all::<H, W, S, D>(writer, out, seat);
-    forget(out);
-    match written {
-        Ok(()) => None,
-        Err(_) => Some(Ended::Write),
+impl<H, W: Sink, S, D: Keeper<S, H>, C, G> Connection<'_, H, W, S, D, C, G> {
+    /// Writes the replies that are held, and wipes them. As that may block, the seat rests first. What stops the
+    /// writing is the answer.
+    pub(crate) fn flush(&mut self) -> Option<Ended>
+        requires able { MayServe D.Keeper W.Sink self.old }
+        ensures wrote { Wrote W.Sink self.old.writer.now self.new.writer.now self.old.held.now.out.bytes.items result }
+        ensures not_memory { result ≢ Some Ended.Memory }
+        ensures empty { self.new.held.now.out.bytes.items ≡ [] }
+        ensures writes { OnlyWrites D.Keeper self.old self.new }
+        ensures stays { Stays D.Keeper self.old self.new }
+        ensures rested { D.rested self.new.seat.now }
+    {
+        self.setting.desk.rest(self.seat);
+        let held = &mut *self.held;
+        let written = write_all::<H, W, S, D>(self.writer, &held.out.bytes, self.seat);
+        forget(&mut held.out.bytes);
+        match written {
+            Ok(()) => None,
+            Err(_) => Some(Ended::Write),
+        }
     }
-}
 
-/// Holds a reply to an ask with this tag, or with none, and writes what is held once that is much. Where no memory is
-/// left for the reply, what was held before it is written. What stops the writing is the answer.
-pub(crate) fn send_reply<H, W: Sink, S, D: Keeper<S, H>, G: Gate>(
-    setting: &Setting<'_, H, D, G>,
-    writer: &mut W,
-    out: &mut Vec<u8>,
-    seat: &mut S,
-    tag: Option<u64>,
-    reply: &Reply,
-) -> Option<Ended>
-    requires ready { D.ready setting.now.desk.now seat.old }
-    requires failures { W.failures writer.old < u64.MAX }
-    ensures sent { Pending W.took writer.old writer.new out.new.items
-        (out.old.items ++ reply_frame tag reply.now) result }
-    ensures count { StopsBy (W.failures writer.old) (W.failures writer.new) result }
-    ensures memory { result ≡ Some Ended.Memory → W.took writer.old out.old.items writer.new }
-    ensures bounded { vec_len out.new < 65536 }
-    ensures led { D.leads seat.old [] seat.new }
-    ensures ready { D.ready setting.now.desk.now seat.new }
-    ensures lane { D.lane_of seat.new ≡ D.lane_of seat.old }
-{
-    if append_reply(out, tag, reply).is_err() {
-        return match flush(setting, writer, out, seat) {
-            None => Some(Ended::Memory),
-            Some(stop) => Some(stop),
-        };
+    /// Holds a reply to an ask with this tag, or with none, and writes what is held once that is much. Where no memory
+    /// is left for the reply, what was held before it is written. What stops the writing is the answer.
+    pub(crate) fn send_reply(&mut self, tag: Option<u64>, reply: &Reply) -> Option<Ended>
+        requires able { MayServe D.Keeper W.Sink self.old }
+        ensures sent { Pending W.Sink self.old.writer.now self.new.writer.now self.new.held.now.out.bytes.items
+            (self.old.held.now.out.bytes.items ++ reply_frame tag reply.now) result }
+        ensures memory { result ≡ Some Ended.Memory
+            → W.took self.old.writer.now self.old.held.now.out.bytes.items self.new.writer.now }
+        ensures bounded { vec_len self.new.held.now.out.bytes < 65536 }
+        ensures writes { OnlyWrites D.Keeper self.old self.new }
+        ensures stays { Stays D.Keeper self.old self.new }
+    {
+        if append_reply(&mut self.held.out.bytes, tag, reply).is_err() {
+            return match self.flush() {
+                None => Some(Ended::Memory),
+                Some(stop) => Some(stop),
+            };
+        }
+        if self.held.out.bytes.len() < FLUSH_SIZE {
+            return None;
+        }
+        self.flush()
     }
-    if out.len() < FLUSH_SIZE {
-        return None;
-    }
-    flush(setting, writer, out, seat)
 }

@@ -13,7 +13,7 @@ use krs_types::{Ask, Op, asks};
 use std::alloc::Global;
 
 macro_rules! readings {
-    ($which:expr, $alloc:expr, $body:expr; $($ask:ident $number:literal $shape:ident $grows:tt $fields:tt;)*) => {
+    ($which:expr, $alloc:expr, $body:expr; $($ask:ident $number:literal $shape:ident $marks:tt $fields:tt;)*) => {
         match $which {
             $($number => readings!(@row $alloc, $body, $ask $fields),)*
             _ => Err(WireFault::BadOp),

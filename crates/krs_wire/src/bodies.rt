@@ -122,7 +122,7 @@ fn put_four<A: PutForm, B: PutForm, C: PutForm, D: PutForm>(
 }
 
 macro_rules! writings {
-    ($op:expr, $out:expr; $($ask:ident $number:literal $shape:ident $grows:tt $fields:tt;)*) => {
+    ($op:expr, $out:expr; $($ask:ident $number:literal $shape:ident $marks:tt $fields:tt;)*) => {
         match $op {
             $(writings!(@ask $ask $fields) => writings!(@body $out, $fields),)*
         }

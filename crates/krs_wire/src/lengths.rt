@@ -34,7 +34,7 @@ fn caller_length(caller: &Caller) -> usize
 }
 
 macro_rules! lengths {
-    ($op:expr; $($ask:ident $number:literal $shape:ident $grows:tt $fields:tt;)*) => {
+    ($op:expr; $($ask:ident $number:literal $shape:ident $marks:tt $fields:tt;)*) => {
         match $op {
             $(lengths!(@ask $ask $fields) => lengths!(@body $fields),)*
         }

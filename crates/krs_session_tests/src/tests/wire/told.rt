@@ -14,7 +14,7 @@ enum Value<'a> {
 
 /// Of each row the name and the fields.
 macro_rules! tellings {
-    ($alloc:expr, $op:expr; $($ask:ident $number:literal $shape:ident $grows:tt $fields:tt;)*) => {
+    ($alloc:expr, $op:expr; $($ask:ident $number:literal $shape:ident $marks:tt $fields:tt;)*) => {
         match $op {
             $(tellings!(@ask $ask $fields) => tell($alloc, stringify!($ask), &tellings!(@fields $fields)),)*
         }

@@ -1,8 +1,7 @@
 use Rattle.std.proofs.Common.{[], inr, refl, subst, sym}
 use Rattle.krs_wire.specs.{Feeding.Feeds, Frame.End}
 use Rattle.krs_session.proofs.PieceLemmas.{faulty_feeds, refused_fault, refused_more, stopped_ends, stopped_serves}
-use Rattle.krs_session.proofs.PieceLemmas.{stopped_unwired}
-use Rattle.krs_session.proofs.session.serve_piece.Goals as goal
+use Rattle.krs_session.proofs.connection.Connection.serve_piece.Goals as goal
 
 pub returns-in-Memory-clause-served : goal.returns-in-Memory-clause-served
 returns-in-Memory-clause-served g c = record {
@@ -25,49 +24,46 @@ returns-in_default-clause-served g c = record {
   );
 }
 
-pub returns-in_default-clause-not_wire : goal.returns-in_default-clause-not_wire
-returns-in_default-clause-not_wire g c = λ is. c.in_default.not-Memory (cc is)
+pub returns-in_default-clause-count : goal.returns-in_default-clause-count
+returns-in_default-clause-count g c = (refl, c.in_default.not-Memory)
 
 pub returns-in-Some-clause-served : goal.returns-in-Some-clause-served
 returns-in-Some-clause-served g c =
-    let e = c.in-Some.ensures.answers in
+    let e = c.in-Some.ensures.asks in
     let fed =
-    subst (λ (f : End). Feeds c.args.held.now.feed c.args.piece.now c.in-Ok.frames.items f) (sym c.in-Some.ensures.feed)
-    c.in-Ok.ensures.frames in
+    subst (λ (f : End). Feeds c.args.self.now.held.now.feed c.args.piece.now c.in-Ok.frames.items f)
+    (sym c.in-Some.ensures.feed) c.in-Ok.ensures.frames in
     record {
       frames = c.in-Ok.frames.items;
       events = e.events;
       order = e.order;
       asked = e.asked;
-      served = stopped_serves g.W.Sink.took _ _ _ _ _ _ _ c.in-Some.stop fed e.wrote;
+      served = stopped_serves g.W.Sink _ _ _ _ _ _ _ c.in-Some.stop fed e.wrote;
     }
 
 pub returns-in-Some-clause-count : goal.returns-in-Some-clause-count
-returns-in-Some-clause-count g c = stopped_ends _ _ c.in-Some.stop c.in-Some.ensures.count
-
-pub returns-in-Some-clause-not_wire : goal.returns-in-Some-clause-not_wire
-returns-in-Some-clause-not_wire g c = stopped_unwired _ _ c.in-Some.stop c.in-Some.ensures.count
+returns-in-Some-clause-count g c = stopped_ends g.W.Sink _ _ _ c.in-Some.stop c.in-Some.ensures.asks.wrote
 
 pub returns-in-None-fault-clause-served : goal.returns-in-None-fault-clause-served
 returns-in-None-fault-clause-served g c =
-    let e = c.in-None.ensures.answers in
+    let e = c.in-None.ensures.asks in
     let fed =
-    subst (λ (f : End). Feeds c.args.held.now.feed c.args.piece.now c.in-Ok.frames.items f) (sym c.in-None.ensures.feed)
-    c.in-Ok.ensures.frames in
+    subst (λ (f : End). Feeds c.args.self.now.held.now.feed c.args.piece.now c.in-Ok.frames.items f)
+    (sym c.in-None.ensures.feed) c.in-Ok.ensures.frames in
     record {
       frames = c.in-Ok.frames.items;
       events = e.events;
       order = e.order;
       asked = e.asked;
-      served = (fed, sym c.in-None-fault.ensures, e.wrote);
+      served = (fed, sym c.in-None-fault.ensures, e.wrote.0);
     }
 
 pub returns-in-Some-fault-clause-served : goal.returns-in-Some-fault-clause-served
 returns-in-Some-fault-clause-served g c =
-    let e = c.in-None.ensures.answers in
+    let e = c.in-None.ensures.asks in
     let fed =
-    subst (λ (f : End). Feeds c.args.held.now.feed c.args.piece.now c.in-Ok.frames.items f) (sym c.in-None.ensures.feed)
-    c.in-Ok.ensures.frames in
+    subst (λ (f : End). Feeds c.args.self.now.held.now.feed c.args.piece.now c.in-Ok.frames.items f)
+    (sym c.in-None.ensures.feed) c.in-Ok.ensures.frames in
     record {
       frames = c.in-Ok.frames.items;
       events = e.events;
@@ -75,10 +71,12 @@ returns-in-Some-fault-clause-served g c =
       asked = e.asked;
       served = (
         faulty_feeds _ _ _ _ c.in-Some-fault.fault (sym c.in-Some-fault.ensures) fed,
-        e.wrote,
+        e.wrote.0,
       );
     }
 
-pub returns-in-Some-fault-clause-not_wire : goal.returns-in-Some-fault-clause-not_wire
-returns-in-Some-fault-clause-not_wire g c =
-    λ is. c.in-Ok.ensures.no_memory (cc (c.in-None.ensures.feed, c.in-Some-fault.ensures, is))
+pub returns-in-Some-fault-clause-count : goal.returns-in-Some-fault-clause-count
+returns-in-Some-fault-clause-count g c = (
+  c.in-None.ensures.asks.wrote.1,
+  λ is. c.in-Ok.ensures.no_memory (cc (c.in-None.ensures.feed, c.in-Some-fault.ensures, is)),
+)
