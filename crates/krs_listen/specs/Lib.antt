@@ -3,8 +3,6 @@ pub mod Clock
 pub mod CommandLine
 pub mod Choice
 pub mod Daemon
-pub mod Ends
-pub mod Place
 pub mod Saying
 pub mod Telling
 pub mod Timeline

@@ -1,12 +1,10 @@
 ghost use Rattle.std.specs.Prelude.{◌+◌, ◌<◌, ◌↔◌, ◌≡◌, IfNone, IfOk, IfSome, if◌then◌else◌, IsTrue};
 ghost use Rattle.std.specs.{Duration.as_nanos, IoError.raw_os_error};
-ghost use Rattle.krs_listen.specs.{Accepting.{accepted_by, failed_at, is_passing}, Ends.AreEndsFrom};
+ghost use Rattle.krs_listen.specs.Accepting.{accepted_by, AreEndsFrom, failed_at, is_passing};
 
-use crate::ends::ends_of;
-use crate::{BothEnds, Listening, Listens};
+use crate::Listens;
 use std::io;
 use std::marker::PhantomData;
-use std::os::unix::net::{UnixListener, UnixStream};
 use std::sync::Wait;
 use std::time::{Clock, Duration};
 
@@ -71,48 +69,40 @@ fn pause() -> Duration
 /// Over what listens, until it is dropped. An accept that fails for a cause that passes is tried again when a
 /// connection has ended, or after a while, as long as any connection is served and for some seconds more.
 #[derive(Drop)]
-pub struct StreamAcceptor<'a, R, F, L, S> {
-    rt: &'a R,
+pub struct StreamAcceptor<L, S> {
     listener: L,
-    free: &'a F,
     accepted: u64,
     failures: u64,
     cause: io::Error,
     streams: PhantomData<S>,
 }
 
-/// Over a socket.
-pub type SocketAcceptor<'a, R, F> = StreamAcceptor<'a, R, F, UnixListener, UnixStream>;
-
-impl<'a, R: Wait + Clock, F: AwaitsEnd<R>> StreamAcceptor<'a, R, F, UnixListener, UnixStream> {
-    pub fn new(rt: &'a R, listening: Listening<'_>, free: &'a F) -> SocketAcceptor<'a, R, F>
+impl<L: Listens<S>, S: Drop> StreamAcceptor<L, S> {
+    pub fn new(listener: L) -> StreamAcceptor<L, S>
         ensures accepted { accepted_by result ≡ 0 }
         ensures failures { failed_at result ≡ 0 }
     {
         StreamAcceptor {
-            rt,
-            listener: listening.listener,
-            free,
+            listener,
             accepted: 0,
             failures: 0,
             cause: io::Error::other("no accept has failed"),
             streams: PhantomData,
         }
     }
-}
 
-impl<'a, R: Wait + Clock, F: AwaitsEnd<R>, L: Listens<S>, S: Drop> StreamAcceptor<'a, R, F, L, S> {
-    /// The ends of the next connection, or none where an accept failed for good.
-    pub fn accept(&mut self) -> Option<BothEnds<S>>
+    /// The ends of the next connection, one to read from it and one to write to it, or none where an accept failed for
+    /// good. The connection is closed with the last of them.
+    pub fn accept<R: Wait + Clock, F: AwaitsEnd<R>>(&mut self, rt: &R, served: &F) -> Option<(S, S)>
         requires accepted { accepted_by self.old < u64.MAX }
         requires failures { failed_at self.old < u64.MAX }
-        ensures ends { IfSome result (AreEndsFrom L.came L.same self.new.listener) }
+        ensures ends { IfSome result (AreEndsFrom L.came L.same self.new) }
         ensures one { IfSome result (λ _. accepted_by self.new ≡ accepted_by self.old + 1) }
         ensures good { IfSome result (λ _. failed_at self.new ≡ failed_at self.old) }
         ensures none { IfNone result (accepted_by self.new ≡ accepted_by self.old) }
         ensures failed { IfNone result (failed_at self.new ≡ failed_at self.old + 1) }
     {
-        match self.next() {
+        match self.next(rt, served) {
             Ok(ends) => {
                 self.accepted += 1;
                 Some(ends)
@@ -136,8 +126,8 @@ impl<'a, R: Wait + Clock, F: AwaitsEnd<R>, L: Listens<S>, S: Drop> StreamAccepto
     pub fn close(self) -> Accepts
     where
         L: Drop,
-        ensures accepted { result.accepted ≡ accepted_by self.entry }
-        ensures failures { result.failures ≡ failed_at self.entry }
+        ensures accepted { result.accepted ≡ accepted_by self }
+        ensures failures { result.failures ≡ failed_at self }
     {
         Accepts {
             accepted: self.accepted,
@@ -146,15 +136,15 @@ impl<'a, R: Wait + Clock, F: AwaitsEnd<R>, L: Listens<S>, S: Drop> StreamAccepto
     }
 
     /// The next connection, waited for through failures that pass.
-    fn next(&self) -> io::Result<BothEnds<S>>
-        ensures { IfOk result (AreEndsFrom L.came L.same self.now.listener) }
+    fn next<R: Wait + Clock, F: AwaitsEnd<R>>(&self, rt: &R, served: &F) -> io::Result<(S, S)>
+        ensures { IfOk result (AreEndsFrom L.came L.same self.now) }
     {
         let mut idle = 0;
-        for _ in self.rt.forever() {
+        for _ in rt.forever() {
             match self.listener.accept() {
-                Ok(stream) => return self.in_two(stream),
+                Ok(stream) => return self.in_two(rt, served, stream),
                 Err(error) if is_tried_again(&error, idle) => {
-                    idle = idle_after(idle, self.free.await_end(self.rt, pause()));
+                    idle = idle_after(idle, served.await_end(rt, pause()));
                 }
                 Err(error) => return Err(error),
             }
@@ -163,19 +153,23 @@ impl<'a, R: Wait + Clock, F: AwaitsEnd<R>, L: Listens<S>, S: Drop> StreamAccepto
     }
 
     /// The ends of a stream. Where no descriptor is free for the second, that is waited for as for a connection.
-    fn in_two(&self, stream: S) -> io::Result<BothEnds<S>>
+    fn in_two<R: Wait + Clock, F: AwaitsEnd<R>>(
+        &self,
+        rt: &R,
+        served: &F,
+        stream: S,
+    ) -> io::Result<(S, S)>
         requires { L.came self.now.listener stream }
-        ensures { IfOk result (AreEndsFrom L.came L.same self.now.listener) }
+        ensures { IfOk result (AreEndsFrom L.came L.same self.now) }
     {
-        let (mut stream, mut idle) = (stream, 0);
-        'tries: for _ in self.rt.forever() {
-            match ends_of(&self.listener, stream) {
-                Ok(ends) => return Ok(ends),
-                Err((refused, error)) if is_tried_again(&error, idle) => {
-                    stream = refused;
-                    idle = idle_after(idle, self.free.await_end(self.rt, pause()));
+        let mut idle = 0;
+        for _ in rt.forever() {
+            match self.listener.second(&stream) {
+                Ok(other) => return Ok((stream, other)),
+                Err(error) if is_tried_again(&error, idle) => {
+                    idle = idle_after(idle, served.await_end(rt, pause()));
                 }
-                Err((_, error)) => return Err(error),
+                Err(error) => return Err(error),
             }
         }
         unreachable!()

@@ -1,59 +1,8 @@
-//! The path where a daemon listens, and what comes there. `Files` and `Net` are asked for here alone: what is above has
-//! neither.
-ghost use Rattle.std.specs.Prelude.{◌≡◌, IfOk};
-ghost use Rattle.krs_listen.specs.Place.{place_of};
+//! What comes to the place where a daemon listens. Of the system's sockets this file alone accepts connections.
+ghost use Rattle.std.specs.Prelude.{IfOk};
 
-use std::fs::Files;
-use std::net::Net;
+use std::io;
 use std::os::unix::net::{UnixListener, UnixStream};
-use std::{fs, io};
-
-/// A socket that listens at a path. Only an acceptor takes connections from it.
-#[derive(Drop)]
-pub struct Listening<'p> {
-    pub(crate) listener: UnixListener,
-    path: &'p str,
-}
-
-impl<'p> Listening<'p> {
-    /// Where it listens.
-    pub fn path(&self) -> &'p str
-        ensures { result.now ≡ place_of self.now }
-    {
-        self.path
-    }
-}
-
-/// What binds paths, and takes them away.
-pub trait Paths {
-    fn bind<'p>(&self, path: &'p str) -> io::Result<Listening<'p>>
-        ensures { IfOk result (λ listening. place_of listening ≡ path.now) };
-
-    fn remove(&self, path: &str);
-}
-
-/// The system's.
-#[derive(Drop)]
-pub struct SystemPaths<'r, R> {
-    rt: &'r R,
-}
-
-impl<'r, R: Files + Net> SystemPaths<'r, R> {
-    pub fn new(rt: &'r R) -> SystemPaths<'r, R> {
-        SystemPaths { rt }
-    }
-}
-
-impl<'r, R: Files + Net> Paths for SystemPaths<'r, R> {
-    fn bind<'p>(&self, path: &'p str) -> io::Result<Listening<'p>> {
-        let listener = UnixListener::bind(self.rt, path)?;
-        Ok(Listening { listener, path })
-    }
-
-    fn remove(&self, path: &str) {
-        let _ = fs::remove_file(self.rt, path);
-    }
-}
 
 /// What streams come from. What accepts one is proved for all of these, so that it can't read from it, write to it, or
 /// take it for another.

@@ -284,6 +284,16 @@ served_at_desk source timer sink turns {seat = seat} {left = left} keeps e =
       not_wire = e.not_wire;
     }
 
+-- and the same is left of its ends
+pub same_ends : {R C W : Type 0} (source : sources.Ghosts R) (timer : clocks.Ghosts C) (sink : sinks.Ghosts W)
+    (turns : ℕ) → {table : TableId} {ready : Sitting → Type 0} {leads : Sitting → List Event → Sitting → Type 0}
+    {lane_of : Sitting → ℕ} {rested : Sitting → Type 0} {connection : Entry R W C} {seat left : Sitting} {ended : Ended}
+    → (keeps : KeepsAsDesk table ready leads lane_of rested)
+    → (e : ServesEntry source timer sink leads lane_of turns connection seat left ended)
+    → (served_at_desk source timer sink turns keeps e).last ≡ e.last
+unfolding served_at_desk
+same_ends source timer sink turns keeps e = refl
+
 module _ {R W : Type 0} (source : sources.Ghosts R) (sink : sinks.Ghosts W) (turns : ℕ) where
   -- of a new seat
   pub visited_none : (s : Sitting) → IsNew s → IsVisited source sink turns s

@@ -1,46 +1,105 @@
-ghost use Rattle.std.specs.Prelude.{◌+◌, ◌<◌, ◌≡◌, IfErr, OnErr, OnOk, ℕ};
-ghost use Rattle.krs_listen.specs.Accepting.{accepted_by, failed_at};
+//! Where connections come from. What serves them is proved for all that binds and accepts, over all streams. So it
+//! knows no socket, reaches no stream, and can't go by it that a socket shows no bytes.
+ghost use Rattle.std.specs.Prelude.{◌+◌, ◌<◌, ◌≡◌, IfErr, IfOk, List, OnErr, OnOk, ℕ};
+ghost use Rattle.atomic_table.specs.Seated.{TableId};
+ghost use Rattle.krs_listen.specs.Accepting.{accepted_by, AreEndsFrom, failed_at};
+ghost use Rattle.krs_serve.specs.AtDesk.{BeginsAt};
 
-use crate::connection::guest_of;
-use crate::{AtDesk, SocketGuest, SocketSitting};
-use krs_listen::{AwaitsEnd, SocketAcceptor};
+use crate::{Arrival, AtDesk};
+use krs_listen::{Accepts, AwaitsEnd, Listens, StreamAcceptor};
+use std::io;
+use std::io::{Read, Write};
 use std::sync::Wait;
 use std::time::Clock;
 
-/// Where guests come from. It counts them, and what failed.
-pub trait Acceptor<G, F> {
+/// Where connections come from, over such streams. It counts them, and what failed.
+pub trait Acceptor<S>: Drop {
+    // Who comes there sits at this desk. A socket doesn't know of it.
+    ghost serves: { Self → TableId → Type 0 };
+
+    // These are the ends of one connection that came to it.
+    ghost came: { Self → S × S → Type 0 };
+
     // How many were accepted, and how many accepts failed.
     ghost accepted: { Self → ℕ };
 
     ghost failures: { Self → ℕ };
 
-    /// The next guest, at what was free for it: so none is accepted while no lane is free, and none at the lane of
+    /// The next connection, for what was free: so none is accepted while no lane is free, and none at the lane of
     /// another. What was free comes back where an accept failed.
-    fn accept(&mut self, free: F) -> Result<G, F>
+    fn accept<N: AtDesk, F, R: Wait + Clock, E: AwaitsEnd<R>>(
+        &mut self,
+        rt: &R,
+        served: &E,
+        free: F,
+    ) -> Result<Arrival<N, F, S>, F>
+        requires here { serves self.old N.desk }
         requires accepted { accepted self.old < u64.MAX }
         requires failures { failures self.old < u64.MAX }
+        ensures here { serves self.new N.desk }
+        ensures ends { IfOk result (λ arrival. came self.new arrival.ends) }
+        ensures place { IfOk result (λ arrival. arrival.free ≡ free) }
         ensures one { OnOk result (accepted self.new ≡ accepted self.old + 1) }
         ensures good { OnOk result (failures self.new ≡ failures self.old) }
         ensures back { IfErr result (λ back. back ≡ free) }
         ensures none { OnErr result (accepted self.new ≡ accepted self.old) }
         ensures failed { OnErr result (failures self.new ≡ failures self.old + 1) };
+
+    /// Why the last accept that failed did so.
+    fn cause(&self) -> io::Error;
+
+    /// Lets nobody connect any more, and gives what was counted.
+    fn close(self) -> Accepts
+        ensures accepted { result.accepted ≡ accepted self }
+        ensures failures { result.failures ≡ failures self };
 }
 
-impl<'a, 'd, R: Wait + Clock, F: AwaitsEnd<R>, N: AtDesk> Acceptor<
-    SocketGuest<'d, N>,
-    SocketSitting<'d, N>,
-> for SocketAcceptor<'a, R, F> {
+impl<L: Listens<S> + Drop, S: Drop> Acceptor<S> for StreamAcceptor<L, S> {
+    ghost serves = { λ _ _. Unit {0} };
+
+    ghost came = { AreEndsFrom L.came L.same };
+
     ghost accepted = { accepted_by };
 
     ghost failures = { failed_at };
 
-    fn accept(
+    fn accept<N: AtDesk, F, R: Wait + Clock, E: AwaitsEnd<R>>(
         &mut self,
-        free: SocketSitting<'d, N>,
-    ) -> Result<SocketGuest<'d, N>, SocketSitting<'d, N>> {
-        match SocketAcceptor::accept(self) {
-            Some(ends) => Ok(guest_of(free, ends)),
+        rt: &R,
+        served: &E,
+        free: F,
+    ) -> Result<Arrival<N, F, S>, F> {
+        match StreamAcceptor::accept(self, rt, served) {
+            Some(ends) => Ok(Arrival::new(free, ends)),
             None => Err(free),
         }
     }
+
+    fn cause(&self) -> io::Error {
+        StreamAcceptor::cause(self)
+    }
+
+    fn close(self) -> Accepts {
+        StreamAcceptor::close(self)
+    }
+}
+
+/// What binds paths, and takes them away.
+pub trait Paths {
+    type Stream: Read + Write + Drop + Send;
+
+    type Acceptor: Acceptor<Self::Stream>;
+
+    // It accepts at this path. Of a socket that isn't known.
+    ghost at: { Self.Acceptor → List ℕ → Type 0 };
+
+    /// Binds a path for those who are to sit at this desk. Nothing was accepted there yet.
+    fn bind<N: AtDesk>(&self, path: &str) -> io::Result<Self::Acceptor>
+        ensures there { IfOk result (λ acceptor. at acceptor path.now) }
+        ensures here { IfOk result (λ acceptor. BeginsAt Self.Acceptor.serves Self.Acceptor.accepted
+            Self.Acceptor.failures acceptor N.desk) };
+
+    /// Takes a path away that it bound.
+    fn remove(&self, path: &str)
+        requires { (acceptor : Self.Acceptor) × at acceptor path.now };
 }

@@ -7,16 +7,16 @@ ghost use Rattle.krs_desk.specs.{Seen.IsOneHistory, Sitting.{fresh_seats, IsIdle
 ghost use Rattle.krs_wire.specs.declared.framed.Framed.{Framed};
 ghost use Rattle.krs_session.specs.Calls.{GainsSession};
 ghost use Rattle.krs_session.specs.{Over.over_end, Session.{counts_of, HaveRoom}, declared.ended.Ended.Ended};
-ghost use Rattle.krs_listen.specs.Ends.{reader_of, writer_of};
 ghost use Rattle.krs_serve.specs.Sessions.{entry, KeepsAsDesk, ServesAtDesk};
 ghost use Rattle.krs_serve.specs.Visits.{HasJustItsCalls, IsNew, IsVisited};
 
-use crate::{Entry, OpenGate, serve_entry};
+use crate::{Entry, Gone, OpenGate, serve_entry};
 use krs_desk::{Desk, Refused, Seat};
-use krs_listen::{Options, SocketEnds, SocketReader, SocketWriter};
+use krs_listen::Options;
 use krs_session::{Clock, Keeper, Over, Sink, Source, a_session_is_its_asks_and_leave};
 use krs_store::{Seed, Store};
 use std::alloc::{AllocError, Global};
+use std::io::{Read, Write};
 use std::marker::{Brand, PhantomData};
 
 /// How many reads a connection may make.
@@ -186,27 +186,45 @@ impl<'d, N: AtDesk, R: Source + Drop, W: Sink + Drop> Guest<'d, N, R, W> {
     }
 }
 
-/// A seat of the daemon, whose connections come over a socket.
-pub type SocketSitting<'d, N> = Sitting<'d, N, Over<SocketReader>, Over<SocketWriter>>;
+/// A seat of the daemon, whose connections come over such streams.
+pub type StreamSitting<'d, N, S> = Sitting<'d, N, Over<S>, Over<S>>;
 
-/// The ends of a connection that was accepted, as a session meets them.
-pub type SocketGuest<'d, N> = Guest<'d, N, Over<SocketReader>, Over<SocketWriter>>;
-
-/// Who came over a socket, at the seat that was free. No guest is made elsewhere, so that a daemon has none of its own.
-pub(crate) fn guest_of<'d, N: AtDesk>(
-    sitting: SocketSitting<'d, N>,
-    ends: SocketEnds,
-) -> SocketGuest<'d, N>
-    ensures sitting { result.sitting ≡ sitting.entry }
-    ensures reader { over_end result.reader ≡ reader_of ends }
-    ensures writer { over_end result.writer ≡ writer_of ends }
-{
-    let (reader, writer) = ends.into_two();
-    Guest::new(sitting, Over::new(reader), Over::new(writer))
+/// The ends of a connection that was accepted, for this desk, with what was free for it. Only `guest_of` takes them out.
+#[derive(Drop)]
+pub struct Arrival<N, F, S> {
+    free: F,
+    ends: (S, S),
+    at: PhantomData<N>,
 }
 
-/// Serves a guest to its end by a keeper that makes calls as the desk does. It knows nothing of the runtime, and so can't
-/// wait: what waits for ever meets every contract, whatever it did before.
+impl<N, F, S> Arrival<N, F, S> {
+    pub(crate) fn new(free: F, ends: (S, S)) -> Arrival<N, F, S>
+        ensures free { result.free ≡ free }
+        ensures ends { result.ends ≡ ends }
+    {
+        Arrival {
+            free,
+            ends,
+            at: PhantomData,
+        }
+    }
+}
+
+/// Who arrived, at the seat that was free. No guest is made elsewhere, so that a daemon has none of its own.
+pub(crate) fn guest_of<'d, N: AtDesk, S: Read + Write + Drop>(
+    arrival: Arrival<N, StreamSitting<'d, N, S>, S>,
+) -> Guest<'d, N, Over<S>, Over<S>>
+    ensures sitting { result.sitting ≡ arrival.entry.free }
+    ensures reader { over_end result.reader ≡ arrival.entry.ends.0 }
+    ensures writer { over_end result.writer ≡ arrival.entry.ends.1 }
+{
+    let Arrival { free, ends, at: _ } = arrival;
+    let (reader, writer) = ends;
+    Guest::new(free, Over::new(reader), Over::new(writer))
+}
+
+/// Serves a guest to its end by a keeper that makes calls as the desk does, and gives its ends as the session left them.
+/// It knows nothing of the runtime, and so can't wait: what waits for ever meets every contract, whatever it did before.
 pub(crate) fn serve_by<
     'd,
     N: AtDesk,
@@ -215,14 +233,21 @@ pub(crate) fn serve_by<
     R: Source + Drop,
     W: Sink + Drop,
     C: Clock + Drop,
->(rt: &H, alloc: Global, keeper: &D, guest: Guest<'d, N, R, W>, clock: C) -> Sitting<'d, N, R, W>
+>(
+    rt: &H,
+    alloc: Global,
+    keeper: &D,
+    guest: Guest<'d, N, R, W>,
+    clock: C,
+) -> (Sitting<'d, N, R, W>, Gone<R, W>)
     requires { KeepsAsDesk N.desk (D.ready keeper.now) D.leads D.lane_of D.rested }
-    ensures desk { result.desk ≡ guest.entry.sitting.desk }
-    ensures session { (ended : Ended) × ServesAtDesk R.Source C.Clock W.Sink 16777216
-        (entry guest.entry.reader guest.entry.writer clock) guest.entry.sitting.seat result.seat ended }
+    ensures desk { result.0.desk ≡ guest.entry.sitting.desk }
+    ensures session { (ended : Ended) × (s : ServesAtDesk R.Source C.Clock W.Sink 16777216
+        (entry guest.entry.reader guest.entry.writer clock) guest.entry.sitting.seat result.0.seat ended)
+        × (s.last.reader ≡ result.1.reader) × (s.last.writer ≡ result.1.writer) }
     ensures gains { (frames : List Framed) × (calls : List Event)
-        × GainsSession guest.entry.sitting.seat frames calls result.seat }
-    ensures rested { result.seat.kept ≡ 0 }
+        × GainsSession guest.entry.sitting.seat frames calls result.0.seat }
+    ensures rested { result.0.seat.kept ≡ 0 }
 {
     let Guest {
         sitting,
@@ -241,6 +266,6 @@ pub(crate) fn serve_by<
         writer,
         clock,
     };
-    let (seat, _ended) = serve_entry(rt, alloc, connection, keeper, seat, &OpenGate, TURNS);
-    sitting_of(desk, seat)
+    let (seat, _ended, gone) = serve_entry(rt, alloc, connection, keeper, seat, &OpenGate, TURNS);
+    (sitting_of(desk, seat), gone)
 }

@@ -5,17 +5,17 @@ ghost use Rattle.krs_links.specs.Seeded.{random_seed};
 ghost use Rattle.krs_desk.specs.Sitting.{IsIdleAt};
 ghost use Rattle.krs_listen.specs.Choice.{IsUnread, LeadsTo};
 ghost use Rattle.krs_listen.specs.Daemon.{Answers, connections_of, SaysAsItEndsBy, SaysAsItServes, served_line};
-ghost use Rattle.krs_listen.specs.{Place.place_of, Saying.heard, declared.choice.Choice.Choice as ChoiceIs};
-ghost use Rattle.krs_serve.specs.Visits.{IsNew};
+ghost use Rattle.krs_listen.specs.{Saying.heard, declared.choice.Choice.Choice as ChoiceIs};
+ghost use Rattle.krs_serve.specs.{AtDesk.BeginsAt, Visits.IsNew};
 
-use crate::AtDesk;
-use crate::apart::Hosting;
+use crate::apart::{Hosting, StreamHosting};
 use crate::connection::{Dealt, opened, seated};
 use crate::listening::accept_all;
+use crate::{AtDesk, Paths};
 use krs_desk::Desk;
 use krs_listen::{
-    Accepted, Accepts, Choice, FreeSeats, Latest, Lines, Listening, NOT_BOUND, NOT_TEXT,
-    OUT_OF_MEMORY, Options, Paths, SocketReader, SocketWriter, USAGE, Voices, choose, tell_cause,
+    Accepted, Accepts, Choice, FreeSeats, Latest, Lines, NOT_BOUND, NOT_TEXT, OUT_OF_MEMORY,
+    Options, USAGE, Voices, choose, tell_cause,
 };
 use krs_session::Over;
 use krs_store::Seed;
@@ -95,14 +95,16 @@ fn connections_for(accept: Option<u32>) -> u64
 const LONGEST: usize = 107;
 
 /// Binds the path. An empty one the system would take for a name of its own choice, which no folder protects.
-fn bound<'p>(paths: &impl Paths, path: &'p str) -> io::Result<Listening<'p>>
+fn bound<N: AtDesk, P: Paths>(paths: &P, path: &str) -> io::Result<P::Acceptor>
     ensures empty { path.now ≡ [] → IsErr result }
-    ensures there { IfOk result (λ listening. place_of listening ≡ path.now) }
+    ensures there { IfOk result (λ acceptor. P.at acceptor path.now) }
+    ensures here { IfOk result (λ acceptor. BeginsAt P.Acceptor.serves P.Acceptor.accepted
+        P.Acceptor.failures acceptor N.desk) }
 {
     if path.is_empty() || path.len() > LONGEST {
         return Err(io::Error::other("a path has 1 to 107 bytes"));
     }
-    paths.bind(path)
+    paths.bind::<N>(path)
 }
 
 /// Accepts and serves so many connections, takes the path away, and tells how that ended. It gives their counts.
@@ -115,20 +117,22 @@ fn serve_all<
     W: Write,
     E: Write,
 >(
-    hosting: &'s Hosting<'s, 'd, N, R>,
+    hosting: &'s StreamHosting<'s, 'd, N, P::Stream, R>,
     paths: &P,
-    listening: Listening<'_>,
+    acceptor: P::Acceptor,
+    path: &str,
     connections: u64,
     lines: &Lines,
     voices: &mut Voices<W, E>,
 ) -> (u8, Accepts)
-    requires { string_bytes lines.now.served ≡ served_line connections }
+    requires there { P.at acceptor path.now }
+    requires here { BeginsAt P.Acceptor.serves P.Acceptor.accepted P.Acceptor.failures acceptor N.desk }
+    requires served { string_bytes lines.now.served ≡ served_line connections }
     ensures { SaysAsItEndsBy connections result.1.accepted result.1.failures
         (heard W.contents voices.old.output) (heard W.contents voices.new.output)
         (heard E.contents voices.old.errors) (heard E.contents voices.new.errors) result.0 }
 {
-    let path = listening.path();
-    let (accepted, counts, _seats) = accept_all(hosting, listening, connections, voices);
+    let (accepted, counts, _seats) = accept_all(hosting, acceptor, connections, voices);
     paths.remove(path);
     match accepted {
         Accepted::All => {
@@ -184,13 +188,13 @@ fn listen_at<
 {
     let path = options.path.as_str();
     let connections = connections_for(options.accept);
-    let made = seated::<N, Over<SocketReader>, Over<SocketWriter>>(alloc, desk, seats);
+    let made = seated::<N, Over<P::Stream>, Over<P::Stream>>(alloc, desk, seats);
     let (Ok(sittings), Ok(lines)) = (made, Lines::new(alloc, path, connections)) else {
         voices.output.say(OUT_OF_MEMORY);
         return 1;
     };
-    let listening = match bound(paths, path) {
-        Ok(listening) => listening,
+    let acceptor = match bound::<N, P>(paths, path) {
+        Ok(acceptor) => acceptor,
         Err(cause) => {
             voices.output.say(NOT_BOUND);
             tell_cause(alloc, &mut voices.errors, path, &cause);
@@ -205,7 +209,7 @@ fn listen_at<
         free: &free,
         latest: &latest,
     };
-    let (status, _counts) = serve_all(&hosting, paths, listening, connections, &lines, voices);
+    let (status, _counts) = serve_all(&hosting, paths, acceptor, path, connections, &lines, voices);
     status
 }
 

@@ -13,8 +13,16 @@ pub struct Entry<R: Drop, W: Drop, C: Drop> {
     pub clock: C,
 }
 
-/// Serves one connection to its end, and gives its seat back with why it ended. The daemon's threads serve each
-/// connection by this, and so does `run_sessions`.
+/// The ends of a connection, as its session left them. Nothing reaches them: whoever has them can only let them go, and
+/// so close the connection.
+#[derive(Drop)]
+pub struct Gone<R: Drop, W: Drop> {
+    reader: R,
+    writer: W,
+}
+
+/// Serves one connection to its end, and gives its seat back with why it ended, and its ends as they are then. The
+/// daemon's threads serve each connection by this, and so does `run_sessions`.
 pub fn serve_entry<
     H,
     R: Source + Drop,
@@ -31,11 +39,12 @@ pub fn serve_entry<
     seat: S,
     gate: &G,
     turns: u64,
-) -> (S, Ended)
+) -> (S, Ended, Gone<R, W>)
     requires ready { D.ready desk.now seat }
     requires room { HaveRoom turns
         (counts_of R.reads R.empties R.failures W.failures connection.reader connection.writer) }
-    ensures session { ServesEntry R.Source C.Clock W.Sink D.leads D.lane_of turns connection seat result.0 result.1 }
+    ensures session { (s : ServesEntry R.Source C.Clock W.Sink D.leads D.lane_of turns connection seat
+        result.0 result.1) × (s.last.reader ≡ result.2.reader) × (s.last.writer ≡ result.2.writer) }
     ensures ready { D.ready desk.now result.0 }
     ensures lane { D.lane_of result.0 ≡ D.lane_of seat }
     ensures rested { D.rested result.0 }
@@ -57,5 +66,5 @@ pub fn serve_entry<
         gate,
         turns,
     );
-    (seat, ended)
+    (seat, ended, Gone { reader, writer })
 }

@@ -1,4 +1,4 @@
-//! The daemon: connections of a socket, each in a thread of its own, on the seats of one desk.
+//! The daemon: connections, each in a thread of its own, on the seats of one desk.
 #![tactic(auto)]
 
 mod acceptor;
@@ -12,13 +12,15 @@ mod listening;
 mod meeting;
 mod serving;
 mod sessions;
+mod sockets;
 
-pub use acceptor::Acceptor;
+pub use acceptor::{Acceptor, Paths};
 pub use clock::SystemClock;
-pub use connection::{AtDesk, Guest, Sitting, SocketGuest, SocketSitting};
+pub use connection::{Arrival, AtDesk, Guest, Sitting, StreamSitting};
 pub use daemon::{listen, run_daemon};
-pub use entry::{Entry, serve_entry};
+pub use entry::{Entry, Gone, serve_entry};
 pub use gate::OpenGate;
-pub use krs_listen::{Latest, SystemPaths, Voice, Voices};
+pub use krs_listen::{Latest, Voice, Voices};
 pub use serving::serve_connection;
 pub use sessions::{run_sessions, serve_sessions};
+pub use sockets::SystemPaths;

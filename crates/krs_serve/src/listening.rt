@@ -1,17 +1,15 @@
 ghost use Rattle.std.specs.Prelude.{◌+◌, ◌<◌, ◌^◌, ◌≡◌, map, vec_len};
 ghost use Rattle.krs_listen.specs.Accepting.{seat_count};
 ghost use Rattle.krs_listen.specs.{Daemon.{AcceptsBy, TellsAccepted}, Saying.heard, Telling.TellsFailure};
-ghost use Rattle.krs_serve.specs.OneDesk.{ServeInOneHistory};
+ghost use Rattle.krs_serve.specs.{AtDesk.BeginsAt, OneDesk.ServeInOneHistory};
 
-use crate::apart::{Hosted, Hosting, serve_apart};
+use crate::apart::{Hosted, StreamHosting, serve_apart};
+use crate::connection::guest_of;
 use crate::meeting::take_back;
-use crate::{Acceptor, AtDesk, SocketGuest, SocketSitting};
-use krs_listen::{
-    Accepted, Accepts, Listening, NOT_ACCEPTED, SocketAcceptor, SocketReader, SocketWriter, Voice,
-    Voices, tell_accepted,
-};
+use crate::{Acceptor, AtDesk, StreamSitting};
+use krs_listen::{Accepted, Accepts, NOT_ACCEPTED, Voice, Voices, tell_accepted};
 use krs_session::{Over, Sink, Source};
-use std::io::Write;
+use std::io::{Read, Write};
 use std::sync::Wait;
 use std::thread;
 use std::thread::{Scope, Threads};
@@ -24,17 +22,19 @@ fn accept_each<
     'd,
     E,
     N: AtDesk + Send + Sync,
+    S: Read + Write + Drop + Send,
+    A: Acceptor<S>,
     R: Threads + Wait + Clock + Sync,
-    A: Acceptor<SocketGuest<'d, N>, SocketSitting<'d, N>>,
     W: Write,
 >(
-    hosting: &'s Hosting<'s, 'd, N, R>,
+    hosting: &'s StreamHosting<'s, 'd, N, S, R>,
     acceptor: &mut A,
     connections: u64,
     output: &mut Voice<W>,
     scope: &'s Scope<'s, E>,
     hosted: &mut Hosted,
 ) -> Accepted
+    requires here { A.serves acceptor.old N.desk }
     requires accepted { A.accepted acceptor.old + connections < 2 ^ 64 }
     requires failures { A.failures acceptor.old < u64.MAX }
     requires hosted { hosted.old.guests + connections < 2 ^ 64 }
@@ -44,8 +44,8 @@ fn accept_each<
     ensures hosted { hosted.new.guests + A.accepted acceptor.old ≡ hosted.old.guests + A.accepted acceptor.new }
 {
     'accepts: for made in 0..connections {
-        match acceptor.accept(hosting.free.take(hosting.rt)) {
-            Ok(guest) => serve_apart(hosting, guest, scope, hosted),
+        match acceptor.accept(hosting.rt, hosting.free, hosting.free.take(hosting.rt)) {
+            Ok(arrival) => serve_apart(hosting, guest_of(arrival), scope, hosted),
             Err(sitting) => {
                 output.say(NOT_ACCEPTED);
                 hosting.free.give(hosting.rt, sitting);
@@ -56,29 +56,30 @@ fn accept_each<
     Accepted::All
 }
 
-/// The same over a socket, which is closed then, so that a client that connects is refused. It tells why an accept
-/// failed, and gives the counts.
+/// The same, and then nobody can connect any more. It tells why an accept failed, and gives the counts.
 fn accept_over<
     's,
     'd,
     B,
     N: AtDesk + Send + Sync,
+    S: Read + Write + Drop + Send,
+    A: Acceptor<S>,
     R: Threads + Wait + Clock + Sync,
     W: Write,
     E: Write,
 >(
-    hosting: &'s Hosting<'s, 'd, N, R>,
-    listening: Listening<'_>,
+    hosting: &'s StreamHosting<'s, 'd, N, S, R>,
+    acceptor: A,
     connections: u64,
     voices: &mut Voices<W, E>,
     scope: &'s Scope<'s, B>,
 ) -> (Accepted, Accepts)
+    requires { BeginsAt A.serves A.accepted A.failures acceptor N.desk }
     ensures count { AcceptsBy connections 0 result.1.accepted 0 result.1.failures result.0 }
     ensures told { TellsAccepted result.0 (heard W.contents voices.old.output) (heard W.contents voices.new.output) }
     ensures cause { TellsFailure result.0 (heard E.contents voices.old.errors) (heard E.contents voices.new.errors) }
 {
-    let mut acceptor = SocketAcceptor::new(hosting.rt, listening, hosting.free);
-    let mut hosted = Hosted::none();
+    let (mut acceptor, mut hosted) = (acceptor, Hosted::none());
     let accepted = accept_each(
         hosting,
         &mut acceptor,
@@ -92,21 +93,24 @@ fn accept_over<
     (accepted, acceptor.close())
 }
 
-/// Accepts so many connections, and gives their counts. A failed accept is told at once. Then the socket is closed, and
-/// what was accepted is served to its end.
+/// Accepts so many connections, and gives their counts. A failed accept is told at once. Then nobody can connect any
+/// more, and what was accepted is served to its end.
 fn accept_and_serve<
     's,
     'd,
     N: AtDesk + Send + Sync,
+    S: Read + Write + Drop + Send,
+    A: Acceptor<S>,
     R: Threads + Wait + Clock + Sync,
     W: Write,
     E: Write,
 >(
-    hosting: &'s Hosting<'s, 'd, N, R>,
-    listening: Listening<'_>,
+    hosting: &'s StreamHosting<'s, 'd, N, S, R>,
+    acceptor: A,
     connections: u64,
     voices: &mut Voices<W, E>,
 ) -> (Accepted, Accepts)
+    requires { BeginsAt A.serves A.accepted A.failures acceptor N.desk }
     ensures count { AcceptsBy connections 0 result.1.accepted 0 result.1.failures result.0 }
     ensures told { TellsAccepted result.0 (heard W.contents voices.old.output) (heard W.contents voices.new.output) }
     ensures cause { TellsFailure result.0 (heard E.contents voices.old.errors) (heard E.contents voices.new.errors) }
@@ -114,8 +118,10 @@ fn accept_and_serve<
     let (accepted, counts, _voices) = thread::scope(
         thread::scope_env(),
         hosting.rt,
-        move |scope| {
-            let (accepted, counts) = accept_over(hosting, listening, connections, voices, scope);
+        move |scope|
+            requires { BeginsAt A.serves A.accepted A.failures acceptor N.desk }
+        {
+            let (accepted, counts) = accept_over(hosting, acceptor, connections, voices, scope);
             (accepted, counts, voices)
         },
     );
@@ -128,23 +134,26 @@ pub fn accept_all<
     's,
     'd,
     N: AtDesk + Send + Sync,
+    S: Read + Write + Drop + Send,
+    A: Acceptor<S>,
     R: Threads + Wait + Clock + Sync,
     W: Write,
     E: Write,
 >(
-    hosting: &'s Hosting<'s, 'd, N, R>,
-    listening: Listening<'_>,
+    hosting: &'s StreamHosting<'s, 'd, N, S, R>,
+    acceptor: A,
     connections: u64,
     voices: &mut Voices<W, E>,
-) -> (Accepted, Accepts, Vec<SocketSitting<'d, N>>)
+) -> (Accepted, Accepts, Vec<StreamSitting<'d, N, S>>)
+    requires { BeginsAt A.serves A.accepted A.failures acceptor N.desk }
     ensures count { AcceptsBy connections 0 result.1.accepted 0 result.1.failures result.0 }
     ensures told { TellsAccepted result.0 (heard W.contents voices.old.output) (heard W.contents voices.new.output) }
     ensures cause { TellsFailure result.0 (heard E.contents voices.old.errors) (heard E.contents voices.new.errors) }
     ensures seats { vec_len result.2 ≡ seat_count hosting.now.free.now }
-    ensures one_history { ServeInOneHistory ⟦<Over<SocketReader> as Source>⟧ ⟦<Over<SocketWriter> as Sink>⟧ 16777216
+    ensures one_history { ServeInOneHistory ⟦<Over<S> as Source>⟧ ⟦<Over<S> as Sink>⟧ 16777216
         (map (λ s. s.seat) result.2.items) }
 {
-    let (accepted, counts) = accept_and_serve(hosting, listening, connections, voices);
+    let (accepted, counts) = accept_and_serve(hosting, acceptor, connections, voices);
     let seats = take_back(hosting.rt, hosting.alloc, hosting.free);
     (accepted, counts, seats)
 }

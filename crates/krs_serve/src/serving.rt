@@ -26,5 +26,6 @@ pub fn serve_connection<'d, N: AtDesk, H: Wait, R: Source + Drop, W: Sink + Drop
         × GainsSession guest.entry.sitting.seat frames calls result.seat }
     ensures rested { result.seat.kept ≡ 0 }
 {
-    serve_by(rt, alloc, guest.desk(), guest, clock)
+    let (sitting, _gone) = serve_by(rt, alloc, guest.desk(), guest, clock);
+    sitting
 }

@@ -168,5 +168,6 @@ fn serve_one<
     ensures ready { D.ready desk.now result.0 }
 {
     let (connection, seat) = job;
-    serve_entry(rt, alloc, connection, desk, seat, gate, turns)
+    let (seat, ended, _gone) = serve_entry(rt, alloc, connection, desk, seat, gate, turns);
+    (seat, ended)
 }

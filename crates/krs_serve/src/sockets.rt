@@ -1,0 +1,36 @@
+//! The system's sockets. `Files` and `Net` are asked for here alone.
+use crate::{AtDesk, Paths};
+use krs_listen::StreamAcceptor;
+use std::fs::Files;
+use std::net::Net;
+use std::os::unix::net::{UnixListener, UnixStream};
+use std::{fs, io};
+
+/// The system's paths, at which sockets listen.
+#[derive(Drop)]
+pub struct SystemPaths<'r, R> {
+    rt: &'r R,
+}
+
+impl<'r, R: Files + Net> SystemPaths<'r, R> {
+    pub fn new(rt: &'r R) -> SystemPaths<'r, R> {
+        SystemPaths { rt }
+    }
+}
+
+impl<'r, R: Files + Net> Paths for SystemPaths<'r, R> {
+    type Stream = UnixStream;
+
+    type Acceptor = StreamAcceptor<UnixListener, UnixStream>;
+
+    ghost at = { λ _ _. Unit {0} };
+
+    fn bind<N: AtDesk>(&self, path: &str) -> io::Result<StreamAcceptor<UnixListener, UnixStream>> {
+        let listener = UnixListener::bind(self.rt, path)?;
+        Ok(StreamAcceptor::new(listener))
+    }
+
+    fn remove(&self, path: &str) {
+        let _ = fs::remove_file(self.rt, path);
+    }
+}
