@@ -3,7 +3,7 @@
 
 mod standard;
 
-use krs_ctl::Voice;
+use krs_ctl::{SystemSockets, Voice};
 use standard::taken;
 use std::env;
 use std::process::ExitCode;
@@ -11,7 +11,7 @@ use std::process::ExitCode;
 fn main(rt: HostRuntime) -> ExitCode {
     let held = (taken(&rt), taken(&rt), taken(&rt));
     let status = krs_ctl::run_program(
-        &rt,
+        &mut SystemSockets::new(&rt),
         rt.alloc(),
         env::args(&rt),
         rt.reader(),

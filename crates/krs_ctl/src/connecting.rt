@@ -1,23 +1,22 @@
 //! What is done over a connection, which is made first.
 
-ghost use Rattle.std.specs.Prelude.{◌≡◌, ◌≢◌, codes, IfOk, string_bytes};
+ghost use Rattle.std.specs.Prelude.{◌≡◌, ◌≢◌, codes, Err, IfOk, Ok, string_bytes, ℕ};
 ghost use Rattle.std.specs.{IoError.error_kind, declared.io.ErrorKind.TheVariants.OutOfMemory};
 ghost use Rattle.krs_words.specs.Saying.{heard, Says};
 ghost use Rattle.krs_script.specs.Ending.{Says as Prints};
-ghost use Rattle.krs_ctl.specs.Program.{CallsAt, RunsAt, SaysUnconnected};
+ghost use Rattle.krs_ctl.specs.{Connecting.connecting, Program.{CallsAt, RunsAt, SaysUnconnected}};
 ghost use Rattle.krs_ctl.specs.Telling.{path_text, TellsCall, TellsEnd, TellsFailure, TellsOf, TellsOver};
 
 use crate::advice::of_refused;
 use crate::choice::Call;
-use crate::watched::Watched;
+use crate::place::Connects;
+use crate::watched::{Front, Watched};
 use krs_remote::{run_call, run_remote_at};
 use krs_script::{NO_CONNECTION, OUT_OF_MEMORY, Place, push_quoted, say, tell};
 use krs_words::{Stop, Voice};
 use std::alloc::{AllocError, Global};
 use std::io;
 use std::io::{ErrorKind, Read, Write};
-use std::net::Net;
-use std::os::unix::net::UnixStream;
 
 /// What is told of a connection that was made, and came to no reply.
 const FAILED: &str =
@@ -43,20 +42,34 @@ pub(crate) enum Failure {
 }
 
 /// Runs the lines of a reader over a connection to the path: the script's status.
-pub(crate) fn script_at<N: Net, R: Read + Drop, W: Write, E: Write>(
-    net: &N,
+pub(crate) fn script_at<C: Connects, R: Read + Drop, W: Write, E: Write>(
+    net: &mut C,
     alloc: Global,
     path: &str,
     input: R,
     output: &mut W,
     errors: &mut Voice<E>,
 ) -> u8
-    ensures runs { RunsAt (R.remaining input) (W.contents output.old) (W.contents output.new) result }
+    ensures runs { RunsAt (connecting C.made C.failed C.closed C.Reader.remaining C.Writer.contents
+        net.old net.new) path.now (R.remaining input) (W.contents output.old)
+        (W.contents output.new) result }
     ensures told { TellsOver path.now result (heard E.contents errors.old) (heard E.contents errors.new) }
     ensures well { result ≡ 0 → heard E.contents errors.new ≡ heard E.contents errors.old }
 {
-    match UnixStream::connect(net, path) {
-        Ok(stream) => script_over(alloc, &stream, path, input, output, errors),
+    match net.connect(path) {
+        Ok((from, mut to)) => {
+            let mut place = Place::start(alloc);
+            let mut from = Watched {
+                end: from,
+                front: Front::start(),
+            };
+            let (status, stopped) = run_remote_at(
+                alloc, input, output, &mut from, &mut to, &mut place,
+            );
+            tell_stopped(alloc, errors, path, &from, &place, stopped);
+            net.close(from.into_end(), to);
+            status
+        }
         Err(error) => {
             tell_cause(alloc, errors, path, &error);
             say_unconnected(output, &error)
@@ -64,49 +77,48 @@ pub(crate) fn script_at<N: Net, R: Read + Drop, W: Write, E: Write>(
     }
 }
 
-/// The same over this connection.
-fn script_over<R: Read + Drop, W: Write, E: Write>(
+/// Tells why a script over this connection to the path stopped, if it did.
+fn tell_stopped<F, E: Write>(
     alloc: Global,
-    stream: &UnixStream,
-    path: &str,
-    input: R,
-    output: &mut W,
     errors: &mut Voice<E>,
-) -> u8
-    ensures runs { RunsAt (R.remaining input) (W.contents output.old) (W.contents output.new) result }
-    ensures told { TellsOver path.now result (heard E.contents errors.old) (heard E.contents errors.new) }
-    ensures well { result ≡ 0 → heard E.contents errors.new ≡ heard E.contents errors.old }
+    path: &str,
+    from: &Watched<F>,
+    place: &Place,
+    stopped: Result<(), Stop>,
+)
+    ensures told { (status : ℕ) → (status ≡ 2 → stopped ≡ Err Stop.Usage)
+        → TellsOver path.now status (heard E.contents errors.old) (heard E.contents errors.new) }
+    ensures well { stopped ≡ Ok tt → heard E.contents errors.new ≡ heard E.contents errors.old }
 {
-    let mut place = Place::start(alloc);
-    let mut from = Watched::new(stream);
-    let mut to = stream;
-    let (status, stopped) = run_remote_at(alloc, input, output, &mut from, &mut to, &mut place);
     if stopped == Err(Stop::Connection) && from.is_turned_away() {
         tell_of(alloc, errors, path, NO_PLACE);
-        return status;
+        return;
     }
-    tell(alloc, errors, &place, stopped);
-    status
+    tell(alloc, errors, place, stopped);
 }
 
 /// Carries a single command out over a connection to its path: the status.
-pub(crate) fn call_at<N: Net, W: Write, E: Write>(
-    net: &N,
+pub(crate) fn call_at<C: Connects, W: Write, E: Write>(
+    net: &mut C,
     alloc: Global,
     call: Call,
     output: &mut W,
     errors: &mut Voice<E>,
 ) -> u8
-    ensures calls { CallsAt call (W.contents output.old) (W.contents output.new) result }
+    ensures calls { CallsAt (connecting C.made C.failed C.closed C.Reader.remaining C.Writer.contents
+        net.old net.new) call (W.contents output.old) (W.contents output.new) result }
     ensures told { TellsCall call result (heard E.contents errors.old) (heard E.contents errors.new) }
 {
-    match UnixStream::connect(net, call.path.as_str()) {
-        Ok(stream) => {
+    match net.connect(call.path.as_str()) {
+        Ok((from, mut to)) => {
             let refused = of_refused(&call.caller, &call.command);
-            let mut from = Watched::new(&stream);
-            let mut to = &stream;
+            let mut from = Watched {
+                end: from,
+                front: Front::start(),
+            };
             let status = run_call(alloc, call.caller, call.command, output, &mut from, &mut to);
             let why = failure_of(&from);
+            net.close(from.into_end(), to);
             tell_end(alloc, errors, call.path.as_str(), status, why, refused);
             status
         }
@@ -121,7 +133,7 @@ pub(crate) fn call_at<N: Net, W: Write, E: Write>(
 }
 
 /// Why a call over this connection came to no reply, where it did.
-fn failure_of(from: &Watched<'_>) -> Failure {
+fn failure_of<F>(from: &Watched<F>) -> Failure {
     if from.is_turned_away() {
         return Failure::NoPlace;
     }

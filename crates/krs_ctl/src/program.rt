@@ -3,10 +3,12 @@ ghost use Rattle.std.specs.{IoError.error_kind, Vec.Iter.into_iter_items};
 ghost use Rattle.krs_words.specs.Saying.{heard, Says as Tells};
 ghost use Rattle.krs_script.specs.Ending.{Says};
 ghost use Rattle.krs_ctl.specs.Choice.{IsUnread, misuse_text};
-ghost use Rattle.krs_ctl.specs.{CommandLine.LeadsTo, Program.Answers, declared.choice.Choice.Choice as ChoiceIs};
+ghost use Rattle.krs_ctl.specs.{CommandLine.LeadsTo, Connecting.connecting, Program.Answers};
+ghost use Rattle.krs_ctl.specs.declared.choice.Choice.{Choice as ChoiceIs};
 
 use crate::choice::{Choice, Misuse, choose};
 use crate::connecting::{call_at, script_at};
+use crate::place::Connects;
 use crate::script::run_script_at;
 use krs_script::{OUT_OF_MEMORY, Place, USAGE, say, tell};
 use krs_store::Store;
@@ -15,12 +17,11 @@ use std::alloc::Global;
 use std::env::Args;
 use std::io;
 use std::io::{Read, Write};
-use std::net::Net;
 
-/// The program: from its words, the first of which is its name, and its three ends to its exit status. A connection is
-/// made by `net`.
-pub fn run_program<N: Net, R: Read + Drop, W: Write, E: Write>(
-    net: &N,
+/// The program: from its words, the first of which is its name, and its three ends to its exit status. Where it asks
+/// over a connection, `net` makes it: one, to the path that was chosen.
+pub fn run_program<C: Connects, R: Read + Drop, W: Write, E: Write>(
+    net: &mut C,
     alloc: Global,
     words: io::Result<Args>,
     input: R,
@@ -30,7 +31,8 @@ pub fn run_program<N: Net, R: Read + Drop, W: Write, E: Write>(
     ensures { (choice : ChoiceIs)
         × IfOk words (λ words. LeadsTo (map string_bytes (into_iter_items words)) choice)
         × IfErr words (λ error. IsUnread (error_kind error) choice)
-        × Answers choice (R.remaining input) (W.contents output.old) (W.contents output.new)
+        × Answers (connecting C.made C.failed C.closed C.Reader.remaining C.Writer.contents
+        net.old net.new) choice (R.remaining input) (W.contents output.old) (W.contents output.new)
         (heard E.contents errors.old) (heard E.contents errors.new) result }
 {
     let choice = choose(alloc, words);
@@ -38,15 +40,16 @@ pub fn run_program<N: Net, R: Read + Drop, W: Write, E: Write>(
 }
 
 /// What each choice prints, and the status.
-fn answer<N: Net, R: Read + Drop, W: Write, E: Write>(
-    net: &N,
+fn answer<C: Connects, R: Read + Drop, W: Write, E: Write>(
+    net: &mut C,
     alloc: Global,
     choice: Choice,
     input: R,
     output: &mut W,
     errors: &mut Voice<E>,
 ) -> u8
-    ensures { Answers choice (R.remaining input) (W.contents output.old) (W.contents output.new)
+    ensures { Answers (connecting C.made C.failed C.closed C.Reader.remaining C.Writer.contents
+        net.old net.new) choice (R.remaining input) (W.contents output.old) (W.contents output.new)
         (heard E.contents errors.old) (heard E.contents errors.new) result }
 {
     match choice {

@@ -1,33 +1,28 @@
-//! The reading end of a connection, as far as a client has to know what came first.
+//! The reading end of a connection, as far as a client has to know what came first. What reads here is proved for every
+//! end, and gives what that end gives.
+ghost use Rattle.std.specs.Prelude.{◌≡◌};
 
 use std::io;
 use std::io::Read;
-use std::os::unix::net::UnixStream;
 
-/// The length and the status of a reply that says that there is no place: `EDQUOT`, which keyretain-guard answers to the
-/// first ask.
+/// The length and the status of a reply that says that there is no place: `EDQUOT`, which keyretain-guard answers to
+/// the first ask.
 const NO_PLACE: [u8; 8] = [12, 0, 0, 0, 122, 0, 0, 0];
 
-/// The reading end, with as much of what was read first.
+/// What was read first, as far as it counts.
 #[derive(Drop)]
-pub(crate) struct Watched<'a> {
-    stream: &'a UnixStream,
-    first: [u8; 8],
+pub(crate) struct Front {
+    bytes: [u8; 8],
     count: usize,
 }
 
-impl<'a> Watched<'a> {
-    pub fn new(stream: &'a UnixStream) -> Watched<'a> {
-        Watched {
-            stream,
-            first: [0; 8],
+impl Front {
+    /// Before anything was read.
+    pub fn start() -> Front {
+        Front {
+            bytes: [0; 8],
             count: 0,
         }
-    }
-
-    /// Whether the first reply says that there is no place.
-    pub fn is_turned_away(&self) -> bool {
-        self.first == NO_PLACE
     }
 
     /// Keeps what was read first.
@@ -36,17 +31,39 @@ impl<'a> Watched<'a> {
             if self.count >= 8 {
                 return;
             }
-            self.first[self.count] = *byte;
+            self.bytes[self.count] = *byte;
             self.count += 1;
         }
     }
 }
 
-impl Read for Watched<'_> {
+/// The reading end, with what was read first.
+#[derive(Drop)]
+pub(crate) struct Watched<F> {
+    pub end: F,
+    pub front: Front,
+}
+
+impl<F> Watched<F> {
+    pub fn into_end(self) -> F
+        ensures { result ≡ self.end }
+    {
+        let Watched { end, front: _ } = self;
+        end
+    }
+
+    /// Whether the first reply says that there is no place.
+    pub fn is_turned_away(&self) -> bool {
+        self.front.bytes == NO_PLACE
+    }
+}
+
+impl<F: Read> Read for Watched<F> {
+    ghost remaining = { λ watched. F.remaining watched.end };
+
     fn read(&mut self, room: &mut [u8]) -> io::Result<usize> {
-        let mut stream = self.stream;
-        let count = stream.read(room)?;
-        self.note(&room[..count]);
+        let count = self.end.read(room)?;
+        self.front.note(&room[..count]);
         Ok(count)
     }
 }
