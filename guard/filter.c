@@ -20,7 +20,7 @@ static const struct {
     uint16_t call;
     uint8_t argument;
     uint32_t value;
-} PARTLY[] = { { SYS_socket, 0, AF_UNIX }, { SYS_fcntl, 1, F_SETFL } };
+} PARTLY[] = { { SYS_socket, 0, AF_UNIX }, { SYS_fcntl, 1, F_SETFL }, { SYS_setsockopt, 2, SO_SNDBUF } };
 
 enum {
     COUNT = sizeof ALLOWED / sizeof *ALLOWED,

@@ -4,6 +4,7 @@
 enum {
     STACK_SIZE = 262144, /* of a thread; a few pages of it are used */
     CLAIMED_MAX = 32,    /* groups of a HELLO: keyretain-protocol(7) */
+    UNTAKEN_MOST = 32768, /* bytes that a socket keeps for who doesn't take them; twice, with what the system adds */
     FIRST_REPLY = 5000,  /* milliseconds, after which it is told that a daemon hasn't answered */
 };
 
@@ -97,12 +98,20 @@ static bool awaits(const struct link *link, uint64_t count) {
 
 /* ---- The connection to the daemon ---- */
 
+/* What a client or the daemon doesn't take the system keeps, and counts it as the guard's memory: for all clients that
+ * would be more than the guard's unit allows, which would end them all. */
+static void keep_little(int socket) {
+    const int most = UNTAKEN_MOST;
+    setsockopt(socket, SOL_SOCKET, SO_SNDBUF, &most, sizeof most);
+}
+
 /* A connection to the daemon; -1 with errno, which is EAGAIN where its queue of connections is full. */
 static int connect_once(void) {
     int server = socket(AF_UNIX, SOCK_STREAM | SOCK_NONBLOCK | SOCK_CLOEXEC, 0);
     if (server >= 0 && (connect(server, (struct sockaddr *)&options.daemon, sizeof options.daemon) < 0 ||
                         fcntl(server, F_SETFL, 0) < 0))
         close_one(&server);
+    if (server >= 0) keep_little(server);
     return server;
 }
 
@@ -221,6 +230,7 @@ static void wait_and_move(struct link *link) {
 /* The daemon is told that no more asks come; what it answers to those that it has is still passed on. */
 static void move(struct link *link) {
     bool is_told = false;
+    keep_little(link->client);
     begin_way(&link->asks, link->client, -1);
     begin_way(&link->replies, -1, link->client);
     while (!is_done(&link->replies)) {

@@ -27,6 +27,8 @@ static const struct {
     { "close", SYS_close, { -1 }, true },
     { "a socket of unix(7)", SYS_socket, { AF_UNIX, SOCK_STREAM }, true },
     { "flags of a descriptor's file", SYS_fcntl, { -1, F_SETFL }, true },
+    { "how much a socket keeps", SYS_setsockopt, { -1, SOL_SOCKET, SO_SNDBUF }, true },
+    { "another option of a socket", SYS_setsockopt, { -1, SOL_SOCKET, SO_RCVBUF }, false },
     { "a socket of the network", SYS_socket, { AF_INET, SOCK_STREAM }, false },
     { "a socket of the network by IPv6", SYS_socket, { AF_INET6, SOCK_STREAM }, false },
     { "a socket of the kernel's", SYS_socket, { AF_NETLINK, SOCK_RAW }, false },

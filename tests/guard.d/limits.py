@@ -1,15 +1,17 @@
 """Of the guard: places: how many a user has, who is ended, and that none is lost."""
+import fcntl
 import os
 import random
 import re
 import resource
 import signal
+import termios
 import time
 
 from daemons import PATIENCE
 from stage import (
     EDQUOT, EPERM, GID, GROUP_A, HELLO, NOBODY, ROOT, UID, USER_A, USER_B, WHO, Running, add, alive, ask, check,
-    check_soon, connect_as, descriptors, hello, is_alive, read_key, skipped, ticks)
+    check_soon, connect_as, descriptors, hello, is_alive, read_key, skipped, ticks, wait_for_replies)
 
 
 def try_limit_of_one():
@@ -65,6 +67,18 @@ def try_too_many():
     run.end()
     told = [re.sub(r'pid \d+', 'pid N', line) for line in open(run.errors.name)]
     check('what is told of them', set(told), {f'refused: uid {UID} (pid N) has 1 of 64 places\n'})
+
+
+def try_untaken():
+    """What a client doesn't take, which counts as the guard's memory: of all places no more than its unit allows."""
+    run, there = Running(), bytearray(4)
+    client = run.one(*WHO)
+    context = client.context(UID, GID)
+    client.send(read_key(context, client.serial(add(context, b'name', b'p' * 32767))) * 20)
+    wait_for_replies(client)
+    fcntl.ioctl(client.sock, termios.FIONREAD, there)
+    check('bytes that are kept', int.from_bytes(there, 'little') < 100000, True)
+    run.end()
 
 
 def descriptors_at_rest(run):
