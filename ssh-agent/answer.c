@@ -27,7 +27,7 @@ static unsigned char payload[PAYLOAD_MOST], made_lock[SALT_SIZE + HASH_SIZE]; /*
  * private keys. */
 static int32_t find_ring(int32_t from) {
     int32_t found = kr_find_own(connection, context, from, "keyring", ring_name);
-    return found < 0 && (errno == ENOKEY || errno == EKEYREVOKED || errno == EKEYEXPIRED) ? 0 : found;
+    return found < 0 && kr_found_none() ? 0 : found;
 }
 
 int open_ring(void) {

@@ -129,6 +129,19 @@ static int begin_listening(void) {
     return listener;
 }
 
+/* Whatever whoever has started it ignores or holds back: SIGALRM ends a client that takes too long, and one that has
+ * ended is waited for, unless SIGCHLD is ignored. */
+static void set_signals(void) {
+    sigset_t none;
+    sigemptyset(&none);
+    signal(SIGTERM, end);
+    signal(SIGINT, end);
+    signal(SIGHUP, end);
+    signal(SIGALRM, SIG_DFL);
+    signal(SIGCHLD, SIG_DFL);
+    sigprocmask(SIG_SETMASK, &none, NULL);
+}
+
 int main(int count, char **words) {
     if (count == 2 && strcmp(words[1], "--version") == 0) return puts("keyretain-ssh-agent " KEYRETAIN_VERSION) < 0;
     if (count == 2 && strcmp(words[1], "--help") == 0) return fputs(usage, stdout) < 0;
@@ -139,9 +152,7 @@ int main(int count, char **words) {
     else listener = begin_listening();
     if (prctl(PR_SET_DUMPABLE, 0) < 0 || setrlimit(RLIMIT_CORE, &(struct rlimit){ 0, 0 }) < 0) err(1, "core files");
     listening = getpid();
-    signal(SIGTERM, end);
-    signal(SIGINT, end);
-    signal(SIGHUP, end);
+    set_signals();
     OPENSSL_init_crypto(OPENSSL_INIT_LOAD_CONFIG, NULL); /* which each client then has at once */
     serve(listener);
 }

@@ -94,7 +94,7 @@ int serials_begin_anew(struct serials *serials);
 /* Forgets all. */
 void serials_clear(struct serials *serials);
 
-/* ---- Who asks ---- */
+/* ---- Who asks: caller.c in the library, tracees.c in the supervisor ---- */
 
 struct seat;
 

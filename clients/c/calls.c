@@ -42,7 +42,6 @@ static bool copy_payload(const struct key_row *row, unsigned long *at) {
     if (payload < 0 || at[payload + 1] == 0) return true;
     unsigned long *from = &at[payload], *length = from + 1;
     if (*length > PAYLOAD_MAX) *length = PAYLOAD_MAX;
-    contexts_count(*length);
     if (!memory_read(&tracees_entered()->memory, copies->payload, *from, *length)) return false;
     *from = (unsigned long)copies->payload;
     return true;

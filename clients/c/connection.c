@@ -3,6 +3,8 @@
 
 /* ---- An ask ---- */
 
+enum { READ_BYTES = 4096 };
+
 /* In the tags of asks that make a context: so a reply that nobody awaits any more says that there is one. */
 #define KR_MAKES (UINT64_C(1) << 63)
 
@@ -31,6 +33,7 @@ static int send_ask(struct kr *connection, const struct kr_ask_form *form, uint3
         return -1;
     }
     connection->asked++;
+    connection->further_reads += length / READ_BYTES;
     return sent;
 }
 

@@ -162,6 +162,7 @@ struct kr {
     int64_t until;    /* calls that are made from now on end by this moment, whatever their patience */
     int waits[2];     /* milliseconds that the socket itself waits in send and recv; 0 is for ever */
     uint64_t asked, answered, given_up;
+    uint64_t further_reads; /* of the daemon, which reads an ask 4,096 bytes at a time, beside one for each */
     uint32_t late[KR_CONTEXTS]; /* contexts that replies to asks which were given up have told, and that nobody wants */
     unsigned late_count;
     const struct kr_ask_form *ahead[KR_AHEAD_MAX]; /* of the asks sent ahead, by their number */

@@ -7,7 +7,7 @@
 #define KEYRETAIN_READS 15000000
 #endif
 
-enum { CALL_MILLISECONDS = 30000, OPENING_MILLISECONDS = 10000, READ_BYTES = 4096 };
+enum { CALL_MILLISECONDS = 30000, OPENING_MILLISECONDS = 10000 };
 
 /* So many contexts of identities, and with sessions so many that last, may be on one connection: the rest is for
  * processes that ask. All wait while a further connection is opened, so one that fails isn't tried again at once. */
@@ -18,8 +18,7 @@ struct line {
     unsigned age, replaces; /* the age of the one in whose place it is, or 0 */
     unsigned count, lasting;
     bool is_old;
-    unsigned long long reads; /* beside one for each ask */
-    unsigned long long most;  /* when it is worn */
+    unsigned long long most; /* reads, when it is worn */
     struct line *next;
 };
 
@@ -29,6 +28,7 @@ static struct {
     int64_t next_further;
     struct kr_where where;
     bool (*make_room)(unsigned age);
+    bool (*give_up_keys)(void);
 } all;
 
 /* ---- Connections ---- */
@@ -52,8 +52,9 @@ static struct line *open_line(int milliseconds) {
     return all.lines = line;
 }
 
-int contexts_begin(const char *path, bool (*make_room)(unsigned age)) {
+int contexts_begin(const char *path, bool (*make_room)(unsigned age), bool (*give_up_keys)(void)) {
     all.make_room = make_room;
+    all.give_up_keys = give_up_keys;
     return kr_locate(&all.where, path) == 0 && open_line(OPENING_MILLISECONDS) ? 0 : -1;
 }
 
@@ -91,7 +92,9 @@ void contexts_tidy(void) {
 
 /* ---- Connections that are worn ---- */
 
-static unsigned long long reads_of(const struct line *line) { return line->connection->asked + line->reads; }
+static unsigned long long reads_of(const struct line *line) {
+    return line->connection->asked + line->connection->further_reads;
+}
 
 static struct line *find_worn(void) {
     return FIND(all.lines, line, !line->is_old && reads_of(line) >= line->most);
@@ -113,11 +116,6 @@ int contexts_renew(void) {
     worn->is_old = true;
     line->replaces = worn->age;
     return 0;
-}
-
-/* On which connection the ask is sent isn't known yet. */
-void contexts_count(size_t bytes) {
-    for (struct line *line = all.lines; line; line = line->next) line->reads += bytes / READ_BYTES;
 }
 
 /* ---- Contexts ---- */
@@ -170,16 +168,25 @@ static int hello_on_further(struct context *made, const struct kr_identity *iden
     return take(made, line, number, true);
 }
 
-int context_hello(struct context *made, const struct kr_identity *identity) {
+static int hello_where_room_is(struct context *made, const struct kr_identity *identity) {
     struct line *line;
     int64_t number;
-    if (!all.lines) return fail_as(ENOSYS);
     do line = FIND(all.lines, at, !at->is_old && at->lasting < IDENTITIES);
     while (!line && all.make_room(0));
-    if (!line) return hello_on_further(made, identity);
+    if (!line) return fail_as(EDQUOT);
     do number = kr_hello_as(line->connection, identity);
     while (again(line, number));
-    return number < 0 && errno == EDQUOT ? hello_on_further(made, identity) : take(made, line, number, true);
+    return take(made, line, number, true);
+}
+
+int context_hello(struct context *made, const struct kr_identity *identity) {
+    if (!all.lines) return fail_as(ENOSYS);
+    do {
+        if (hello_where_room_is(made, identity) == 0) return 0;
+        if (errno != EDQUOT) return -1;
+        if (hello_on_further(made, identity) == 0) return 0;
+    } while (all.give_up_keys());
+    return fail_as(EDQUOT);
 }
 
 static int derive(struct context *made, const struct context *from, int64_t (*ask)(struct kr *, uint32_t), bool lasts) {

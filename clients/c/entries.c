@@ -150,6 +150,7 @@ void set_session(struct task *task, struct session *session) {
 void note_executed(struct process *process) {
     while (process->tasks != process->first) end_task(process->tasks);
     end_seats(process->first);
+    process->first->has_joined = false;
     process->first->replay = (struct replay){ 0 };
     process->has_threads = false;
     sweep_no_more(process);
@@ -167,6 +168,8 @@ bool has_executed(const struct process *process, uint64_t image) {
 
 bool entries_want_sweep(void) { return all.swept > 0; }
 
+/* What waits within execve(2), as to close a file whose server is slow, has what is read of it wait too: not where its
+ * memory is seen to be gone. */
 void entries_sweep(void) {
     for (struct process *process = entries_oldest(); process && all.swept > 0; process = entries_next(process)) {
         if (!process->may_have_keyrings) continue;
@@ -174,6 +177,6 @@ void entries_sweep(void) {
             next = task->next;
             if (task->descriptor >= 0 && proc_has_ended(task->descriptor)) end_task(task);
         }
-        if (has_executed(process, proc_image(process->id))) note_executed(process);
+        if (has_executed(process, 0) || has_executed(process, proc_image(process->id))) note_executed(process);
     }
 }

@@ -48,7 +48,7 @@ struct seat {
     struct session *session;
     struct context context;
     bool is_lost;                      /* the session */
-    bool has_joined;                   /* it itself has begun the session */
+    bool has_joined;                   /* it is the one in which the thread itself has joined that session */
     bool is_elsewhere;                 /* in another user namespace, when it was made */
     struct admission_process made_for; /* what was judged then */
 };
@@ -61,6 +61,7 @@ struct task {
     int descriptor; /* of the thread; -1 for the first, which lasts as long as its process */
     int reqkey;
     struct session *session; /* that it holds; NULL is none */
+    bool has_joined;         /* it itself has joined that, since it executed something */
     struct seat seats[SEATS];
     unsigned count;
     struct replay replay;

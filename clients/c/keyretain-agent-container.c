@@ -11,7 +11,8 @@
 
 #include "serve.h"
 
-enum { FAILED = 3, DAEMON_PATIENCE = 10000, STACK_BYTES = 256 * 1024, COPIED_AT_ONCE = 1024 * 1024 };
+enum { FAILED = 3, DAEMON_PATIENCE = 10000, END_PATIENCE = 1000, LOOK = 10 /* milliseconds */ };
+enum { STACK_BYTES = 256 * 1024, COPIED_AT_ONCE = 1024 * 1024 };
 enum { LISTENERS = 3, COPY = 4, KEPT = 5 }; /* descriptors of a server */
 
 #ifndef MFD_EXEC
@@ -274,12 +275,14 @@ void containers_reap(void) {
             if (all.containers[i].server == pid) end_server(&all.containers[i], status);
 }
 
+/* A server that waits for its container's memory, as for a page of a FUSE file, may end long after: it is left. */
 void containers_end(void) {
+    const int64_t deadline = kr_now() + END_PATIENCE;
     for (unsigned i = 0; i < all.settings.most; i++)
         if (all.containers[i].server > 0) kill(all.containers[i].server, SIGKILL);
     for (unsigned i = 0; i < all.settings.most; i++) {
         if (all.containers[i].server <= 0) continue;
-        TEMP_FAILURE_RETRY(waitpid(all.containers[i].server, NULL, 0));
+        while (waitpid(all.containers[i].server, NULL, WNOHANG) == 0 && kr_now() < deadline) poll(NULL, 0, LOOK);
         forget(&all.containers[i]);
     }
 }

@@ -144,7 +144,6 @@ static char wait_for_end(const struct kr *connection, bool is_deaf) {
     return byte;
 }
 
-/* The link to the user keyring is the one that pam_keyinit(8) makes too. */
 static void hold_session(const struct options *options) {
     static struct kr_session session;
     struct kr_where where;
@@ -153,7 +152,7 @@ static void hold_session(const struct options *options) {
     if (kr_name_session(&session, options->name) < 0) say(REFUSED, "refused", "the name");
     session.serial = kr_begin_session(connection, context, session.name, geteuid());
     if (session.serial < 0) fail_ask(connection, session.name);
-    if (options->links_user && kr_link(connection, context, KEY_SPEC_USER_KEYRING, KEY_SPEC_SESSION_KEYRING) < 0)
+    if (options->links_user && kr_link_user_keyring(connection, context) < 0)
         fail_ask(connection, "linking the user keyring");
     answer(connection, session.serial, session.name, where.path);
     if (wait_for_end(connection, options->is_deaf) == 'r')
@@ -169,7 +168,7 @@ static int32_t have_key(struct kr *connection, uint32_t context, const char *typ
                         const char *payload) {
     const int32_t beside = KEY_SPEC_THREAD_KEYRING, user = KEY_SPEC_USER_KEYRING;
     int32_t key = kr_find_own(connection, context, user, type, name);
-    if (key >= 0 || errno != ENOKEY) return key;
+    if (key >= 0 || !kr_found_none()) return key;
     key = kr_add(connection, context, type, name, payload, strlen(payload), beside);
     if (key < 0 || kr_move(connection, context, key, beside, user, KEYCTL_MOVE_EXCL) == 0) return key;
     return errno == EEXIST ? kr_find_own(connection, context, user, type, name) : -1;

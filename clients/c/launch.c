@@ -192,8 +192,8 @@ static void join_within(const char *name, char **command) {
     if (!is_served()) fail(NO_CONNECTION, "another supervisor");
     if (syscall(SYS_keyctl, KEYCTL_JOIN_SESSION_KEYRING, name) < 0) fail(REFUSED, name ? name : "the session");
     if (name && !is_session_private()) fail(REFUSED, name);
-    if (syscall(SYS_keyctl, KEYCTL_LINK, KEY_SPEC_USER_KEYRING, KEY_SPEC_SESSION_KEYRING) < 0)
-        fail(REFUSED, "the user keyring");
+    if (syscall(SYS_keyctl, KEYCTL_LINK, KEY_SPEC_USER_KEYRING, KEY_SPEC_SESSION_KEYRING) < 0 && errno != ELOOP)
+        fail(REFUSED, "the user keyring"); /* see kr_link_user_keyring */
     execute(command);
     abort();
 }

@@ -4,6 +4,7 @@
 #include <linux/kcmp.h>
 #include <sys/epoll.h>
 #include <sys/ioctl.h>
+#include <sys/ptrace.h>
 #include <sys/signalfd.h>
 
 #ifndef SECCOMP_IOCTL_NOTIF_SET_FLAGS
@@ -143,12 +144,18 @@ static void note_end(pid_t process, int status) {
     if (all.settings->has_ended) all.settings->has_ended(status);
 }
 
+/* A child may ask for its parent to trace it (PTRACE_TRACEME), and is stopped then: it goes on with its signal. */
 static void reap(void) {
     struct signalfd_siginfo info;
     int status;
     pid_t process;
     while (read(all.signals, &info, sizeof info) == (ssize_t)sizeof info) continue;
-    while ((process = waitpid(-1, &status, WNOHANG)) > 0) note_end(process, status);
+    while ((process = waitpid(-1, &status, WNOHANG)) > 0) {
+        if (WIFSTOPPED(status))
+            ptrace(PTRACE_DETACH, process, NULL, WSTOPSIG(status));
+        else
+            note_end(process, status);
+    }
 }
 
 /* ---- The loop ---- */

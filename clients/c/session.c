@@ -130,6 +130,11 @@ int32_t kr_begin_session(struct kr *connection, uint32_t context, const char *na
     return kr_setperm(connection, context, ring, attributes.mask | KR_USER_MAY_SEARCH) < 0 ? -1 : ring;
 }
 
+int kr_link_user_keyring(struct kr *connection, uint32_t context) {
+    int linked = kr_link(connection, context, KEY_SPEC_USER_KEYRING, KEY_SPEC_SESSION_KEYRING);
+    return linked < 0 && errno == ELOOP ? 0 : linked;
+}
+
 /* A daemon that was started anew gives the same serials again. So it isn't enough that the serial is the session's: one
  * that JOIN has just made is known by lacking the right to search, without which JOIN would not have found it. */
 int kr_enter_named(struct kr *connection, uint32_t context, const struct kr_session *session, uint32_t uid) {

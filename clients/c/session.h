@@ -47,6 +47,10 @@ int kr_export_session(const struct kr_session *session);
  * nobody shares. */
 int32_t kr_begin_session(struct kr *connection, uint32_t context, const char *name, uint32_t uid);
 
+/* Links the user keyring to the session keyring, as pam_keyinit(8) does; 0 also where it is nested too deeply (ELOOP):
+ * another user may have done that in a keyring that is linked there, and would keep this one from all sessions. */
+int kr_link_user_keyring(struct kr *connection, uint32_t context);
+
 /* Joins a session whose serial is known, and which must still be there, for the user of a context: 0; 1 where its
  * keyring was revoked, is gone, or isn't this user's alone; -1 with errno. With 1 the context has another keyring,
  * which nobody shares, as its session. */
@@ -66,6 +70,11 @@ int kr_read_attributes(struct kr *connection, uint32_t context, int32_t ring, st
 /* The effective user's own key of this type and name, which a search from there finds. -1 with errno: ENOKEY also where
  * it finds another user's, in a keyring that is linked there. */
 int32_t kr_find_own(struct kr *connection, uint32_t context, int32_t head, const char *type, const char *name);
+
+/* Whether errno says of a search that it found none, or none of use: on another user's there may be no right. */
+static inline bool kr_found_none(void) {
+    return errno == ENOKEY || errno == EKEYREVOKED || errno == EKEYEXPIRED || errno == EACCES;
+}
 
 /* ---- holder.c: what holds a session ----
  *

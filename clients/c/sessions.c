@@ -67,6 +67,19 @@ int session_leave(const struct context *context) {
     return connection && kr_join(connection, context->number, NULL) > 0 ? 0 : -1;
 }
 
+/* Whether a name leads to a keyring of this user's or a new one; false with errno. It's tried where nothing is lost. */
+static bool may_join(struct user *user, const char *name) {
+    struct context trial;
+    struct kr_attributes attributes;
+    if (context_fork(&trial, &user->context) < 0) return false;
+    struct kr *connection = context_connection(&trial);
+    int32_t serial = connection ? kr_join(connection, trial.number, name) : fail_as(ECONNRESET);
+    bool is_own = serial > 0 && read_own(&trial, serial, user->identity.uid, &attributes);
+    if (serial > 0 && !is_own) errno = context_connection(&trial) ? EACCES : ECONNRESET;
+    context_end(&trial);
+    return is_own;
+}
+
 /* One without a name gets one that nobody can guess, by which other identities of its uid come in, and is its user's to
  * link only from within, as the kernel's is. Another user may have made a keyring of the name first, and opened it:
  * then the context ends. */
@@ -75,7 +88,7 @@ struct session *session_join(struct context *context, struct user *user, const c
     struct kr_session named;
     struct kr_attributes attributes;
     struct kr *connection = context_connection(context);
-    if (!connection || kr_name_session(&named, name) < 0) return NULL;
+    if (!connection || kr_name_session(&named, name) < 0 || (name && !may_join(user, name))) return NULL;
     int32_t serial = kr_join(connection, context->number, named.name);
     if (serial < 0) return NULL;
     struct session *session = FIND(all.sessions, at, at->serial == serial && !session_is_lost(at));
@@ -214,8 +227,7 @@ int sessions_begin(const struct kr_identity *identity, const struct admission_pr
     if (!user || kr_name_session(&named, name) < 0 || context_fork(&context, &user->context) < 0) return -1;
     struct kr *connection = context_connection(&context);
     int32_t serial = kr_begin_session(connection, context.number, named.name, identity->uid);
-    bool is_linked = is_container || (serial > 0 && kr_link(connection, context.number, KEY_SPEC_USER_KEYRING,
-                                                            KEY_SPEC_SESSION_KEYRING) == 0);
+    bool is_linked = is_container || (serial > 0 && kr_link_user_keyring(connection, context.number) == 0);
     if (serial > 0 && is_linked) all.first = session_use(add_session(&context, user, serial, named.name, begun));
     context_end(&context);
     return all.first ? 0 : -1;

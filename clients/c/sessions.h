@@ -25,9 +25,10 @@ struct context {
 };
 
 /* Connects to the daemon at a path, NULL for where kr_default_path says. `make_room` is asked to end some context of
- * the connection of this age, when it has as many as it may, or one that lasts, of age 0; false where none may be
- * ended. -1 with errno, ENOSYS where no daemon is there. */
-int contexts_begin(const char *path, bool (*make_room)(unsigned age));
+ * the connection of this age that nothing is lost with, when it has as many as it may, or one that lasts, of age 0;
+ * `give_up_keys` to end one that lasts, where there is no further connection. False where none may be ended. -1 with
+ * errno, ENOSYS where no daemon is there. */
+int contexts_begin(const char *path, bool (*make_room)(unsigned age), bool (*give_up_keys)(void));
 
 /* Before a call: opens a connection where the daemon has ended all, with which all contexts have gone. From now on asks
  * end by the call's deadline. */
@@ -73,15 +74,12 @@ void context_forget(struct context *context);
 /* Whether it has its thread or process keyring, which would end with it. */
 bool context_has_keyring(const struct context *context, int32_t id);
 
-/* How much was read into an ask, as the daemon reads a long one in many parts. */
-void contexts_count(size_t bytes);
-
 /* ---- users.c: the identities of what a supervisor serves ----
  *
  * Each that asks has a context, from which others are forked, and which keeps its user keyrings.
  *
  * The context of an identity that nothing uses any more is given up, unless its user keyrings would lose keys with it.
- * It is given up then too, where there is no room for another, and no process of its uid is known. */
+ * It is given up then too, where no further connection is to be had for another, and no process of its uid is known. */
 
 struct user {
     struct kr_identity identity;
@@ -102,9 +100,10 @@ void user_let_go(struct user *user);
 bool users_want_sweep(void);
 void users_sweep(void);
 
-/* Gives up one on the connection of this age, or of any for 0; `is_here` tells whether some process of a uid is known.
- * False where there is none. */
-bool users_make_room(unsigned age, bool (*is_here)(uint32_t uid));
+/* Gives up one that loses nothing, on the connection of this age, or of any for 0; or one whose uid has no process, as
+ * `is_here` tells, and with it keys. False where there is none. */
+bool users_make_room(unsigned age);
+bool users_give_up_keys(bool (*is_here)(uint32_t uid));
 
 /* Makes contexts anew that are on an old connection. */
 void users_renew(void);

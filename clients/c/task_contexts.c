@@ -161,10 +161,10 @@ bool seats_may_have_more(const struct user *user) {
 
 /* An identity that only idle processes have is given up with their contexts. */
 bool seats_make_room(unsigned age, const struct task *asking, bool (*keeps)(pid_t, const struct session *)) {
-    if (sessions_make_room(keeps) || users_make_room(age, entries_have_uid)) return true;
+    if (sessions_make_room(keeps) || users_make_room(age)) return true;
     if (age > 0) return end_idle_process(age, asking) || end_idle_task(age, asking);
     while (end_idle_process(0, asking))
-        if (users_make_room(0, entries_have_uid)) return true;
+        if (users_make_room(0)) return true;
     return false;
 }
 
@@ -179,7 +179,8 @@ static unsigned give_up_tasks(struct process *process, const struct task *asking
     unsigned count = 0;
     for (struct task *task = process->tasks, *next; task != process->first; task = next) {
         next = task->next;
-        if (task == asking || !has_nothing(task) || has_keyring(task, KEY_SPEC_THREAD_KEYRING)) continue;
+        if (task == asking || task->has_joined || !has_nothing(task) || has_keyring(task, KEY_SPEC_THREAD_KEYRING))
+            continue;
         end_task(task);
         count++;
     }

@@ -64,16 +64,14 @@ static struct task *have_entry(pid_t thread) {
     return task;
 }
 
-static struct seat *find_joined(struct task *task) { return FIND_SEAT(task, seat, seat->has_joined); }
-
 /* The user keyrings are the real uid's, and so is a session that is begun. Whoever has joined one itself is asked as
  * then where it names that, by a number too. */
 static bool is_of_user(struct task *task, const struct key_row *row, const unsigned long *given) {
     if (row->is_of_user || key_row_names(row, given, KEY_SPEC_USER_KEYRING) ||
         key_row_names(row, given, KEY_SPEC_USER_SESSION_KEYRING))
         return true;
-    return find_joined(task) && (key_row_names(row, given, KEY_SPEC_SESSION_KEYRING) ||
-                                 key_row_names(row, given, task->session->serial));
+    return task->has_joined && (key_row_names(row, given, KEY_SPEC_SESSION_KEYRING) ||
+                                key_row_names(row, given, task->session->serial));
 }
 
 bool tracees_enter(pid_t thread, const struct key_row *row, const unsigned long given[KEY_ARGUMENTS],
@@ -106,16 +104,26 @@ void tracees_leave(void) {
 /* All threads ask in the context of the first until some call names a thread keyring. */
 static struct task *seated(struct task *task) { return task->process->has_threads ? task : task->process->first; }
 
+/* What it has joined itself it is in, while it is of that user: also where its context was given up meanwhile. */
+static bool is_in_joined(const struct task *task, const struct user *user) {
+    uint32_t uid = user->identity.uid;
+    return task->has_joined && task->session->user->identity.uid == uid && !session_is_lost(task->session) &&
+           krs_admission_c_stays(&all.asker.process, uid);
+}
+
 /* What is read by number is the notified thread's where the notification still waits afterwards. What it has begun for
  * another user, as a login does, is what its children look for: it goes on to hold that. */
 static struct seat *have_new_seat(struct task *task, struct user *user) {
-    struct admitted admitted = admission_admit(task, &all.asker.process);
+    bool is_in = is_in_joined(task, user);
+    struct admitted admitted = is_in ? (struct admitted){ task->session, false }
+                                     : admission_admit(task, &all.asker.process);
     if (!all.is_valid()) return fail_as(ENOSYS), NULL;
     admitted.is_lost |= !admitted.session && all.asker.is_elsewhere; /* its user-session keyring is another */
     session_use(admitted.session); /* what is given up to make room isn't this one */
-    if (admitted.session && admitted.session != task->session && !find_joined(task))
+    if (admitted.session && admitted.session != task->session && !task->has_joined)
         set_session(task, admitted.session);
     struct seat *seat = have_seat(task, user, admitted, &all.asker);
+    if (seat && is_in) seat->has_joined = true;
     session_let_go(admitted.session);
     return seat;
 }
@@ -173,7 +181,8 @@ static struct seat *note_joined(struct seat *seat, struct session *session) {
     seat->has_joined = true;
     bring_seats(task, session);
     set_session(task, session);
-    return find_joined(task);
+    task->has_joined = true;
+    return FIND_SEAT(task, at, at->has_joined);
 }
 
 int32_t caller_join(struct caller *caller, const char *name) {
@@ -212,12 +221,14 @@ long tracees_session_to_parent(void) {
     struct process *parent = session ? have_parent(session) : NULL;
     if (!parent) return fail_as(EPERM);
     bring_seats(parent->first, session);
+    parent->first->has_joined &= parent->first->session == session;
     set_session(parent->first, session);
     return 0;
 }
 
 /* ---- Room, and the sweep ---- */
 
+static bool give_up_keys(void) { return users_give_up_keys(entries_have_uid); }
 bool tracees_make_room(unsigned age) { return seats_make_room(age, all.task, admission_keeps); }
 bool tracees_want_sweep(void) { return entries_want_sweep() || sessions_want_sweep() || users_want_sweep(); }
 
@@ -247,7 +258,7 @@ int tracees_begin(const struct tracees_settings *settings, int epoll) {
     struct kr_identity identity = settings->identity;
     if (settings->is_container) admission_put_first(&identity);
     admission_set(&begun, identity.uid);
-    if (contexts_begin(settings->socket, tracees_make_room) < 0) return -1;
+    if (contexts_begin(settings->socket, tracees_make_room, give_up_keys) < 0) return -1;
     if (sessions_begin(&identity, &begun, settings->name, settings->is_container) < 0) return -1;
     return settings->child > 0 ? begin_child(settings->child) : 0;
 }

@@ -63,17 +63,23 @@ void users_sweep(void) {
     }
 }
 
-bool users_make_room(unsigned age, bool (*is_here)(uint32_t uid)) {
-    struct user *found = NULL; /* the one that came first */
+bool users_make_room(unsigned age) {
     for (struct user *user = all; user; user = user->next) {
         bool is_there = age ? user->context.age == age : !context_is_old(&user->context);
-        if (user->uses > 0 || !is_there || !context_connection(&user->context)) continue;
-        if (!user->has_keys && !would_lose_keys(user)) {
-            end_user(user);
-            return true;
-        }
-        if (!is_here(user->identity.uid)) found = user;
+        bool is_one = is_there && may_be_given_up(user) && context_connection(&user->context);
+        if (!is_one || would_lose_keys(user)) continue;
+        end_user(user);
+        return true;
     }
+    return false;
+}
+
+bool users_give_up_keys(bool (*is_here)(uint32_t uid)) {
+    struct user *found = NULL; /* the one that came first */
+    for (struct user *user = all; user; user = user->next)
+        if (user->uses == 0 && context_connection(&user->context) && !context_is_old(&user->context) &&
+            !is_here(user->identity.uid))
+            found = user;
     if (found) end_user(found);
     return found != NULL;
 }

@@ -1,5 +1,5 @@
 # Ends of agents, servers and daemons, hostile runtimes, and who may connect, for tests/agent.
-# shellcheck shell=bash disable=SC2034,SC2154
+# shellcheck shell=bash disable=SC2016,SC2034,SC2154
 
 children() { cat "/proc/$1/task/$1/children" 2>/dev/null; }
 
@@ -87,6 +87,36 @@ try_agent_ended() {
   is 'its server and its daemon' 1 "$(is_gone "$server" && is_gone "$keeper" && echo 1)"
   end_container 'a container whose agent has ended' 'ENOSYS ENOSYS '
 }
+
+# Its server reads a page of a file system that the container serves, which doesn't come.
+try_held_server() {
+  local held=$dir/held
+  if ! is_root || ! python3 -c 1 2>/dev/null; then
+    skipped 'a server that waits for memory: not root, no setpriv, or no python3'
+    return
+  fi
+  rm -rf "$held" "$held.held" && mkdir "$held"
+  begin_agent
+  unshare -m python3 -B "$lib/served.py" "$held" read "$dir/runtime" "$socket" a -- sh -c 'echo $$ >"$0.pid"
+    exec "$@"' "$held" python3 -c "$asks_by_file" "$held/libkeyutils.so.1" </dev/null >/dev/null 2>&1 &
+  container=$!
+  until_true is_held_or_none
+  if [ -e "$held.held" ]; then
+    end_agent 'an agent of which a server waits for memory'
+    kill -KILL "$(<"$held.pid")"
+  else
+    skipped 'a server that waits for memory: no FUSE can be had here'
+    end_agent 'an agent of which no server waits for memory'
+  fi
+  finish "$container"
+}
+
+is_held_or_none() { [ -e "$dir/held.held" ] || is_gone "$container"; }
+
+asks_by_file='import ctypes, mmap, os, sys
+memory = mmap.mmap(os.open(sys.argv[1], os.O_RDONLY), 1, mmap.MAP_PRIVATE)
+words = [b"user", ctypes.byref(ctypes.c_char.from_buffer(memory)), b"v", ctypes.c_size_t(1), -3]
+ctypes.CDLL(None).syscall(217 if os.uname().machine == "aarch64" else 248, *words)'
 
 # ---- A listener that is on its way while the server ends
 
@@ -396,6 +426,7 @@ try_ends() {
   try_hostile
   try_agent_killed
   try_agent_ended
+  try_held_server
   try_passed
   try_started
   try_no_daemon

@@ -47,7 +47,18 @@ def try_profile(script, name, profile):
     compare(f'{name}: all else', next(same), next(same))
 
 
+def try_environment(script):
+    """It may be another user's, as after su(1)."""
+    with tempfile.TemporaryDirectory() as folder:
+        with open(os.path.join(folder, 'argparse.py'), 'w', encoding='utf-8') as file:
+            file.write('raise SystemExit("the code of another user")\n')
+        environment = {**os.environ, 'PYTHONPATH': folder}
+        got = subprocess.run([script, '--help'], env=environment, capture_output=True, text=True)
+    compare(f'a variable that names a folder: {got.stderr}', 0, got.returncode)
+
+
 def main(script):
+    try_environment(script)
     try_profile(script, 'no rules', {'defaultAction': 'SCMP_ACT_ALLOW'})
     try_profile(script, 'none', {'defaultAction': 'SCMP_ACT_ERRNO', 'defaultErrnoRet': 38, 'syscalls': None, 'x': [1]})
     try_profile(script, 'rules', {'syscalls': [

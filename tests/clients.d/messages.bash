@@ -93,6 +93,10 @@ try_variables() {
     KEYRETAIN_LIBRARY_FOLDER="$dir/keyretain" python3 -B "$parts/planted.py" "$path" "$dir/c/keyretain-session" -- \
     sh -c 'keyctl link "$PLANTED" @s
     exec "$0" --env TOKEN=%user:planted --join -- true' "$dir/c/keyretain-session"
+  # shellcheck disable=SC2016 # the command's own
+  says "another user's keyrings, nested too deeply" 0 '' env PYTHONPATH="$top/clients/python" \
+    KEYRETAIN_LIBRARY_FOLDER="$dir/keyretain" python3 -B "$parts/planted.py" "$path" "$dir/c/keyretain-session" -- \
+    sh -c 'keyctl link "$PLANTED" @u && exec "$0" -- true' "$dir/c/keyretain-session"
   for key in TOKEN 1T=5 TOKEN= TOKEN=%logon:a:b TOKEN=5x TOKEN=%user:; do
     says "--env $key" 2 '--env is VARIABLE=' in_session --env "$key" -- true
   done

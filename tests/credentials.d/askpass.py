@@ -60,6 +60,7 @@ def try_planted(client, context):
 with daemon(), keyretain.Client() as client:
     context = client.hello(os.geteuid(), os.getegid())
     compare("nobody has an answer", (1, b""), run([PROGRAM, QUESTION])[:2])
+    compare("nor is an error one", (1, b""), run(["sh", "-c", 'exec "$0" "$1" 2>&-', PROGRAM, QUESTION])[:2])
     try_planted(client, context)
     ring = client.join(context, "asked")
     client.setperm(context, ring, 0x3F1F0000)

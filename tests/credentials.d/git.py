@@ -312,23 +312,26 @@ def try_other_user():
         compare("by one keeper", 1, len(keepers()))
 
 
-def try_linked_keyring():
+def try_linked_keyring(mask=0x3F3F3F3F):
     """The user keyring has a link to a keyring of another user's, who has put there what a helper and a keeper look
-    for."""
+    for: with all rights, or with none on these."""
     with daemon(), keyretain.Client() as other, keyretain.Client() as client:
         theirs, own = other.hello(54321, 54321), client.hello(os.geteuid(), os.getegid())
         client.setperm(own, client.join(own, "work"), 0x3F3B0000)
         shared = other.add(theirs, "keyring", "shared", b"", keyretain.USER)
         ring = other.add(theirs, "keyring", "git-credentials", b"", shared)
         name = other.add(theirs, "user", "keyretain-keeper:git-credentials", b"work", shared)
-        for serial in (shared, ring, name):
-            other.setperm(theirs, serial, 0x3F3F3F3F)
+        for serial, rights in ((ring, mask), (name, mask), (shared, 0x3F3F3F3F)):
+            other.setperm(theirs, serial, rights)
         client.link(own, shared, keyretain.USER)
-        git("store", "protocol=https host=a username=u password=p")
+        for host in "ab":
+            git("store", f"protocol=https host={host} username=u password=p")
         compare("a keyring of another user's is given nothing", [], other.read_ring(theirs, ring))
         compare("the user's own is", {"username=u", "password=p"}, git("get", "protocol=https host=a"))
         time.sleep(2)
         compare("and a keeper holds that", 1, len(keepers()))
+    if mask & 0x3F:
+        try_linked_keyring(0x003F0000)
 
 
 def try_killed_keeper():

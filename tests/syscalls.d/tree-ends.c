@@ -3,6 +3,7 @@
 #include <sched.h>
 #include <signal.h>
 #include <sys/prctl.h>
+#include <sys/ptrace.h>
 #include <sys/resource.h>
 #include <time.h>
 
@@ -204,6 +205,21 @@ static int ask_at_length(int count) {
     return pause();
 }
 
+/* Of payloads that can't be read nothing goes to the daemon, by which a connection would be worn. */
+static int ask_in_vain(int count) {
+    long kept = add_key("user", "kept", "x", 1, KEY_SPEC_PROCESS_KEYRING);
+    pid_t child = fork();
+    for (int i = 0; child == 0 && i < count; i++)
+        if (add_key("user", "none", (void *)PAGE, 2 * LONG_PAYLOAD, KEY_SPEC_SESSION_KEYRING) > 0 || i % 10 == 0)
+            ring_of(KEY_SPEC_SESSION_KEYRING, 0);
+    if (child == 0) _exit(0);
+    status_of(child);
+    return puts(keyctl(KEYCTL_DESCRIBE, (unsigned long)kept, 0, 0, 0) > 0 ? "kept" : "gone") < 0;
+}
+
+/* Has its parent trace it, for which each signal stops it. */
+static int ask_for_tracing(void) { return ptrace(PTRACE_TRACEME, 0, 0, 0) == 0 && raise(SIGCONT) == 0 ? 7 : 2; }
+
 int ends_modes(const char *mode, int many, int count, char **words) {
     (void)count;
     (void)words;
@@ -216,5 +232,7 @@ int ends_modes(const char *mode, int many, int count, char **words) {
     if (strcmp(mode, "kept-by-tag") == 0) return keep_by_tag();
     if (strcmp(mode, "often") == 0) return ask_often(many);
     if (strcmp(mode, "long") == 0) return ask_at_length(many);
+    if (strcmp(mode, "in-vain") == 0) return ask_in_vain(many);
+    if (strcmp(mode, "traced") == 0) return ask_for_tracing();
     return -1;
 }

@@ -315,7 +315,15 @@ static int join_named(const char *name, long wanted, int often) {
     return puts(found ? "joined" : "never") < 0;
 }
 
+/* What is in the process keyring where a session isn't joined. */
+static int join_in_vain(const char *name) {
+    long kept = add_key("user", "kept", "x", 1, KEY_SPEC_PROCESS_KEYRING);
+    const char *refusal = join(name) < 0 ? error_name() : "joined";
+    return printf("%s, %s\n", refusal, keyctl(KEYCTL_DESCRIBE, (unsigned long)kept, 0, 0, 0) > 0 ? "kept" : "gone") < 0;
+}
+
 int logins_modes(const char *mode, int many, int count, char **words) {
+    if (strcmp(mode, "joins-in-vain") == 0 && count == 3) return join_in_vain(words[2]);
     if (strcmp(mode, "putting") == 0 && count == 3) return put_for_user(words[2]);
     if (strcmp(mode, "read") == 0) return print_read(many);
     if (strcmp(mode, "keyinit") == 0) return init_keyrings();

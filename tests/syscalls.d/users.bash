@@ -180,6 +180,11 @@ try_given_up() {
   [ "$(id -u)" = 0 ] || { skipped 'many identities: not root'; return; }
   prints "$many identities, one after the other" "$many served, then root" "$dir/tree" others "$many" one
   prints '60 identities at one time, each in a session' "60 served, then root" "$dir/tree" others 60 all
+  prints 'a key that a user has left, beside 80 processes of another' kept "$dir/tree" left-key 80
+  prints 'the same, beside 30 identities' kept "$dir/tree" left-key 30 groups
+  prints "a process keyring, where the session that is named is another user's" 'EACCES, kept' "$dir/tree" taken work \
+    4105 "$dir/tree" joins-in-vain work
+  prints 'the session of who logs another user in, beside 80 processes' revoked "$dir/tree" login-beside 80
   is "$built: 200 processes at one time, with few descriptors" \
     'served all, refused the others by EDQUOT, kept all, then served' \
     "$(ulimit -n 160; supervised -- "$dir/tree" processes 200 2>&1)"

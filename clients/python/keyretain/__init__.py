@@ -19,7 +19,7 @@ The client wipes its own copies of its asks and replies. The program's own
 are objects of Python: to leave none, give payloads as a bytearray, read by
 Client.read_into(), and wipe both.
 
-    python3 -m keyretain KEY
+    python3 -I -m keyretain KEY
 
 watches a key, by its serial or as @t, @p, @s, @u or @us, for the caller's
 uid in the session that it is in, and prints its notes as text.

@@ -1,4 +1,4 @@
-"""python3 -m keyretain [--exec COMMAND] KEY: watches a key for the caller's uid, in the session that it is in. It
+"""python3 -I -m keyretain [--exec COMMAND] KEY: watches a key for the caller's uid, in the session that it is in. It
 prints its notes, or runs a command of the shell at each, which finds the note in the variable KEYRETAIN_NOTE."""
 from __future__ import annotations
 
@@ -14,7 +14,7 @@ from .sessions import VARIABLE
 
 WORDS = {"@t": THREAD, "@p": PROCESS, "@s": SESSION, "@u": USER, "@us": USER_SESSION}
 LARGEST_SERIAL = 0x7FFFFFFF
-USAGE = "usage: python3 -m keyretain [--exec COMMAND] KEY    (a serial, @t, @p, @s, @u or @us)"
+USAGE = "usage: python3 -I -m keyretain [--exec COMMAND] KEY    (a serial, @t, @p, @s, @u or @us)"
 FAILED, WRONG_WORDS = 1, 2
 
 

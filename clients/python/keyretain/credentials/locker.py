@@ -53,12 +53,13 @@ class Locker(AbstractContextManager["Locker"]):
 
     # Reading
 
-    def _find(self) -> int:
-        """The serial of the keyring, or 0: who possesses another user's would possess what is kept there."""
+    def _find(self, gone: tuple[int, ...] = (*GONE, errno.EACCES)) -> int:
+        """The serial of the keyring, or 0: who possesses another user's would possess what is kept there. One on which
+        there is no right is another user's, unless it has the place of the own one."""
         try:
             return find_own(self._client, self._context, USER, "keyring", self._name)
         except Refused as refused:
-            if refused.errno in GONE:
+            if refused.errno in gone:
                 return 0
             raise
 
@@ -122,7 +123,7 @@ class Locker(AbstractContextManager["Locker"]):
         except Refused as refused:
             if refused.errno != errno.EEXIST:
                 raise
-        other = self._find()
+        other = self._find(GONE)
         if not other:
             self._client.link(self._context, made, USER)
         return other or made
