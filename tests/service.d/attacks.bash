@@ -8,7 +8,7 @@ left_by_all=4096
 
 # attack NAME WANTED CASE NUMBER: how many answers of the case were right
 attack() {
-  is "$1" "$2" "$(python3 -B "$top/tests/service.d/attacks.py" "$path" "$3" "$4" 2>/dev/null)"
+  is "$1" "$2" "$(python3 -B "$top/tests/service.d/attacks.py" "$path" "$3" "$4" 2>&1 | tail -n 1)"
 }
 
 # The memory that the daemon holds.

@@ -16,7 +16,8 @@ from daemons import received
 path, case, number = sys.argv[1], sys.argv[2], int(sys.argv[3])
 PATIENCE = 10  # seconds that one call may wait
 SHORT = 0.3  # seconds in which nothing is to come
-signal.alarm(60)
+SILENCE = 60  # seconds without an answer, after which a case is over
+signal.alarm(SILENCE)
 
 
 def connect():
@@ -64,6 +65,7 @@ class Answers:
         self.right, self.wrong, self.lock = 0, None, threading.Lock()
 
     def see(self, wanted, got, what=""):
+        signal.alarm(SILENCE)
         with self.lock:
             if wanted == got:
                 self.right += 1

@@ -1,11 +1,27 @@
 """The wrong bodies that name a function or a line that isn't there. tests/wrong-bodies tells that too, once their crate
-is proved."""
+is proved. And how it reads what a check says of three bodies."""
 import importlib.machinery
 import importlib.util
 import os
 from types import SimpleNamespace
 
 import rows
+
+# Copies of a function, each with its verdict, and what a check says of them: a goal of the first isn't proved, the
+# search for a proof of the second broke off, and of the third only the answer that stands beside each copy is refused.
+WANTED = {"refused": [("returns", "")], "stopped": "not judged: the search stopped at `returns`",
+          "proved": "it is still proved"}
+SOURCE = "mod one;\n" + "".join(f"\nfn {it}() -> u8\n    ensures {{ result ≡ 1 }}\n{{\n    1\n}}\n" for it in WANTED)
+SAID = """\
+note: src/lib.rt:3:1: it is not proved that what the function ensures holds when it returns (`returns`)
+fn tiny::refused: not proved
+note: what antt said of a `search` in the proof that rattle made: src/lib.rt:9:4: error: `returns`: give the call less \
+to do: list the lemma that is meant, state the step in between, or write the term
+  `search` broke off: the call's work took more than 10000000 steps
+fn tiny::stopped: not proved
+fn tiny::proved: not proved
+only=3 proved=0
+"""
 
 
 def program():
@@ -28,3 +44,9 @@ def misfits():
             if why := source.misfit(body) if is_there else f"there is no function {body.function}":
                 found[str(body)] = why
     return found
+
+
+def verdicts():
+    """Of each copy the goals that refuse it, or why none does."""
+    report = program().Report({"src/lib.rt": SOURCE}, [(line, 0) for line in SAID.splitlines(True)], 0, 0)
+    return {it: report.goals_of(it)[0] or report.why_not(it) for it in WANTED}

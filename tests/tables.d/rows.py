@@ -1,5 +1,5 @@
 """The rows of all asks and commands, as the definitions have them that the programs are proved by: numbers, fields,
-answers and growth of the asks (krs_types), which of them look at the context (krs_model), words of the commands
+answers and marks of the asks (krs_types), which of them look at the context (krs_model), words of the commands
 (krs_commands), numbers of the errors (krs_types). What no proof reaches is compared with these."""
 import os
 import re
@@ -9,8 +9,8 @@ TOP = os.path.join(os.path.dirname(os.path.abspath(__file__)), "../..")
 
 
 class Ask(NamedTuple):
-    """`word` is the ask's name as the definitions spell it, in capitals. `looks` says whether it looks at the context,
-    and `grows` whether it takes memory, in the words of docs/FORMAT.md."""
+    """`word` is the ask's name as the definitions spell it, in capitals. `looks` says whether it looks at the context.
+    Its marks say when it `grows`, which is to take memory, is `long` and `tells`, in the words of docs/FORMAT.md."""
 
     word: str
     number: int
@@ -18,6 +18,8 @@ class Ask(NamedTuple):
     fields: str
     answer: str
     grows: str
+    long: str
+    tells: str
 
 
 class Command(NamedTuple):
@@ -52,10 +54,11 @@ FORMS = {"id_field": ("id", "signed w32"), "text_field": ("text", "sized w16"), 
 # The forms of the fields of a row. The id of a watch is no key's.
 VALUES = {"Number": "u32", "Id": "id", "Flag": "u8", "Text": "text", "Blob": "blob", "Whom": "u32 u32 groups",
           "Entries": "entries", "Id watch": "i32"}
-GROWS = {"true": "yes", "false": "no", "create": "with create", "(has_destination dest)": "with a destination",
-         "(not (ends_watch watch))": "where it sets"}
-ROW = re.compile(r"^row_of \(?(\w+)[^)=]*\)? =\s+row (\d+) shapes\.(\w+) (\w+|\(.+\)) (\[\]|\(\w[^()]+ ∷ \[\]\))$",
-                 re.M)
+MARKS = {"true": "yes", "false": "no", "create": "with create", "(has_destination dest)": "with a destination",
+         "(not (ends_watch watch))": "where it sets", "(names_keyrings type_name)": "of a keyring"}
+MARK = r"(\w+|\((?:[^()]|\([^()]*\))+\))"
+ROW = re.compile(rf"^row_of \(?(\w+)[^)=]*\)? =\s+row (\d+) shapes\.(\w+) {MARK} {MARK} {MARK}\s+"
+                 r"(\[\]|\(\w[^()]+ ∷ \[\]\))$", re.M)
 
 
 def fields_of(body):
@@ -74,8 +77,8 @@ def looks():
 def asks():
     """All of them, by rising number."""
     looking = looks()
-    rows = [Ask(name.upper(), int(number), looking.get(name), fields_of(body), shape.lower(), GROWS[grows])
-            for name, number, shape, grows, body in ROW.findall(text_of("crates/krs_types/specs/Rows.antt"))]
+    rows = [Ask(name.upper(), int(number), looking.get(name), fields_of(body), shape.lower(), *map(MARKS.get, marks))
+            for name, number, shape, *marks, body in ROW.findall(text_of("crates/krs_types/specs/Rows.antt"))]
     return sorted(rows, key=lambda row: row.number)
 
 
@@ -88,17 +91,24 @@ def variants():
 # What a form of a field in asks! is in the rows of the definitions; an id that is a watch's is no key's.
 CODE_FORMS = {"number": "u32", "id": "id", "flag": "u8", "type_name": "text", "text": "text", "blob": "blob",
               "caller": "u32 u32 groups", "entries": "entries"}
-CODE_GROWS = {"always": "yes", "never": "no", "(create)": "with create", "(dest != 0)": "with a destination",
-              "(watch != -1)": "where it sets"}
+CODE_MARKS = {"-": "no", "(create)": "with create", "(dest != 0)": "with a destination",
+              "(watch != -1)": "where it sets", "(type_name.names_keyrings())": "of a keyring"}
+
+
+def marks_of_code(marks):
+    """When an ask has each mark, of which each stands in its own place."""
+    written = re.findall(r"\((?:[^()]|\(\))+\)|\S+", marks)
+    return [CODE_MARKS.get(mark, "yes" if mark == name else mark)
+            for name, mark in zip(("grows", "long", "tells"), written)]
 
 
 def asks_of_code():
-    """The rows that the code's tables are made from: number, kind of answer, growth and fields of each ask."""
+    """The rows that the code's tables are made from: number, kind of answer, fields and marks of each ask."""
     text = text_of("crates/krs_types/src/ask.rt")
-    found = re.findall(r"^ {12}(\w+) (\d+) (\w+) (\w+|\([^)]*\)) [{(](.*)[})];$", text, re.M)
-    return {name.upper(): (int(number), shape.lower(), CODE_GROWS[grows], " ".join(
-        "i32" if field == "watch" else CODE_FORMS[form] for field, form in re.findall(r"(\w+): (\w+)", fields)))
-        for name, number, shape, grows, fields in found}
+    found = re.findall(r"^ {12}(\w+) (\d+) (\w+) \[(.+)\]\s+[{(](.*)[})];$", text, re.M)
+    return {name.upper(): (int(number), shape.lower(), " ".join(
+        "i32" if field == "watch" else CODE_FORMS[form] for field, form in re.findall(r"(\w+): (\w+)", fields)),
+        *marks_of_code(marks)) for name, number, shape, marks, fields in found}
 
 
 def forms():

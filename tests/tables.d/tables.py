@@ -41,8 +41,8 @@ def words_of(names):
 
 def try_definitions():
     compare("the asks of the code", sorted(ask.word for ask in ASKS), rows.variants())
-    compare_all("the row of the code", {ask.word: (ask.number, ask.answer, ask.grows, ask.fields) for ask in ASKS},
-                rows.asks_of_code())
+    compare_all("the row of the code", {ask.word: (ask.number, ask.answer, ask.fields, ask.grows, ask.long, ask.tells)
+                                        for ask in ASKS}, rows.asks_of_code())
     compare("the forms of fields", {name: said for name, (_, said) in rows.FORMS.items()}, rows.forms())
     compare("the commands of the code", [(command.word, command.usage) for command in COMMANDS],
             rows.commands_of_code())
@@ -223,6 +223,7 @@ def try_foreign():
 
 def try_bodies():
     compare("wrong bodies that can't be applied", {}, bodies.misfits())
+    compare("how a check of wrong bodies is read", bodies.WANTED, bodies.verdicts())
 
 
 for case in (try_definitions, try_format, try_lists, try_pages, try_python, try_admission, try_bench, try_types,

@@ -1,6 +1,6 @@
 //! The program over ends in memory: what its words make it print, and ends and words that fail.
 use super::{ALPHA, FailsOnce};
-use krs_ctl::{Voice, run_program};
+use krs_ctl::{SystemSockets, Voice, run_program};
 use std::alloc::{AllocError, Global};
 use std::cell::Cell;
 use std::env::Args;
@@ -53,8 +53,9 @@ pub(in crate::tests) fn status_of<N: Net>(
     output: &mut Vec<u8>,
     errors: &mut Vec<u8>,
 ) -> u8 {
-    let mut errors = Voice::new(errors);
-    run_program(net, alloc, words, input.as_bytes(), output, &mut errors)
+    let (mut net, mut errors) = (SystemSockets::new(net), Voice::new(errors));
+    let input = input.as_bytes();
+    run_program(&mut net, alloc, words, input, output, &mut errors)
 }
 
 fn check_program<N: Abort + Net>(rt: &N, alloc: Global, args: Args, program: &Program<'_>) {
@@ -89,8 +90,8 @@ fn ended_unprinted<N: Net>(net: &N, alloc: Global, words: Args) -> (u8, usize, u
     let (out, told) = (Cell::new(0), Cell::new(0));
     let mut output = FailsOnce::after(0, &out);
     let mut errors = Voice::new(FailsOnce::after(0, &told));
-    let input = ALPHA.as_bytes();
-    let status = run_program(net, alloc, Ok(words), input, &mut output, &mut errors);
+    let (mut net, input) = (SystemSockets::new(net), ALPHA.as_bytes());
+    let status = run_program(&mut net, alloc, Ok(words), input, &mut output, &mut errors);
     (status, output.taken, errors.writer().taken)
 }
 
