@@ -36,7 +36,8 @@ macro_rules! read {
     (links, $with:tt; links { $($rows:tt)* } $($others:tt)*) => { read!(@$with $($rows)*) };
     (queues, $with:tt; queues { $($rows:tt)* } $($others:tt)*) => { read!(@$with $($rows)*) };
     ($group:ident, $with:tt; $other:ident { $($rows:tt)* } $($others:tt)*) => { read!($group, $with; $($others)*) };
-    (@($alloc:ident, $word:ident, $args:ident) $($name:literal $usage:literal $prints:literal $how:ident $reader:path;)*) => {
+    (@($alloc:ident, $word:ident, $args:ident) $($name:literal $usage:literal $prints:literal $how:ident
+        $reader:path;)*) => {
         $(if is($word, $name) {
             return read!(@$how $reader, $alloc, $args);
         })*

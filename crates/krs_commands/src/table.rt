@@ -1,7 +1,7 @@
 /// Gives all commands to a macro, behind its arguments, in groups, and in these a row each: the first word; the words
 /// behind it, in the width that help has for them; what an accepted one prints, in at most 48 letters, so that a row of
-/// help has 80; and what reads the words behind the first, with memory or without, or the ask of a command that takes no
-/// words.
+/// help has 80; and what reads the words behind the first, with memory or without, or the ask of a command that takes
+/// no words.
 #[macro_export]
 macro_rules! commands {
     ($use:ident $(, $arg:tt)*) => {

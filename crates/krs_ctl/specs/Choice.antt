@@ -27,6 +27,8 @@ IsUnread kind choice =
 -- what is told of words that are none which the program takes
 abbrev pub misuse_text : Misuse → List ℕ
 misuse_text NoWords = codes "keyretain: there is no command: see keyretain --help\n"
-misuse_text NoSocket = codes "keyretain: --socket PATH is missing: where a daemon listens, which a single command is for\n"
-misuse_text CallerOfScript = codes "keyretain: --uid and --gid are for a single command: a script names its caller by hello\n"
+misuse_text NoSocket = codes
+    "keyretain: --socket PATH is missing: where a daemon listens, which a single command is for\n"
+misuse_text CallerOfScript = codes
+    "keyretain: --uid and --gid are for a single command: a script names its caller by hello\n"
 misuse_text NotText = codes "keyretain: an argument isn't UTF-8: hex: and digits spell any bytes of a payload\n"

@@ -117,8 +117,8 @@ abbrev pub Spells : List (List ℕ) → Choice → Type 0
 Spells words choice = (matches : ArgMatches)
     × (rows_of (found_of matches) ≡ matches_of client words) × Chooses (found_of matches) choice
 
--- Where words lead: those in which `clap` finds no fault to the choice that they spell; a question for help or the version
--- is shown an answer, and any other fault is refused; and memory may run out for any.
+-- Where words lead: those in which `clap` finds no fault to the choice that they spell; a question for help or the
+-- version is shown an answer, and any other fault is refused; and memory may run out for any.
 abbrev pub LeadsTo : List (List ℕ) → Choice → Type 0
 LeadsTo words Script = Spells words Script × (fault_of client words ≡ [])
 LeadsTo words (Remote path) = Spells words (Remote path) × (fault_of client words ≡ [])

@@ -18,7 +18,8 @@ TellsOf path old new = (what : List ℕ) × Says old new (path_text path what)
 abbrev pub TellsScript : (status : ℕ) → Heard → Heard → Type 0
 TellsScript status old new =
     (number : ℕ) × (line : List ℕ) × (stopped : Result (Unit {0}) Stop)
-    × IfErr stopped (λ stop. (how : List ℕ) × Says old new (stop_text number line stop how)) × (stopped ≡ Ok tt → new ≡ old)
+    × IfErr stopped (λ stop. (how : List ℕ) × Says old new (stop_text number line stop how))
+    × (stopped ≡ Ok tt → new ≡ old)
     × (status ≡ 2 → stopped ≡ Err Usage)
 
 -- of a script over a path: of the path where there is no connection, and else of the script
@@ -29,8 +30,8 @@ TellsOver path status old new = TellsOf path old new ⊎ TellsScript status old 
 abbrev pub frame_text : List ℕ
 frame_text = codes "keyretain: it fits no frame, which has 65536 bytes at most; a payload has 32767 at most\n"
 
--- What is told of a call over a path, by its status, and by what is told of one that was refused. Of one that was accepted
--- it is nothing.
+-- What is told of a call over a path, by its status, and by what is told of one that was refused. Of one that was
+-- accepted it is nothing.
 pub record TellsEnd (path refused : List ℕ) (status : ℕ) (old new : Heard) : Type 0 where
   pub refusal : status ≡ 1 → Says old new refused
   pub usage : status ≡ 2 → Says old new frame_text

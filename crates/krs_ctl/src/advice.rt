@@ -12,8 +12,8 @@ const LOGON: &str = "keyretain: the description of a logon key is PREFIX:NAME\n"
 const QUEUES: &str =
     "keyretain: a queue ends with its connection: open it and use it in one script\n";
 
-const AS_ROOT: &str =
-    "keyretain: it was asked as uid 0; --uid and --gid name another caller, and keyretain-guard takes one's own alone\n";
+const AS_ROOT: &str = "keyretain: it was asked as uid 0; --uid and --gid name another caller, \
+     and keyretain-guard takes one's own alone\n";
 
 /// What is told of a call that was refused.
 pub(crate) fn of_refused(caller: &Caller, command: &Command) -> &'static str {

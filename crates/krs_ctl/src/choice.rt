@@ -223,8 +223,8 @@ fn choice_of_script(alloc: Global, matches: &ArgMatches<'_>) -> Result<Choice, A
     }
 }
 
-/// For whom a single call makes a context: of the uid and the gid that are given, each 0 where it is left out, and in no
-/// groups.
+/// For whom a single call makes a context: of the uid and the gid that are given, each 0 where it is left out, and in
+/// no groups.
 fn caller_of(alloc: Global, matches: &ArgMatches<'_>) -> Caller
     ensures { Names (found_of matches.now) result }
 {

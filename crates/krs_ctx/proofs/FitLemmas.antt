@@ -264,7 +264,8 @@ exited_fit t new number process fit contexts processes next =
 pub execed_fit :
     (t new : Anchors) (number process : ℕ) (f : Context → Context) (p : ℕ × Context → Bool)
     (g : Option ℕ → Option ℕ) → ((c : Context) → (f c).process ≡ c.process)
-    → ((c : Context) → (f c).caller.uid ≡ c.caller.uid) → IsFit t → new.contexts ≡ filter p (alter t.contexts number f) → new.processes ≡ alter t.processes process g
+    → ((c : Context) → (f c).caller.uid ≡ c.caller.uid) → IsFit t → new.contexts ≡ filter p (alter t.contexts number f)
+    → new.processes ≡ alter t.processes process g
     → new.next_context ≡ t.next_context → IsFit new
 execed_fit t new number process f p g same same_uid fit contexts processes next =
     let mid : Anchors = record t { contexts = new.contexts } in

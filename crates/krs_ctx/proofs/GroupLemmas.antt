@@ -142,7 +142,8 @@ no_other_fails group es m g k None are rises h =
           ap (λ b. not b || false) (other_group group es m g n c are (h n apart) there)
     ] refl))
 
-none_passes : (p : Context → Bool) (es : Table Context) → Each (λ e. p e.1 ≡ false) es → list_any p (values_of es) ≡ false
+none_passes : (p : Context → Bool) (es : Table Context) → Each (λ e. p e.1 ≡ false) es
+    → list_any p (values_of es) ≡ false
 none_passes p [] h = refl
 none_passes p (e ∷ es) h = ap (λ b. b || list_any p (values_of es)) h.0 ∙ none_passes p es h.1
 
@@ -181,7 +182,8 @@ unfolding IsStrictlySortedBy
 placed_rises g [] h = tt
 placed_rises g (e ∷ es) h = (placed_above g e.0 es h.0, placed_rises g es h.1)
 
-both_or : (a c : Bool) (v : Context) (o : Option Context) → ((a && c) || (a && is_some o)) ≡ (a && is_some (cond c (Some v) o))
+both_or : (a c : Bool) (v : Context) (o : Option Context) → ((a && c) || (a && is_some o))
+    ≡ (a && is_some (cond c (Some v) o))
 both_or true true v o = refl
 both_or true false v o = refl
 both_or false c v o = refl

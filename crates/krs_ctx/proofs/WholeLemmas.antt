@@ -116,7 +116,8 @@ each_apart k [] none = tt
 each_apart k (e ∷ es) none = (apart_first k e es none, each_apart k es (later_none e es k none))
 
 each_key :
-    {X : Type 0} (P : ℕ → Type 0) (g : X → X) (es : Table X) → Each (λ e. P e.0) es → Each (λ e. P e.0) (map_values g es)
+    {X : Type 0} (P : ℕ → Type 0) (g : X → X) (es : Table X) → Each (λ e. P e.0) es
+    → Each (λ e. P e.0) (map_values g es)
 each_key P g [] h = tt
 each_key P g (e ∷ es) h = (h.0, each_key P g es h.1)
 

@@ -23,7 +23,8 @@ apart_of s j id p Spent laid lane k g not is = absurd is
 apart_of s j id p (One q) laid lane k g not is = λ same. not (sym g.at ∙ (ap s.seat (is.1 ∙ same) ∙ k.at))
 apart_of s j id p (Two q r) laid lane k g not is = absurd is
 apart_of s j id p (Opening n) laid lane k g not is =
-    λ same. let le : n ≤ lane = is in let all : n ≡ s.dealt = g.2 in let given : p.lane < s.dealt = k.given in omega arith
+    λ same. let le : n ≤ lane = is in let all : n
+    ≡ s.dealt = g.2 in let given : p.lane < s.dealt = k.given in omega arith
 
 pub lies_apart :
     (a : State) (s : Table) (r : InOneOrder a s) (id : ℕ) (p : Part) → get_elem? (views_of s.views) id ≡ some (one a p)

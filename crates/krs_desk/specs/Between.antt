@@ -1,5 +1,5 @@
--- Two moments at which the rule of the table holds: what a call stands behind at the second that wasn't asked, or wasn't
--- answered, at the first. Herlihy and Wing, "Linearizability" (1990), real-time order.
+-- Two moments at which the rule of the table holds: what a call stands behind at the second that wasn't asked, or
+-- wasn't answered, at the first. Herlihy and Wing, "Linearizability" (1990), real-time order.
 use Rattle.std.specs.Prelude.{◌++◌, ◌∷◌, ◌≡◌, ◌≢◌, Bool, List, None, Result, slice_index, ℕ}
 use lib.ListN.{get_elem?}
 use mathlib.Core.Option.{some}

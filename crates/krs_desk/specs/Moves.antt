@@ -1,7 +1,7 @@
 -- Which steps a token may make on the table: those of the machine (krs_world), and one that the machine doesn't have,
--- at which a call is found posted and nothing else is known by it. So what a lane knows of its turns is what they say of
--- it: how often it took the turn, the history that it took it with, how often it found the turn taken, and which cells
--- it looked at. The form is this project's own.
+-- at which a call is found posted and nothing else is known by it. So what a lane knows of its turns is what they say
+-- of it: how often it took the turn, the history that it took it with, how often it found the turn taken, and which
+-- cells it looked at. The form is this project's own.
 -- The words of a step are those of atomic_table: `word` is the number of the word that it is made on. A store writes
 -- `first`; any other step writes `second` where it finds `first`, and else changes nothing. `found` is what was there:
 -- Some of that number, and None at a store, which doesn't look.

@@ -164,7 +164,8 @@ OnlyGrows opening =
 abbrev pub SeesOneOrder : State → Type 0
 SeesOneOrder opening =
     (s end : Board) (more : List Board) (front back : List Event) → InOneOrder opening s
-    → IsExecution opening s more end → InOneOrder opening end → IsSeenBy front (views_of s.views) → IsSeenBy back (views_of end.views)
+    → IsExecution opening s more end → InOneOrder opening end → IsSeenBy front (views_of s.views)
+    → IsSeenBy back (views_of end.views)
     → Begins front back ⊎ Begins back front
 
 -- Real-time order. At a moment some token had seen a list, the reply to some call in it, and the call of a lane wasn't

@@ -1,4 +1,5 @@
-//! Which lanes' threads sleep, and how they are woken. Whether a turn is kept, calls are posted, and threads wait for one.
+//! Which lanes' threads sleep, and how they are woken. Whether a turn is kept, calls are posted, and threads wait for
+//! one.
 use std::alloc::{AllocError, Global};
 use std::sync::Wait;
 use std::sync::atomic::{AtomicU64, Ordering};
@@ -12,8 +13,8 @@ const RUNG: u64 = 1;
 /// A bell for each lane, by which its thread sleeps and nobody else does.
 #[derive(Drop)]
 pub(crate) struct Bells {
-    // How many threads sleep, or are about to, and weren't rung. It is raised before a bell says so and lowered after, so
-    // it is never too low.
+    // How many threads sleep, or are about to, and weren't rung. It is raised before a bell says so and lowered after,
+    // so it is never too low.
     sleepers: AtomicU64,
 
     // How many calls are posted and not answered. It is raised before a call is posted and lowered after that is

@@ -65,8 +65,8 @@ impl Desk {
         unreachable!()
     }
 
-    // Pauses and tries again to have the turn, and at last posts the call. Where more calls follow, no turn is kept while
-    // it waits. Apart from `call_anew`, which moves the ask less often so, and clears no room for it.
+    // Pauses and tries again to have the turn, and at last posts the call. Where more calls follow, no turn is kept
+    // while it waits. Apart from `call_anew`, which moves the ask less often so, and clears no room for it.
     #[inline(never)]
     fn call_again<R: Wait, T: Taker>(
         &self,
@@ -106,8 +106,8 @@ impl Desk {
         Told::Reply(reply)
     }
 
-    // Asks the store in a turn that is taken for it, and keeps that where more calls follow. In `call_into` itself the ask
-    // would be moved once more.
+    // Asks the store in a turn that is taken for it, and keeps that where more calls follow. In `call_into` itself the
+    // ask would be moved once more.
     #[inline(always)]
     fn call_anew<R: Wait, T: Taker>(
         &self,
@@ -132,8 +132,8 @@ impl Desk {
         }
     }
 
-    /// As `call_on`, but a taker may have the payload that a READ finds where it lies, and then no reply is made. Where the
-    /// call is posted, its reply is whole.
+    /// As `call_on`, but a taker may have the payload that a READ finds where it lies, and then no reply is made. Where
+    /// the call is posted, its reply is whole.
     pub fn call_into<R: Wait, T: Taker>(
         &self,
         rt: &R,

@@ -1,4 +1,5 @@
-//! That no user of a desk reads another's keys, unless it was given them, nor changes them, nor is told of what they hold.
+//! That no user of a desk reads another's keys, unless it was given them, nor changes them, nor is told of what they
+//! hold.
 ghost use Rattle.std.specs.Prelude.{Bool, false, List, ℕ};
 ghost use Rattle.krs_types.specs.declared.event.Event.{Event};
 ghost use Rattle.krs_model.specs.Confidentiality.{HasToItself, KeepsPrivate, LeavesAlone, ReadsAlone, TellsNoStranger};
@@ -8,10 +9,10 @@ ghost use Rattle.krs_desk.specs.Confidentiality.{AreReadAlone};
 use crate::seat::Seat;
 
 impl Seat {
-    /// No user reads another's keys, unless it was given them: in what a seat has seen, each accepted READ of a key that
-    /// a uid has to itself, and has not given away, is in a context of that uid. So it is in every history of the desk. A
-    /// uid may begin with none of the keys that the desk was opened with: new keys join them. keyrings(7), "Possession"
-    /// and "Access rights".
+    /// No user reads another's keys, unless it was given them: in what a seat has seen, each accepted READ of a key
+    /// that a uid has to itself, and has not given away, is in a context of that uid. So it is in every history of the
+    /// desk. A uid may begin with none of the keys that the desk was opened with: new keys join them. keyrings(7),
+    /// "Possession" and "Access rights".
     pub fn no_user_reads_anothers_keys(&self)
         ensures seen { AreReadAlone self.now.opening self.now.part.seen }
         ensures always { (uid : ℕ) (private : ℕ → Bool) → HasToItself uid private self.now.opening
@@ -24,8 +25,8 @@ impl Seat {
         let _token = &self.token;
     }
 
-    /// In every history of the desk an ask in no context of a uid changes no key that the uid has to itself, and has not
-    /// given away, nor drops one; only an invalidated key goes out of its links.
+    /// In every history of the desk an ask in no context of a uid changes no key that the uid has to itself, and has
+    /// not given away, nor drops one; only an invalidated key goes out of its links.
     pub fn others_neither_change_nor_drop_a_key(&self)
         ensures { (uid : ℕ) (private : ℕ → Bool) → HasToItself uid private self.now.opening
             → LeavesAlone uid private self.now.opening }

@@ -44,7 +44,8 @@ impl Model for Desk {
 
     ghost view = { λ d. d.table.id };
 
-    ghost invariant = { λ d. (0 < d.table.id.words) × (d.table.id.words ≤ 257) × (d.table.id.slots ≡ d.table.id.words) };
+    ghost invariant = { λ d. (0 < d.table.id.words) × (d.table.id.words ≤ 257)
+        × (d.table.id.slots ≡ d.table.id.words) };
 }
 
 // By hand, so that a crate which lets a desk go needn't know what a store is made of.
@@ -109,9 +110,9 @@ impl Desk {
         self.lacking.load(Ordering::SeqCst) > 0
     }
 
-    /// A user of a seat lacks so many bytes of what it keeps in reserve, in place of those of which it told last, and which
-    /// it keeps in `told`: 0 at first, and to tell at the end. The store leaves what is lacking: it refuses asks that would
-    /// keep memory with ENOMEM, where less is left and nothing else refuses them.
+    /// A user of a seat lacks so many bytes of what it keeps in reserve, in place of those of which it told last, and
+    /// which it keeps in `told`: 0 at first, and to tell at the end. The store leaves what is lacking: it refuses asks
+    /// that would keep memory with ENOMEM, where less is left and nothing else refuses them.
     pub fn tell_lack(&self, told: &mut u64, lack: u64)
         ensures { told.new ≡ lack }
     {

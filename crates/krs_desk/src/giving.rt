@@ -12,7 +12,8 @@ use crate::steps::{Brings, Puts};
 use crate::token::Token;
 use crate::word::{FREE, OUT, TURN};
 
-// That a turn was given back. Only the exchange that gives it back makes one, and it isn't `Drop`: only `wake` takes it.
+// That a turn was given back. Only the exchange that gives it back makes one, and it isn't `Drop`: only `wake` takes
+// it.
 pub(crate) struct Freed {
     _turn: (),
 }

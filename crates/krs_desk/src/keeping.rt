@@ -93,8 +93,8 @@ impl Desk {
         self.give_back(&mut seat.served, &mut seat.token);
     }
 
-    // Whether a turn that has served so many calls of its seat is kept, where more follow. It isn't while somebody waits
-    // with a call that was posted and has more: answered one by one in the turns of others, they would take long.
+    // Whether a turn that has served so many calls of its seat is kept, where more follow. It isn't while somebody
+    // waits with a call that was posted and has more: answered one by one in the turns of others, they would take long.
     #[inline]
     pub(crate) fn may_keep(&self, more: bool, served: u32) -> bool
         ensures { result ≡ true → (more ≡ true) × (served < 63) }

@@ -60,8 +60,8 @@ impl Seat {
     }
 
     /// In what a seat has seen, no READ of a key is accepted after an accepted REVOKE of it. So it is in every history
-    /// of the desk; and of any two seats, whether or not they ever met, once one has seen the reply to a REVOKE, no READ
-    /// by the other is accepted that wasn't answered by then. keyctl(2), KEYCTL_REVOKE.
+    /// of the desk; and of any two seats, whether or not they ever met, once one has seen the reply to a REVOKE, no
+    /// READ by the other is accepted that wasn't answered by then. keyctl(2), KEYCTL_REVOKE.
     pub fn revoked_keys_are_not_read(&self)
         ensures seen { IsNotReadRevoked self.now.opening self.now.part.seen }
         ensures always { StaysUnread self.now.opening }

@@ -1,11 +1,11 @@
 //! A call waits: for the turn, and once it is posted for its answer.
 //!
-//! It pauses, and looks again. Only where somebody has the turn for long, as a thread whose processor was taken away, it
-//! sleeps, by its lane's own bell. No wake is lost. A thread lies down first, and looks at its cell and at the turn after
-//! that. Where it finds its call unanswered and the turn taken, that turn is still to be given back, and whoever gives it
-//! back looks after that for threads that lie. It rings each whose call was answered, and one whose call is still posted:
-//! that one gets up, and takes the turn or finds it taken again. By a bell that was rung since it lay down no thread
-//! begins to sleep.
+//! It pauses, and looks again. Only where somebody has the turn for long, as a thread whose processor was taken away,
+//! it sleeps, by its lane's own bell. No wake is lost. A thread lies down first, and looks at its cell and at the turn
+//! after that. Where it finds its call unanswered and the turn taken, that turn is still to be given back, and whoever
+//! gives it back looks after that for threads that lie. It rings each whose call was answered, and one whose call is
+//! still posted: that one gets up, and takes the turn or finds it taken again. By a bell that was rung since it lay
+//! down no thread begins to sleep.
 ghost use Rattle.std.specs.Prelude.{◌+◌, ◌<◌};
 
 use crate::desk::Desk;

@@ -1,5 +1,6 @@
-//! The tests of the shared store, by calls in turn, side by side and posted. They stand in a crate of their own, so that
-//! none of the crates below is proved a second time with them. Desks with seats to test with are for other crates too.
+//! The tests of the shared store, by calls in turn, side by side and posted. They stand in a crate of their own, so
+//! that none of the crates below is proved a second time with them. Desks with seats to test with are for other crates
+//! too.
 #![tactic(auto)]
 
 mod seats;

@@ -30,7 +30,8 @@ passed_harmless :
     → Harmless peer passed.groups caller
 passed_harmless peer ask caller passed asked =
     each_meets (AsksHarmless peer passed.groups) passed.before passed.framed passed.later
-    (arrives peer passed.groups passed.steps (passed.before ++ passed.framed ∷ passed.later) passed.end passed.few passed.bytes
+    (arrives peer passed.groups passed.steps (passed.before ++ passed.framed ∷ passed.later) passed.end
+    passed.few passed.bytes
     passed.read) caller (ap (λ (a : Ask). a.op) passed.is ∙ asked)
 
 -- and one that was accepted names somebody
@@ -50,7 +51,8 @@ step_known :
     → Step old event new → (x : Unit {0}) × (caller_check caller ≡ Ok x)
 unfolding Step
 step_known old new event caller asked accepted step =
-    answered_known (raised old event.moment) new event.lane event.ask.context event.ask.op event.reply caller asked accepted
+    answered_known (raised old event.moment) new event.lane event.ask.context event.ask.op event.reply
+    caller asked accepted
     step
 
 legal_known :
@@ -152,5 +154,6 @@ peers_change start began uid before old last keeps event new step peer behind ot
     let kept = private_empty uid start old before last began keeps in
     leaves_alone uid (λ k. false) empty (start_sound began.0) (none_alone uid empty) before old last kept event new step
     (λ asked. other (subst (IsPeerOf peer) asked.acts.own
-    (peers_act start began before old (private_legal uid (λ k. false) start before old last keeps) event.lane peer behind
+    (peers_act start began before old (private_legal uid (λ k. false) start before old last keeps)
+    event.lane peer behind
     asked.number asked.acts.context asked.acts.there)))

@@ -23,8 +23,8 @@ pub fn no_peer_changes_anothers_keys()
     ensures { (start : State) → NoPeerChangesAnothers start }
 {}
 
-/// So it is of a desk, as the daemon's is one: in what a seat has seen, each accepted READ of such a key is of a peer of
-/// that uid, and all three laws hold of every history of the desk, where it was opened empty.
+/// So it is of a desk, as the daemon's is one: in what a seat has seen, each accepted READ of such a key is of a peer
+/// of that uid, and all three laws hold of every history of the desk, where it was opened empty.
 pub fn no_peer_of_a_desk_reads_anothers_keys(seat: &Seat)
     ensures seen { AreReadByTheirPeers seat.now.opening seat.now.part.seen }
     ensures acts { NoPeerActsAsAnother seat.now.opening }

@@ -96,7 +96,8 @@ times-two serial q a b =
     (option_to_list (detached serial b)) (times-detached serial q a) (times-detached serial q b)
 
 -- of all attachments
-pub times-roots : (s : State) (serial q : ℕ) → times q (roots (invalidated s serial)) ≡ left serial q (times q (roots s))
+pub times-roots : (s : State) (serial q : ℕ) → times q (roots (invalidated s serial))
+    ≡ left serial q (times q (roots s))
 times-roots s serial q =
     let two : Option ℕ → Option ℕ → List ℕ = λ a b. option_to_list a ++ option_to_list b in
     let contexts = times-map (λ (c : Context). two c.thread c.session) (context_without serial) serial q s.contexts

@@ -89,7 +89,8 @@ tallied_alter keys attached due owed numbers k f v there same h =
     let both = same q in
     let before : times q (serials (named_links_of_content v.content)) ≡ times q (links_of_content (seen v).content) =
     ap (times q) (serials-content v.content) in
-    let after : times q (serials (named_links_of_content (f v).content)) ≡ times q (links_of_content (seen (f v)).content) =
+    let after : times q (serials (named_links_of_content (f v).content))
+    ≡ times q (links_of_content (seen (f v)).content) =
     ap (times q) (serials-content (f v).content) in
     omega (arith, both, before, after)) h)
 
@@ -138,7 +139,8 @@ tallied_unlink keys attached numbers names ring serial v there named link_put h 
     omega (arith, counts, left)) h)
 
 paid_links :
-    (payload : List ℕ) (content : Content) → named_links_of_content (paid_with payload content) ≡ named_links_of_content content
+    (payload : List ℕ) (content : Content) → named_links_of_content (paid_with payload content)
+    ≡ named_links_of_content content
 paid_links payload (Payload old) = refl
 paid_links payload (Links links) = refl
 

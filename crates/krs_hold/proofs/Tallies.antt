@@ -136,7 +136,8 @@ tallied_attached keys before after due owed numbers same h = record {
 pub tallied_relinked :
     (keys : Table Key) (attached due owed : List ℕ) (numbers : Table ℕ) (j : ℕ) (f : Key → Key) (v : Key)
     → at keys j ≡ Some v
-    → ((q : ℕ) → times q due + times q (links_of_content v.content) ≡ times q owed + times q (links_of_content (f v).content))
+    → ((q : ℕ) → times q due + times q (links_of_content v.content)
+    ≡ times q owed + times q (links_of_content (f v).content))
     → IsTallied keys attached due numbers → IsTallied (alter keys j f) attached owed numbers
 tallied_relinked keys attached due owed numbers j f v found same h = record {
   counted = λ q s. h.counted q (sym (is_some_alter keys j q f) ∙ s);

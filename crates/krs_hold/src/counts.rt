@@ -136,7 +136,8 @@ pub(crate) fn let_go_links(
     content: &Content,
 ) -> Option<u32>
     ensures { gone_all (record { counts = by_serial counts.old.entries; first = first })
-        (serials (named_links_of_content content.now)) ≡ record { counts = by_serial counts.new.entries; first = result } }
+        (serials (named_links_of_content content.now))
+        ≡ record { counts = by_serial counts.new.entries; first = result } }
 {
     match content {
         Content::Payload(_) => first,

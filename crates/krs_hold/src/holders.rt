@@ -85,8 +85,8 @@ impl Holders {
         }
     }
 
-    /// Counts a key that is made next, with its first holder: ENOMEM. Where that key is then not made, the holder lets go of
-    /// it again, and the next sweep drops the count.
+    /// Counts a key that is made next, with its first holder: ENOMEM. Where that key is then not made, the holder lets
+    /// go of it again, and the next sweep drops the count.
     pub fn made_held(&mut self, serial: Serial) -> Result<(), Errno>
         ensures ok { OnOk result (self.new ≡ one_more serial (with_number serial self.old)) }
         ensures error { IfErr result (λ e. e ≡ ENOMEM) }

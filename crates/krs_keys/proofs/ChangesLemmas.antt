@@ -44,12 +44,14 @@ name-changed change.Revoked key = refl
 name-changed change.Cleared key = refl
 name-changed change.Closed key = refl
 
-paid_named : (names : ℕ → Option Name) (payload : List ℕ) (content : Content) → AreNamed names (named_links_of_content content)
+paid_named : (names : ℕ → Option Name) (payload : List ℕ) (content : Content)
+    → AreNamed names (named_links_of_content content)
     → AreNamed names (named_links_of_content (paid_with payload content))
 paid_named names payload (Payload old) named = named
 paid_named names payload (Links links) named = named
 
-emptied_named : (names : ℕ → Option Name) (content : Content) → AreNamed names (named_links_of_content (emptied content))
+emptied_named : (names : ℕ → Option Name) (content : Content)
+    → AreNamed names (named_links_of_content (emptied content))
 emptied_named names (Payload old) = tt
 emptied_named names (Links links) = tt
 

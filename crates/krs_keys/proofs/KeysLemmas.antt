@@ -12,7 +12,8 @@ use Rattle.krs_keys.specs.declared.key.{Content.{Content, TheVariants.{Links, Pa
 use Rattle.krs_model.specs.State as model
 
 -- the serials that a key links
-pub serials-content : (content : Content) → serials (named_links_of_content content) ≡ links_of_content (seen_content content)
+pub serials-content : (content : Content) → serials (named_links_of_content content)
+    ≡ links_of_content (seen_content content)
 serials-content (Payload bytes) = refl
 serials-content (Links links) = refl
 

@@ -96,7 +96,8 @@ other_linked names name serial (link ∷ links) there other named =
     → ((link.1 == serial) || has_link serial links) ≡ false) [
       | true ↦ λ same h.
           let apart : (link.1 == serial) ≡ false = apart_in link.1 serial h in
-          let none : serial_named links name ≡ None = ap (serial_named links) (equal_names name link.0 same) ∙ named.2 in
+          let none : serial_named links name ≡ None = ap (serial_named links)
+          (equal_names name link.0 same) ∙ named.2 in
           rw apart (none_linked names name serial links there none named.1)
       | false ↦ λ two h.
           let apart : (link.1 == serial) ≡ false = other_serial names name serial link there named.0 two in

@@ -91,7 +91,8 @@ pub fit-without_key :
 fit-without_key serial keys fit q key h =
     let was = came_from serial keys q key h in
     let names = name_at keys in
-    subst (λ (v : Key). AreNamed (name_at (map_values (without_key serial) keys)) (named_links_of_content v.content)) was.2
+    subst (λ (v : Key). AreNamed (name_at (map_values (without_key serial) keys))
+    (named_links_of_content v.content)) was.2
     (named_on names (name_at (map_values (without_key serial) keys))
     (λ k name there. name-without_key serial keys k ∙ there)
     (named_links_of_content (keyless_content serial was.0.content))

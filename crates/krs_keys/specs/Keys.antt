@@ -110,7 +110,8 @@ displaced_at keys ring name = displaced_by name (at keys ring)
 abbrev pub FindsByName : Table model.Key → Key → Type 0
 FindsByName keys key =
     (name : Name)
-    → link_named keys name (serials (named_links_of_content key.content)) ≡ serial_named (named_links_of_content key.content) name
+    → link_named keys name (serials (named_links_of_content key.content))
+    ≡ serial_named (named_links_of_content key.content) name
 
 -- the least serial of a keyring that a caller may join by this description: profile, joining by name
 abbrev pub joinable_in : ℕ → Caller → List ℕ → Table Key → Option ℕ

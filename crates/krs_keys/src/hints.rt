@@ -7,7 +7,8 @@ use crate::{Change, Content};
 use krs_types::Serial;
 
 impl KeyTable {
-    /// Two keyrings that may link a key, and where. They are hints: no clause speaks of them, and the links may be gone.
+    /// Two keyrings that may link a key, and where. They are hints: no clause speaks of them, and the links may be
+    /// gone.
     #[inline(always)]
     pub fn link_hints(&self, serial: Serial) -> (LinkHint, LinkHint) {
         match self.keys.place_of(serial.number()) {

@@ -180,7 +180,8 @@ impl KeyTable {
         ensures displaced { IfOk result (λ old. old ≡ displaced_at (put self.old.keys self.old.next key) ring name) }
         ensures ok { OnOk result (self.new ≡ with_linked_key self.old ring name key) }
         ensures left { OnOk result (AreLeft self.old.next 1) }
-        ensures room { OnOk result (is_refused (named_links_of_key_at (put self.old.keys self.old.next key) ring) name ≡ false) }
+        ensures room { OnOk result (is_refused (named_links_of_key_at (put self.old.keys self.old.next key)
+            ring) name ≡ false) }
         ensures error { IfErr result (IsLinkedError (put self.old.keys self.old.next key) self.old.next ring name) }
         ensures err { OnErr result (self.new ≡ self.old) }
     {
@@ -214,8 +215,8 @@ impl KeyTable {
         }
     }
 
-    /// One more link in a keyring, and the serial that it displaces: ENFILE, ENOMEM. It takes no memory where it displaces
-    /// one.
+    /// One more link in a keyring, and the serial that it displaces: ENFILE, ENOMEM. It takes no memory where it
+    /// displaces one.
     pub fn link(
         &mut self,
         ring: Serial,
@@ -290,8 +291,8 @@ impl KeyTable {
     }
 }
 
-/// A new key, which is listed where it is a keyring that JOIN made, and which a keyring is to link, where that is one. A
-/// refusal leaves what is there: ENOMEM.
+/// A new key, which is listed where it is a keyring that JOIN made, and which a keyring is to link, where that is one.
+/// A refusal leaves what is there: ENOMEM.
 fn put_in(
     keys: &mut PlacedKeys,
     sessions: &mut Sessions,

@@ -5,8 +5,8 @@ use std::cell::Cell;
 use std::collections::BTreeSet;
 use std::collections::btree_set::Range;
 
-/// A keyring that links a key, or did, and a place of its link order where it may do so. Whoever follows such a hint checks
-/// it.
+/// A keyring that links a key, or did, and a place of its link order where it may do so. Whoever follows such a hint
+/// checks it.
 #[derive(Clone, Copy)]
 pub struct LinkHint {
     /// 0 is none.
@@ -88,9 +88,9 @@ impl Near {
 }
 
 /// The keyrings that link each key: two stand at the key's place, and further ones in a set. They are hints, and no
-/// contract speaks of them: whoever follows one checks that the link is there, and counts the holders of the key to know
-/// whether there are others. Most keys have one link, so that the set is mostly empty. Memory that it lacks costs a look
-/// at all keyrings later, and refuses nothing.
+/// contract speaks of them: whoever follows one checks that the link is there, and counts the holders of the key to
+/// know whether there are others. Most keys have one link, so that the set is mostly empty. Memory that it lacks costs
+/// a look at all keyrings later, and refuses nothing.
 #[derive(Drop)]
 pub(crate) struct Linkers {
     near: Vec<Cell<Near>>,

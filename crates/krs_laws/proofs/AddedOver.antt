@@ -108,5 +108,6 @@ adds_forget hide old new event serial sound only adds step =
     subst (λ (r : Result Answer Errno). Ends (blind hide up) event.lane event.ask.context event.ask.op r new)
     (sym adds.told)
     (served_same hide up new event.lane event.ask.context event.ask.op (Number serial)
-    (subst (λ (o : Op). AsksAlike up (blind hide up) event.lane event.ask.context o (Number serial)) (sym adds.asked) alike)
+    (subst (λ (o : Op). AsksAlike up (blind hide up) event.lane event.ask.context o (Number serial))
+    (sym adds.asked) alike)
     (subst (λ (r : Result Answer Errno). Ends up event.lane event.ask.context event.ask.op r new) adds.told step))

@@ -128,7 +128,8 @@ owner_is :
     (caller : Caller) (key x : Key) → if_owner caller key ≡ Ok x
     → (caller.uid ≡ 0) ⊎ (caller.uid ≡ key.uid)
 owner_is caller key x h =
-    elim (caller.uid == 0) as (λ b. (caller.uid == 0) ≡ b → cond (b || (caller.uid == key.uid)) (Ok key) (Err EACCES) ≡ Ok x
+    elim (caller.uid == 0) as (λ b. (caller.uid == 0) ≡ b
+    → cond (b || (caller.uid == key.uid)) (Ok key) (Err EACCES) ≡ Ok x
     → (caller.uid ≡ 0) ⊎ (caller.uid ≡ key.uid)) [
       | true ↦ λ t e. inl (equal_is caller.uid 0 t)
       | false ↦ λ t e. elim (caller.uid == key.uid) as (λ d. (caller.uid == key.uid) ≡ d
@@ -142,7 +143,8 @@ owner_is caller key x h =
 abbrev OwnsSo : Caller → ℕ → ℕ → Key → Type 0
 OwnsSo caller uid gid key =
     (caller.uid ≡ 0)
-    ⊎ ((or_left uid key.uid ≡ key.uid) × ((or_left gid key.gid ≡ key.gid) ⊎ (is_of_group caller (or_left gid key.gid) ≡ true)))
+    ⊎ ((or_left uid key.uid ≡ key.uid) × ((or_left gid key.gid ≡ key.gid)
+    ⊎ (is_of_group caller (or_left gid key.gid) ≡ true)))
 
 left_or_own :
     (caller : Caller) (gid there : ℕ) → ((or_left gid there == there) || is_of_group caller gid) ≡ true
@@ -160,7 +162,8 @@ may_own_so :
     (caller : Caller) (uid gid : ℕ) (key : Key) → may_own caller uid gid key ≡ true → OwnsSo caller uid gid key
 may_own_so caller uid gid key h =
     ⊎_elim (λ (e : (caller.uid == 0) ≡ true). inl (equal_is caller.uid 0 e))
-    (λ (rest : ((or_left uid key.uid == key.uid) && ((or_left gid key.gid == key.gid) || is_of_group caller gid)) ≡ true).
+    (λ (rest : ((or_left uid key.uid == key.uid)
+    && ((or_left gid key.gid == key.gid) || is_of_group caller gid)) ≡ true).
     let r = both (or_left uid key.uid == key.uid) ((or_left gid key.gid == key.gid) || is_of_group caller gid) rest in
     inr (equal_is (or_left uid key.uid) key.uid r.0, left_or_own caller gid key.gid r.1))
     (true_or (caller.uid == 0) _ h)
@@ -337,7 +340,8 @@ add_rightly s client context type_name desc payload ring stands =
     let none = next_none s stands in
     let next = made_next s c ring made stands has in
     meets_after (place_of made.0 made.1 name ring) _ (λ place is.
-    meets_ok (added_rightly s client context _ c ring made name payload place own (c, own, sym next.1) none next.0 has is
+    meets_ok (added_rightly s client context _ c ring made name payload place own
+    (c, own, sym next.1) none next.0 has is
     (made_rightly s client context _ c ring none (c, own, refl))))))
 
 where_rightly :
@@ -480,7 +484,8 @@ served_by_right s new event answer stands serves =
             left = mid;
             answer = answer;
             meant = serves.meant;
-            unheld = gone_unheld mid kept k (at mid.keys k) refl serves.sweep.picks (law.stands stands) (sym (is k) ∙ none);
+            unheld = gone_unheld mid kept k (at mid.keys k) refl serves.sweep.picks
+                (law.stands stands) (sym (is k) ∙ none);
           };
     }
 

@@ -24,7 +24,8 @@ abbrev AreCalledFor : List Watch → List Post → Type 0
 AreCalledFor ws [] = Unit {0}
 AreCalledFor ws (p ∷ ps) = IsCalledFor ws p.0 p.1 × AreCalledFor ws ps
 
-called_append : (ws : List Watch) (ps qs : List Post) → AreCalledFor ws ps → AreCalledFor ws qs → AreCalledFor ws (ps ++ qs)
+called_append : (ws : List Watch) (ps qs : List Post) → AreCalledFor ws ps → AreCalledFor ws qs
+    → AreCalledFor ws (ps ++ qs)
 called_append ws [] qs f g = g
 called_append ws (p ∷ ps) qs f g = (f.0, called_append ws ps qs f.1 g)
 

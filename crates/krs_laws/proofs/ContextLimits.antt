@@ -24,14 +24,16 @@ put_count : (client : ℕ) (es : Table Context) (n : ℕ) (c : Context)
     → context_count client (put es n c) ≤ context_count client es + one_of client c
 put_count client [] n c = omega (arith, counted client (n, c) [])
 put_count client (e ∷ es) n c =
-    elim (nat_cmp n e.0) as (λ r. context_count client (match_ordering r ((n, c) ∷ e ∷ es) ((e.0, c) ∷ es) (e ∷ put es n c))
+    elim (nat_cmp n e.0) as (λ r. context_count client
+    (match_ordering r ((n, c) ∷ e ∷ es) ((e.0, c) ∷ es) (e ∷ put es n c))
     ≤ context_count client (e ∷ es) + one_of client c) [
       | Less ↦ omega (arith, counted client (n, c) (e ∷ es))
       | Equal ↦ omega (arith, counted client (e.0, c) es, counted client e es)
       | Greater ↦ omega (arith, counted client e (put es n c), counted client e es, put_count client es n c)
     ]
 
-alter_count : (client : ℕ) (es : Table Context) (n : ℕ) (f : Context → Context) → ((c : Context) → (f c).client ≡ c.client)
+alter_count : (client : ℕ) (es : Table Context) (n : ℕ) (f : Context → Context)
+    → ((c : Context) → (f c).client ≡ c.client)
     → context_count client (alter es n f) ≡ context_count client es
 alter_count client [] n f same = refl
 alter_count client (e ∷ es) n f same =

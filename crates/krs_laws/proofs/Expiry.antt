@@ -59,5 +59,6 @@ expired_unread start sound before old legal serial key there over later late bet
     }) between in
     let may = reads_by_right old later late between reading end serial step reads in
     let up : late.clock ≤ (raised late reading.moment).clock = omega arith in
-    true≢false (sym (over_later late.clock (raised late reading.moment).clock may.key.expiry up (done.over may.key may.there))
+    true≢false (sym (over_later late.clock (raised late reading.moment).clock may.key.expiry up
+    (done.over may.key may.there))
     ∙ may.running)

@@ -63,7 +63,8 @@ both true b h = (refl, h)
 both false b h = absurd (true≢false (sym h))
 
 -- a payload that a type takes
-bounded : (payload : List ℕ) (x : Unit {0}) (b : Bool) → (nat_le 1 (length payload) && nat_le (length payload) 32767) ≡ b
+bounded : (payload : List ℕ) (x : Unit {0}) (b : Bool)
+    → (nat_le 1 (length payload) && nat_le (length payload) 32767) ≡ b
     → cond b (Ok tt) (Err EINVAL) ≡ Ok x → length payload ≤ 32767
 bounded payload x true is h =
     let high = (both (nat_le 1 (length payload)) (nat_le (length payload) 32767) is).1 in grind (arith, nat_tests)
@@ -157,7 +158,8 @@ linked_short s new into found there linked all =
     room_short s.keys name found.0 v.content a.0 b.0 links d.2 short) all)
 
 pub moved_short :
-    (s : State) (found from into : ℕ × Key) (new : State) → at s.keys into.0 ≡ Some into.1 → IsMoved s found from into new
+    (s : State) (found from into : ℕ × Key) (new : State) → at s.keys into.0 ≡ Some into.1
+    → IsMoved s found from into new
     → AllShort s.keys → AllShort new.keys
 moved_short s found from into _ there Stays all = all
 moved_short s found from into _ there (Moves mid linked) all =
@@ -165,7 +167,8 @@ moved_short s found from into _ there (Moves mid linked) all =
     (linked_short s mid into found there linked all)
 
 made_is_short :
-    (s : State) (number : ℕ) (c : Context) (id : Result KeyId Errno) (made : State × Context) → IsMade s number c id made
+    (s : State) (number : ℕ) (c : Context) (id : Result KeyId Errno) (made : State × Context)
+    → IsMade s number c id made
     → AllShort s.keys → AllShort made.0.keys
 made_is_short s number c id _ NoneMade all = all
 made_is_short s number c id _ (ThreadMade is yet) all =
@@ -238,7 +241,8 @@ no_link : (d : ℕ) {A : Type 0} (o : Option ℕ) → o ≡ None → o ≡ Some 
 no_link d o none some = absurd (none-some d (sym none ∙ some))
 
 match_takes :
-    (s : State) (c : Context) (name : Name) (ring : ℕ × Key) (links : List ℕ) (found : ℕ) (o : Option Key) (place : Place)
+    (s : State) (c : Context) (name : Name) (ring : ℕ × Key) (links : List ℕ) (found : ℕ)
+    (o : Option Key) (place : Place)
     → link_named s.keys name links ≡ Some found → over_match s c ring links found o ≡ Ok place
     → TakesAt s name links place
 match_takes s c name ring links found None place is h =
@@ -248,10 +252,11 @@ match_takes s c name ring links found (Some key) place is h =
     elim (is_alive s.clock key && is_updatable key.kind) as (λ b. cond b
     (cond grants (Ok (Updated found)) (Err EACCES)) (if_room s ring links (Some found)) ≡ Ok place
     → TakesAt s name links place) [
-      | true ↦ λ e. elim grants as (λ b. cond b (Ok (Updated found)) (Err EACCES) ≡ Ok place → TakesAt s name links place) [
-        | true ↦ λ d. subst (TakesAt s name links) (same_ok (Ok (Updated found)) (Updated found) place refl d) tt
-        | false ↦ λ d. cc
-      ] e
+      | true ↦ λ e. elim grants as (λ b. cond b (Ok (Updated found)) (Err EACCES) ≡ Ok place
+          → TakesAt s name links place) [
+            | true ↦ λ d. subst (TakesAt s name links) (same_ok (Ok (Updated found)) (Updated found) place refl d) tt
+            | false ↦ λ d. cc
+          ] e
       | false ↦ λ e. takes_at s name links place
           (if_room_takes s name ring links (Some found) place e (λ d same. is ∙ same))
     ] h
@@ -277,7 +282,8 @@ links_short p serial content links is takes short =
     subst (λ (z : Content). IsShort (linked_content p serial z)) (sym is) (takes (subst IsShort is short))
 
 pub added_short :
-    (s : State) (c : Context) (name : Name) (payload : List ℕ) (id : ℤ) (place : Place) → place_of s c name id ≡ Ok place
+    (s : State) (c : Context) (name : Name) (payload : List ℕ) (id : ℤ) (place : Place)
+    → place_of s c name id ≡ Ok place
     → at s.keys s.next_serial ≡ None → length payload ≤ 32767 → AllShort s.keys
     → AllShort (added s c name payload place).keys
 unfolding place_of

@@ -68,7 +68,8 @@ add_short s client context type_name desc payload ring stands all =
     let none : at made.0.keys made.0.next_serial ≡ None =
     (made_for_stands s context c ring stands).unused made.0.next_serial (omega arith) in
     meets_after (place_of made.0 made.1 name ring) _ (λ place is.
-    meets_ok (added_short made.0 made.1 name payload ring place is none (admitted_short type_name desc payload name fits)
+    meets_ok (added_short made.0 made.1 name payload ring place is none
+    (admitted_short type_name desc payload name fits)
     (made_short s context c ring all)))))
 
 where_short : (create : Bool) (s : State) (context : ℕ) (c : Context) (id : ℤ) → AllShort s.keys

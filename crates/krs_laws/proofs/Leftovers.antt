@@ -21,7 +21,8 @@ unheld : (keys : Table Key) (k : ℕ) → IsHeld keys [] k → ⊥
 unheld keys _ (Attached k i) = true≢false (sym i)
 unheld keys _ (Linked j k held i) = unheld keys j held
 
-none_watched : (queues : List (ℕ × Queue)) (watches : List Watch) → queues ≡ [] → Each (IsWatch queues) watches → watches ≡ []
+none_watched : (queues : List (ℕ × Queue)) (watches : List Watch) → queues ≡ []
+    → Each (IsWatch queues) watches → watches ≡ []
 none_watched queues [] none each = refl
 none_watched queues (w ∷ ws) none each =
     absurd (true≢false (sym each.0.queue ∙ ap (λ (es : Table Queue). is_some (at es w.0.1)) none))
@@ -36,7 +37,8 @@ all_gone s sound nothing =
     let used = sound.used.process p (rw there refl) in no_context used.number used.context used.there) in
     let uids : s.uids ≡ [] = none_there s.uids (λ uid rings there.
     let used = sound.used.owner uid (rw there refl) in no_context used.number used.context used.there) in
-    let queues : s.queues ≡ [] = none_there s.queues (λ k queue there. (nothing queue.client).queues k queue there refl) in
+    let queues : s.queues ≡ [] = none_there s.queues
+    (λ k queue there. (nothing queue.client).queues k queue there refl) in
     let none : roots s ≡ [] =
     ap (λ (es : Table Context). context_roots es ++ (process_roots s.processes ++ uid_roots s.uids)) contexts
     ∙ (ap (λ (es : Table (Option ℕ)). process_roots es ++ uid_roots s.uids) processes

@@ -67,7 +67,8 @@ effect_whence s client context _ _ _ distinct (Reads number room was here) m que
     inr (alter_was s.queues number (after_read room) (λ q. refl) m queue there)
 effect_whence s client context _ _ _ distinct (Closes number was here) m queue there =
     inr (queue, without_was s.queues number m queue distinct there, refl)
-effect_whence s client context _ _ _ distinct (Watches id watch_id number key n was known here asked fits) m queue there =
+effect_whence s client context _ _ _ distinct (Watches id watch_id number key n was known here asked
+    fits) m queue there =
     inr (queue, there, refl)
 effect_whence s client context _ _ _ distinct (Unwatches id watch_id number key n was known named here asked is) m queue
     there =
@@ -200,7 +201,8 @@ no_queue events client number all opened =
     none_stays client opened.0 opened.1 opened.2 (subst HaveLeft opened.3 all) opened.4.by
     (unlike_open opened.1.ask.op opened.4.capacity opened.4.asked) opened.5
 
-left_empty : (n : ℕ) (events : List Event) (end : State) → IsLegal (starting_at n) events end → HaveLeft events → IsEmpty end
+left_empty : (n : ℕ) (events : List Event) (end : State) → IsLegal (starting_at n) events end
+    → HaveLeft events → IsEmpty end
 left_empty n events end legal all =
     all_gone end (legal_sound (starting_at n) events end (start_sound n) legal) (λ client. record {
       contexts = λ number c there e. no_context events c all (contexts_greeted n events end legal number c there);

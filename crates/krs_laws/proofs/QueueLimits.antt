@@ -31,7 +31,8 @@ room_one note = elim (is_loss note) as (λ b. cond b 0 1 ≤ 1) [
   | false ↦ omega arith
 ]
 
-room_appended : (waiting : List Record) (note : Record) → total_room (waiting ++ note ∷ []) ≡ total_room waiting + room_of note
+room_appended : (waiting : List Record) (note : Record) → total_room (waiting ++ note ∷ [])
+    ≡ total_room waiting + room_of note
 room_appended [] note = omega arith
 room_appended (w ∷ ws) note = let later = room_appended ws note in omega arith
 
@@ -58,7 +59,8 @@ behind_room room [] = omega arith
 behind_room room (note ∷ notes) =
     let later = behind_room (room - length (bytes_of note)) notes in
     elim (nat_le (length (bytes_of note)) room) as
-    (λ b. total_room (cond b (behind (room - length (bytes_of note)) notes) (note ∷ notes)) ≤ total_room (note ∷ notes)) [
+    (λ b. total_room (cond b (behind (room - length (bytes_of note)) notes) (note ∷ notes)) ≤
+    total_room (note ∷ notes)) [
       | true ↦ omega arith
       | false ↦ omega arith
     ]
@@ -157,7 +159,8 @@ effect_within s client context _ _ _ h orderly (Closes number queue there) was =
   wait = λ k q here. was.wait k q (without_was s.queues number k q orderly.distinct here);
 }
 effect_within s client context _ _ _ h orderly (Watches id watch_id number key n queue known there asked fits) was = was
-effect_within s client context _ _ _ h orderly (Unwatches id watch_id number key n queue known named there asked id_was) was =
+effect_within s client context _ _ _ h orderly (Unwatches id watch_id number key n queue known named
+    there asked id_was) was =
     was
 effect_within s client context _ _ _ h orderly Leaves was = record {
   few = let less = filter_length (λ e. not (e.1.client == client)) s.queues in let few = was.few in omega arith;

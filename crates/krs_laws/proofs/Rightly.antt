@@ -1,5 +1,5 @@
--- What is proved of the keys of an accepted ask before the sweep: they change by right. How it comes about: nothing is done,
--- a key is put, what one holds is written, another part of it is changed.
+-- What is proved of the keys of an accepted ask before the sweep: they change by right. How it comes about: nothing is
+-- done, a key is put, what one holds is written, another part of it is changed.
 use Rattle.std.proofs.Common.{ap, Bool, false, inl, inr, List, None, Ok, Option, option_map, refl, Some, subst, sym}
 use Rattle.std.proofs.{Common.{true, ℕ, ℤ, ⊎_elim, ◌∙◌, ◌≡◌, ◌≢◌, ◌⊎◌}, lemmas.Option.{none-some, same_Some}}
 use Rattle.krs_types.specs.declared.{ask.Op.Op, caller.Caller.Caller, context.Context.Context, rights.Want.Want}
@@ -70,7 +70,8 @@ rightly_put s client context op keys n v none mine links was = record {
 
 links_mapped :
     (f : Key → Key) (P : ℕ → Type 0) (o : Option Key) (k : ℕ)
-    → ((v : Key) → is_in k (links_of_content (f v).content) ≡ true → (is_in k (links_of_content v.content) ≡ true) ⊎ P k)
+    → ((v : Key) → is_in k (links_of_content (f v).content) ≡ true
+    → (is_in k (links_of_content v.content) ≡ true) ⊎ P k)
     → LinksTo k (option_map f o) → (LinksTo k o) ⊎ P k
 links_mapped f P None k more i = inl i
 links_mapped f P (Some v) k more i = more v i
@@ -129,7 +130,8 @@ rightly_written s client context op keys n f right links was =
 pub rightly_changed :
     (s : State) (client context : ℕ) (op : Op) (n : ℕ) (f : Key → Key)
     → ((v : Key) → at s.keys n ≡ Some v → IsByRight s client context n v (f v))
-    → ((j : ℕ) (v : Key) → is_in j (links_of_content (f v).content) ≡ true → is_in j (links_of_content v.content) ≡ true)
+    → ((j : ℕ) (v : Key) → is_in j (links_of_content (f v).content) ≡ true
+    → is_in j (links_of_content v.content) ≡ true)
     → Rightly s client context op (alter s.keys n f)
 rightly_changed s client context op n f right less =
     rightly_then s client context op s.keys n f
@@ -205,7 +207,8 @@ link_was s t c d desc before after k key was has none there is grants =
     ap (λ (es : Table Key). at es k) has.keys ∙ at_other s.keys n k (special_ring desc c.caller) apart in (
       sym same ∙ is,
       subst (λ (b : Bool). allows (Granted LINK) (rights_on key c.caller b) false ≡ true) mine
-          (subst (λ (z : Caller). allows (Granted LINK) (rights_on key z (possessed t d k)) false ≡ true) has.caller grants),
+          (subst (λ (z : Caller). allows (Granted LINK) (rights_on key z (possessed t d k)) false
+          ≡ true) has.caller grants),
     )
 
 made_link :

@@ -157,7 +157,8 @@ pub added_rightly :
 added_rightly s client context op c ring made name payload (Updated serial) own asks none next has is was =
     let writes = place_writes made.0 made.1 name ring serial is in
     updated_then s client context op made.0.keys serial payload
-    (λ old there. right_made s client context c ring made (Granted WRITE) (serial, writes.0) old own has none there writes.1)
+    (λ old there. right_made s client context c ring made (Granted WRITE) (serial, writes.0) old own
+    has none there writes.1)
     was
 added_rightly s client context op c ring made name payload (Made r) own asks none next has is was =
     let found = place_found made.0 made.1 name ring r is in

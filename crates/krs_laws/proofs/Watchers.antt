@@ -38,7 +38,8 @@ own_is client found queue h =
     ] refl h
 
 owner_of :
-    (s : State) (client number : ℕ) (queue : Queue) → queue_of s.queues client number ≡ Ok queue → OwnsQueue s client number
+    (s : State) (client number : ℕ) (queue : Queue) → queue_of s.queues client number ≡ Ok queue
+    → OwnsQueue s client number
 owner_of s client number queue h =
     let there = bind_ok (or_refuse EBADF (at s.queues number)) (if_own_queue client) queue h in
     record {
@@ -91,7 +92,8 @@ ended_owner s new client context op (Err e) number accepted is ends = absurd (tr
 pub owners_ask : QueuesAreTheirOwners
 unfolding Step
 owners_ask old new event number step accepted is =
-    let own = ended_owner (raised old event.moment) new event.lane event.ask.context event.ask.op event.reply number accepted
+    let own = ended_owner (raised old event.moment) new event.lane event.ask.context event.ask.op
+    event.reply number accepted
     is step in
     record { queue = own.queue; there = own.there; own = own.own }
 
@@ -191,7 +193,8 @@ watch_set s client context number id watch_id =
     (right_found s client context c id (Granted VIEW) there own is) set)))))
 
 effect_set :
-    (s : State) (client context : ℕ) (op : Op) (mid : State) (answer : Answer) → outcome_of s client context op ≡ Ok (mid, answer)
+    (s : State) (client context : ℕ) (op : Op) (mid : State) (answer : Answer)
+    → outcome_of s client context op ≡ Ok (mid, answer)
     → Effect s client context op mid answer → Each (IsSetRightly s client context op) mid.watches
 unfolding left
 effect_set s client context _ _ _ h (OfKeys op mid answer other comes none) =
@@ -221,7 +224,8 @@ ended_set s new event (Ok answer) ends =
     let context = event.ask.context in
     let mid = ends.mid in
     let op = event.ask.op in
-    let set = effect_set s client context op mid answer ends.meant (effect_of s client context op mid answer ends.meant) in
+    let set = effect_set s client context op mid answer ends.meant
+    (effect_of s client context op mid answer ends.meant) in
     let is : new.watches ≡ live_watches ends.swept.keys mid.watches =
     ap (λ (t : State). t.watches) ends.posted ∙ ap (λ (t : State). t.watches) ends.sweep.rest in
     subst (Each (IsSetRightly s client context op)) (sym is)
@@ -230,7 +234,8 @@ ended_set s new event (Err e) ends =
     subst (λ (t : State). Each (IsSetRightly s event.lane event.ask.context event.ask.op) t.watches) (sym ends.1)
     (were_set s event.lane event.ask.context event.ask.op)
 
-pub step_set : (old new : State) (event : Event) → Step old event new → WatchesByRight (raised old event.moment) event new
+pub step_set : (old new : State) (event : Event) → Step old event new
+    → WatchesByRight (raised old event.moment) event new
 unfolding Step
 step_set old new event step = ended_set (raised old event.moment) new event event.reply step
 

@@ -46,7 +46,8 @@ step_within : (old new : State) (event : Event) → IsSound old → Within old �
 unfolding Step
 step_within old new event sound was step =
     ended_within (raised old event.moment) new event.lane event.ask.context event.ask.op event.reply
-    (raised_sound old event.moment sound) (record { keys = was.keys; contexts = was.contexts; queues = was.queues }) step
+    (raised_sound old event.moment sound) (record
+    { keys = was.keys; contexts = was.contexts; queues = was.queues }) step
 
 capacity_most : (n : ℕ) → is_capacity n ≡ true → n ≤ 4096
 capacity_most n h = let high = (both (nat_le 1 n) (nat_le n 4096) h).1 in grind (arith, nat_tests)
@@ -56,8 +57,11 @@ within_limits s sound within = record {
   keys = within.keys.each;
   contexts = within.contexts;
   queues = within.queues.few;
-  waiting = λ number queue there.
-      (within.queues.wait number queue there, capacity_most queue.capacity (sound.orderly.queues number queue there).capacity);
+  waiting = λ number queue there. (
+    within.queues.wait number queue there,
+    capacity_most queue.capacity
+        (sound.orderly.queues number queue there).capacity,
+  );
 }
 
 pub stays_within : (start : State) → IsSound start → IsWithinLimits start → StaysWithinLimits start

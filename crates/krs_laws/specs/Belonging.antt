@@ -8,7 +8,8 @@ use Rattle.krs_model.specs.{History.IsLegal, Revocation.Reads, State.{Queue, sta
 
 -- once a client has left, no context and no queue is its
 abbrev pub LeavesNothing : Type 0
-LeavesNothing = (old new : State) (event : Event) → Step old event new → event.ask.op ≡ Leave → HasNothing event.lane new
+LeavesNothing = (old new : State) (event : Event) → Step old event new → event.ask.op ≡ Leave
+    → HasNothing event.lane new
 
 -- the store began empty
 abbrev pub BeganEmpty : State → Type 0

@@ -16,7 +16,8 @@ pub record IsEmpty (s : State) : Type 0 where
 -- in each history from this state on, once no client has a context or a queue, nothing is kept
 abbrev pub AreEmptiedInTheEnd : State → Type 0
 AreEmptiedInTheEnd start =
-    (events : List Event) (end : State) → IsLegal start events end → ((client : ℕ) → HasNothing client end) → IsEmpty end
+    (events : List Event) (end : State) → IsLegal start events end
+    → ((client : ℕ) → HasNothing client end) → IsEmpty end
 
 -- one of these events is a LEAVE of the client
 abbrev pub IsLeft : ℕ → List Event → Type 0

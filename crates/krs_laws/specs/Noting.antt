@@ -82,8 +82,8 @@ IsToldByRight start events number (Key event id key aux) = WasSet start events (
 IsToldByRight start events number (Removal id key) = WasSet start events ((key, number), id)
 IsToldByRight start events number Loss = ⊥
 
--- In each history of a store that began empty, each record that is posted to a queue is of a watch that was set in it, by
--- right: in a context that had VIEW on the key then, of the client whose queue it was
+-- In each history of a store that began empty, each record that is posted to a queue is of a watch that was set in it,
+-- by right: in a context that had VIEW on the key then, of the client whose queue it was
 abbrev pub AllNotesAreByRight : State → Type 0
 AllNotesAreByRight start =
     BeganEmpty start → (before : List Event) (old : State) → IsLegal start before old

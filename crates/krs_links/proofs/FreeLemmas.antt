@@ -63,7 +63,8 @@ one_more_taken digest steps entries taken here s below =
     (cases_eq s steps)
 
 -- where the next is taken too, there is one entry more than steps
-pub taken_further : (digest steps next : ℕ) (entries : List (ℕ × Link)) → steps < 2 ^ 64 → AreTaken digest steps entries →
+pub taken_further : (digest steps next : ℕ) (entries : List (ℕ × Link)) → steps < 2 ^ 64
+    → AreTaken digest steps entries →
     next ≡ behind digest steps → true ≡ is_some (lookup (nat_eq next) entries) →
     (steps + 1 ≤ length entries) × AreTaken digest (steps + 1) entries
 taken_further digest steps next entries small taken is here =

@@ -50,7 +50,8 @@ first_of name n (x ∷ xs) zero link u here same =
     let none : n + 0 ≡ n = omega arith in
     rw (head, none) refl
 first_of name n (x ∷ xs) (suc i) link u here same =
-    let apart : same_name x.0 link.0 ≡ false = apart_at x.0 xs i link (IsDistinct-head same_name x.0 (names xs) u) here in
+    let apart : same_name x.0 link.0 ≡ false = apart_at x.0 xs i link
+    (IsDistinct-head same_name x.0 (names xs) u) here in
     let other : same_name x.0 name ≡ false = subst (λ (m : Name). same_name x.0 m ≡ false)
     (sym (equal_names name link.0 same)) apart in
     let head : same_name name x.0 ≡ false = other_way x.0 name other in
@@ -72,7 +73,8 @@ place_is name entries i number link u here same =
 
 -- ---- no place
 -- where no link has the name, it has no place
-nowhere_from : (name : Name) (n : ℕ) (entries : List (ℕ × Link)) → ((i : ℕ) (e : ℕ × Link) → slice_get entries i ≡ Some e →
+nowhere_from : (name : Name) (n : ℕ) (entries : List (ℕ × Link))
+    → ((i : ℕ) (e : ℕ × Link) → slice_get entries i ≡ Some e →
     same_name name e.1.name ≡ false) → position_from (λ l. same_name name l.0) n (linked_in entries) ≡ None
 nowhere_from name n [] other = refl
 nowhere_from name n (e ∷ es) other =
@@ -155,7 +157,8 @@ AllStand-set seed span [] i serial all = tt
 AllStand-set seed span (e ∷ es) zero serial all = all
 AllStand-set seed span (e ∷ es) (suc i) serial all = (all.0, AllStand-set seed span es i serial all.1)
 
-put_at : (name : Name) (serial : ℕ) (entries : List (ℕ × Link)) (i : ℕ) (d : Name × ℕ) → i < length (linked_in entries) →
+put_at : (name : Name) (serial : ℕ) (entries : List (ℕ × Link)) (i : ℕ) (d : Name × ℕ)
+    → i < length (linked_in entries) →
     same_name name (get_or (linked_in entries) i d).0 ≡ true →
     ((k : ℕ) → k < i → same_name name (get_or (linked_in entries) k d).0 ≡ false) →
     linked_in (with_serial_at entries i serial) ≡ link_put (linked_in entries) name serial
@@ -178,13 +181,15 @@ linked_in-set name serial entries i h =
 
 -- ---- a serial
 -- a name under which a serial is linked has a link with it
-named_somewhere : (name : Name) (serial : ℕ) (entries : List (ℕ × Link)) → serial_named (linked_in entries) name ≡ Some serial →
+named_somewhere : (name : Name) (serial : ℕ) (entries : List (ℕ × Link))
+    → serial_named (linked_in entries) name ≡ Some serial →
     (i : ℕ) × (e : ℕ × Link) × (slice_get entries i ≡ Some e) × (same_name name e.1.name ≡ true) × (e.1.serial ≡ serial)
 named_somewhere name serial [] h = absurd (none-some serial h)
 named_somewhere name serial (e ∷ es) h =
     elim (same_name name e.1.name) as (λ b. same_name name e.1.name ≡ b → option_map (λ (link : Name × ℕ). link.1)
     (cond b (Some (link_of e)) (find (λ (link : Name × ℕ). same_name name link.0) (linked_in es))) ≡ Some serial →
-    (i : ℕ) × (d : ℕ × Link) × (slice_get (e ∷ es) i ≡ Some d) × (same_name name d.1.name ≡ true) × (d.1.serial ≡ serial)) [
+    (i : ℕ) × (d : ℕ × Link) × (slice_get (e ∷ es) i ≡ Some d) × (same_name name d.1.name ≡ true)
+    × (d.1.serial ≡ serial)) [
       | true ↦ λ t here. (0, e, refl, t, same_Some e.1.serial serial here)
       | false ↦ λ t later. let r = named_somewhere name serial es later in (suc r.0, r.1, r.2, r.3, r.4)
     ] refl h
@@ -192,18 +197,22 @@ named_somewhere name serial (e ∷ es) h =
 -- where none behind the name's digest has the serial, it is not linked under the name
 pub not_linked : (seed : Seed) (span digest serial : ℕ) (name : Name) (entries : List (ℕ × Link)) →
     IsDistinct nat_eq (keys_of entries) → AllStand seed span entries → digest ≡ name_digest seed name →
-    ((s : ℕ) → s < span → LinksNot serial entries (behind digest s)) → serial_named (linked_in entries) name ≢ Some serial
+    ((s : ℕ) → s < span → LinksNot serial entries (behind digest s))
+    → serial_named (linked_in entries) name ≢ Some serial
 not_linked seed span digest serial name entries apart all is none = λ linked.
     let there = named_somewhere name serial entries linked in
     let e : ℕ × Link = there.1 in
     let stands = stands_at seed span entries there.0 e all there.2 in
-    let known : name_digest seed e.1.name ≡ digest = ap (name_digest seed) (sym (equal_names name e.1.name there.3)) ∙ sym is in
+    let known : name_digest seed e.1.name ≡ digest = ap (name_digest seed)
+    (sym (equal_names name e.1.name there.3)) ∙ sym is in
     let number : e.0 ≡ behind digest stands.0 = stands.2 ∙ ap (λ d. behind d stands.0) known in
-    let found : lookup (nat_eq e.0) entries ≡ Some e.1 = lookup_from_place nat_eq_equiv entries there.0 e.0 e.1 apart there.2 in
+    let found : lookup (nat_eq e.0) entries ≡ Some e.1 = lookup_from_place nat_eq_equiv entries there.0
+    e.0 e.1 apart there.2 in
     none stands.0 stands.1 e.1 (subst (λ (k : ℕ). lookup (nat_eq k) entries ≡ Some e.1) number found) there.4
 
 -- ---- a link less
-pub linked_in-removed : (entries : List (ℕ × Link)) (i : ℕ) → linked_in (remove entries i) ≡ remove (linked_in entries) i
+pub linked_in-removed : (entries : List (ℕ × Link)) (i : ℕ) → linked_in (remove entries i)
+    ≡ remove (linked_in entries) i
 linked_in-removed [] zero = refl
 linked_in-removed [] (suc i) = refl
 linked_in-removed (e ∷ es) zero = refl

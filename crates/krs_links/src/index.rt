@@ -88,7 +88,8 @@ impl LinkIndex {
         }
     }
 
-    /// All serials as bytes, 4 each, the lowest first. The loop goes over the table itself, since a listing may be long.
+    /// All serials as bytes, 4 each, the lowest first. The loop goes over the table itself, since a listing may be
+    /// long.
     pub(crate) fn serial_bytes(&self, alloc: Global) -> Result<Vec<u8>, AllocError>
         requires { length (linked self.now) ≤ 65535 }
         ensures bytes { IfOk result (λ bytes. bytes.items ≡ bytes_of (serials (linked self.now))) }
@@ -118,8 +119,8 @@ impl LinkIndex {
         None
     }
 
-    /// A place where a serial is linked under what a name hashes to. Serials are compared, and no names: if the link of the
-    /// name has the serial, it is found.
+    /// A place where a serial is linked under what a name hashes to. Serials are compared, and no names: if the link of
+    /// the name has the serial, it is found.
     pub(crate) fn place_linked(&self, name: &HashedName, serial: Serial) -> Option<usize>
         requires indexed { IsIndexed self.now }
         ensures there { IfSome result (λ place. slice_get (serials (linked self.now)) place ≡ Some serial) }

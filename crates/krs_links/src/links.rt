@@ -120,8 +120,8 @@ impl Links {
         }
     }
 
-    /// A place where a serial is linked under what this name hashes to. Serials are compared, and no names, so that it costs
-    /// little for whoever has a key with its name: if the link of the name has the serial, it is found.
+    /// A place where a serial is linked under what this name hashes to. Serials are compared, and no names, so that it
+    /// costs little for whoever has a key with its name: if the link of the name has the serial, it is found.
     pub fn place_linked(&self, name: &HashedName, serial: Serial) -> Option<usize>
         ensures there { IfSome result (λ place. slice_get (serials self.now) place ≡ Some serial) }
         ensures none { IfNone result (serial_named self.now name.now ≢ Some serial) }

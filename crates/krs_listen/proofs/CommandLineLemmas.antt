@@ -75,7 +75,8 @@ leads_by_fault faults error text (Refused refused) has told words same = elim ha
 
 -- what words lead to of which options were read
 pub leads_of_read : (read : Result (Option Options) Error) (words : List (List ℕ)) (choice : Choice)
-    → IfOk read (Spells words) → FailsBy (fault_of daemon words) read → IfOk read (λ options. choice ≡ choice_by options)
+    → IfOk read (Spells words) → FailsBy (fault_of daemon words) read
+    → IfOk read (λ options. choice ≡ choice_by options)
     → IfErr read (λ error. (text : Option (List ℕ)) × IsToldAs (kind_of error) text choice)
     → LeadsTo words choice
 leads_of_read (Ok None) words choice spelled faults is told =

@@ -44,6 +44,7 @@ abbrev pub LeadsTo : List (List ℕ) → Choice → Type 0
 LeadsTo words (Serve options) = Spells words (Some options) × (fault_of daemon words ≡ [])
 LeadsTo words Usage = Spells words None × (fault_of daemon words ≡ [])
 LeadsTo words Memory = ⊤
-LeadsTo words (Shown shown) = IsAmong DisplayHelp (fault_of daemon words) ⊎ IsAmong DisplayVersion (fault_of daemon words)
+LeadsTo words (Shown shown) = IsAmong DisplayHelp (fault_of daemon words)
+    ⊎ IsAmong DisplayVersion (fault_of daemon words)
 LeadsTo words (Refused refused) = (kind : ErrorKind) × IsAmong kind (fault_of daemon words)
     × (kind ≢ DisplayHelp) × (kind ≢ DisplayVersion)

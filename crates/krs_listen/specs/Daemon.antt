@@ -46,12 +46,14 @@ SaysAsItEndsBy connections accepted failures old new old_errors new_errors statu
     ⊎ (AcceptsBy connections 0 accepted 0 failures Failed
     × Says old new (codes "error: accept\n") × TellsOf (codes "accept") old_errors new_errors × (status ≡ 3))
 
--- What a daemon prints and tells by its options, with its status: it lacks memory, or can't bind its path and tells why,
--- or it listens and then ends. Of a line that an output fails to take whole a beginning is written, and it goes on.
+-- What a daemon prints and tells by its options, with its status: it lacks memory, or can't bind its path and tells
+-- why, or it listens and then ends. Of a line that an output fails to take whole a beginning is written, and it goes
+-- on.
 abbrev pub SaysAsItServes : Options → Heard → Heard → Heard → Heard → ℕ → Type 0
 SaysAsItServes options old new old_errors new_errors status =
     (Says old new (codes "error 12 ENOMEM\n") × (new_errors ≡ old_errors) × (status ≡ 1))
-    ⊎ ((Says old new (codes "error: socket\n") × TellsOf (string_bytes options.path) old_errors new_errors × (status ≡ 3))
+    ⊎ ((Says old new (codes "error: socket\n") × TellsOf (string_bytes options.path) old_errors
+    new_errors × (status ≡ 3))
     ⊎ ((listening : Heard) × Says old listening (listening_line (string_bytes options.path))
     × SaysAsItEnds (connections_of options.accept) listening new old_errors new_errors status))
 

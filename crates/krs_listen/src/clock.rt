@@ -11,8 +11,8 @@ use std::time::{Clock, Duration};
 pub struct Latest {
     /// The latest answer.
     seconds: AtomicU64,
-    /// By how many milliseconds the time was ahead of the steady clock where a connection began, at most. By this the time
-    /// goes on after the wall clock was set back, also where no connection lasts.
+    /// By how many milliseconds the time was ahead of the steady clock where a connection began, at most. By this the
+    /// time goes on after the wall clock was set back, also where no connection lasts.
     lead: AtomicU64,
 }
 
@@ -74,8 +74,8 @@ impl Readings {
         }
     }
 
-    /// These with a later reading of the wall clock, before that has gone on by a second: the steady one isn't read again
-    /// then, as it couldn't make a second's difference.
+    /// These with a later reading of the wall clock, before that has gone on by a second: the steady one isn't read
+    /// again then, as it couldn't make a second's difference.
     fn with_wall(self, wall: u64) -> Option<Readings>
         ensures some { IfSome result (λ r. (r ≡ record self { wall = wall })
             × (self.wall ≤ wall) × (wall < self.wall + 1000)) }
@@ -129,8 +129,8 @@ impl<'r, R: Clock> DaemonClock<'r, R> {
         self.last
     }
 
-    /// What both clocks read: the steady one only where the wall clock has not gone on by less than a second since both were
-    /// read.
+    /// What both clocks read: the steady one only where the wall clock has not gone on by less than a second since both
+    /// were read.
     fn readings(&mut self) -> Option<Readings>
         ensures seen { IfSome result (λ r. (self.new.seen ≡ Some r)
             ⊎ ((self.new.seen ≡ self.old.seen) × IfSome self.old.seen (λ seen. (r ≡ record seen { wall = r.wall })

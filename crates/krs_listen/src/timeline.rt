@@ -35,8 +35,8 @@ impl Timeline {
         self.time.saturating_add(by_wall.max(by_steady))
     }
 
-    /// What comes after new readings, by which it is so late at least. The clocks are compared anew where they have come
-    /// apart, or where it is later than they say.
+    /// What comes after new readings, by which it is so late at least. The clocks are compared anew where they have
+    /// come apart, or where it is later than they say.
     pub fn after(self, wall: u64, steady: u64, least: u64) -> Timeline
         ensures { result ≡ after self wall steady least }
     {

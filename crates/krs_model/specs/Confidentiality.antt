@@ -122,8 +122,8 @@ IsWithin private s number c ring =
     (into : ℕ) → serial_of (made_for s number c ring).0 (made_for s number c ring).1 ring ≡ Ok into
     → (private into || nat_le s.next_serial into) ≡ true
 
--- an ask for this uid that makes keys and gives none away: HELLO, GET_ID and JOIN link none from a keyring that was there,
--- and ADD puts its key into a keyring that the uid has to itself, or that the ask makes
+-- an ask for this uid that makes keys and gives none away: HELLO, GET_ID and JOIN link none from a keyring that was
+-- there, and ADD puts its key into a keyring that the uid has to itself, or that the ask makes
 abbrev pub MakesForItself : ℕ → (ℕ → Bool) → State → ℕ → ℕ → Op → Type 0
 MakesForItself uid private s client context (Hello caller) = caller.uid ≡ uid
 MakesForItself uid private s client context (GetId id create) = (create ≡ true) × ActsAs uid s client context
@@ -158,12 +158,13 @@ ReadsAlone uid private start =
     → (reading : Event) (end : State) (serial : ℕ) → last serial ≡ true → Step old reading end
     → (reads : Reads old reading serial) → reads.names.whose.caller.uid ≡ uid
 
--- Nobody else changes such a key, or drops it: whatever was asked before, an ask in no context of the uid leaves each key
--- that the uid has to itself, and has not given away, as it was
+-- Nobody else changes such a key, or drops it: whatever was asked before, an ask in no context of the uid leaves each
+-- key that the uid has to itself, and has not given away, as it was
 abbrev pub LeavesAlone : ℕ → (ℕ → Bool) → State → Type 0
 LeavesAlone uid private start =
     (before : List Event) (old : State) (last : ℕ → Bool) → KeepsPrivate uid private start before old last
-    → (event : Event) (new : State) → Step old event new → (IsAskedBy uid old event → ⊥) → AreUnchanged last old event new
+    → (event : Event) (new : State) → Step old event new → (IsAskedBy uid old event → ⊥)
+    → AreUnchanged last old event new
 
 -- of the events from this state, none that this client asks is in a context of the uid
 abbrev pub IsStranger : ℕ → ℕ → State → List Event → Type 0
@@ -171,8 +172,8 @@ IsStranger uid client start events =
     (before later : List Event) (event : Event) (old : State) → events ≡ before ++ event ∷ later
     → IsLegal start before old → event.lane ≡ client → IsAskedBy uid old event → ⊥
 
--- Between users nothing flows: whatever other payloads the keys have that a uid has to itself at the end of these events,
--- a client that asks nothing in a context of the uid is told the same
+-- Between users nothing flows: whatever other payloads the keys have that a uid has to itself at the end of these
+-- events, a client that asks nothing in a context of the uid is told the same
 abbrev pub TellsNoStranger : ℕ → (ℕ → Bool) → State → Type 0
 TellsNoStranger uid private start =
     (events : List Event) (end : State) (last : ℕ → Bool) → KeepsPrivate uid private start events end last

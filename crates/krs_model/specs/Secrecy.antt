@@ -83,8 +83,8 @@ tells event = is_read event.ask.op && is_ok event.reply
 abbrev pub reads_to : ℕ → List Event → List (Result Answer Errno)
 reads_to client events = map (λ e. e.reply) (filter (λ e. (e.lane == client) && tells e) events)
 
--- A client learns what its READs answer, and nothing else. Whatever payloads are hidden, of keys that it reads too: where
--- its READs are answered the same in other events that differ in these alone, it is told the same by all its asks
+-- A client learns what its READs answer, and nothing else. Whatever payloads are hidden, of keys that it reads too:
+-- where its READs are answered the same in other events that differ in these alone, it is told the same by all its asks
 abbrev pub TellsByReadsAlone : State → List Event → Type 0
 TellsByReadsAlone start events =
     (hide : Hiding) (client : ℕ) (other : State) (others : List Event) → Hides hide
@@ -101,8 +101,8 @@ abbrev pub putting : (ℕ → Bool) → List ℕ → Hiding
 putting secret payload n bytes =
     if secret n && (nat_le 1 (length bytes) && nat_le (length bytes) 32767) then payload else bytes
 
--- Each legal history has others that are asked alike: whatever other payloads take the place of hidden ones, in the store
--- that it began with and in what it was asked
+-- Each legal history has others that are asked alike: whatever other payloads take the place of hidden ones, in the
+-- store that it began with and in what it was asked
 abbrev pub HasOthers : Type 0
 HasOthers =
     (hide change : Hiding) (start end : State) (events : List Event) → Changes hide change → IsLegal start events end

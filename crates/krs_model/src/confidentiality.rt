@@ -15,14 +15,16 @@ pub fn a_uid_begins_without_keys()
 /// Whoever asks whatever, the keys that a uid has to itself it has to itself after the ask, unless an ask in a context
 /// of the uid gave one away: by SETPERM, CHOWN, LINK or MOVE, or by SEARCH or REQUEST with a destination.
 pub fn only_its_user_gives_a_key_away()
-    ensures { (uid : ℕ) (private : ℕ → Bool) (old new : State) (event : Event) → IsSound old → HasToItself uid private old
+    ensures { (uid : ℕ) (private : ℕ → Bool) (old new : State) (event : Event) → IsSound old
+        → HasToItself uid private old
         → Step old event new → ¬ GivesAway uid private old event new → HasToItself uid private new }
 {}
 
 /// The keys that an ask for a uid makes it has to itself, with those that it had, unless one of them is not its own or
 /// is linked from elsewhere.
 pub fn new_keys_are_its_users_alone()
-    ensures { (uid : ℕ) (private : ℕ → Bool) (old new : State) (event : Event) → IsSound old → HasToItself uid private old
+    ensures { (uid : ℕ) (private : ℕ → Bool) (old new : State) (event : Event) → IsSound old
+        → HasToItself uid private old
         → Step old event new → may_make event.ask.op ≡ true
         → IsFor uid old event.lane event.ask.context event.ask.op
         → ¬ IsGivenAway uid (with_made private old new) new.keys → HasToItself uid (with_made private old new) new }
@@ -39,10 +41,11 @@ pub fn keys_made_within_are_not_given_away()
         → ¬ IsGivenAway uid private s.keys }
 {}
 
-/// On a key that a uid has to itself no context of another uid has any right, uid 0's included, nor possesses it: it may
-/// not view, read, write, find, link or own it.
+/// On a key that a uid has to itself no context of another uid has any right, uid 0's included, nor possesses it: it
+/// may not view, read, write, find, link or own it.
 pub fn others_have_no_right()
-    ensures { (uid : ℕ) (private : ℕ → Bool) (s : State) (number k : ℕ) (c : Context) (key : Key) → HasToItself uid private s
+    ensures { (uid : ℕ) (private : ℕ → Bool) (s : State) (number k : ℕ) (c : Context) (key : Key)
+        → HasToItself uid private s
         → at s.contexts number ≡ Some c → c.caller.uid ≢ uid → private k ≡ true → at s.keys k ≡ Some key
         → (possessed s c k ≡ false) × (rights_on key c.caller (possessed s c k) ≡ 0) }
 {}
@@ -66,8 +69,8 @@ pub fn no_user_reads_anothers_keys()
     ensures empty { (uid n : ℕ) → ReadsAlone uid (λ k. false) (starting_at n) }
 {}
 
-/// Between users nothing flows: a client that asks nothing in a context of a uid is told the same, whatever the payloads
-/// are of the keys that the uid has to itself.
+/// Between users nothing flows: a client that asks nothing in a context of a uid is told the same, whatever the
+/// payloads are of the keys that the uid has to itself.
 pub fn nothing_flows_between_users()
     ensures { (uid : ℕ) (private : ℕ → Bool) (start : State) → IsSound start → HasToItself uid private start
         → TellsNoStranger uid private start }

@@ -31,8 +31,8 @@ pub fn rights_come_from_one_byte()
         → IsOneByte mask uid gid caller (granted mask uid gid caller false) }
 {}
 
-/// What a look-up for a right finds is the key that the id names, which was not revoked, has not expired, and grants the
-/// right.
+/// What a look-up for a right finds is the key that the id names, which was not revoked, has not expired, and grants
+/// the right.
 pub fn look_ups_find_usable_keys()
     ensures named { (s : State) (c : Context) (id : ℤ) (want : Want) (found : ℕ × Key)
         → look_up s c id want ≡ Ok found → serial_of s c id ≡ Ok found.0 }

@@ -97,8 +97,8 @@ pub fn other_histories_are_asked_alike()
         → Changes (hiding secret) (putting secret payload) }
 {}
 
-/// Once a key is gone, its payload is told to nobody, whoever had read it: it is gone once it was revoked or invalidated,
-/// and stays so.
+/// Once a key is gone, its payload is told to nobody, whoever had read it: it is gone once it was revoked or
+/// invalidated, and stays so.
 pub fn payloads_of_gone_keys_are_told_to_nobody()
     ensures told { (start : State) (serial : ℕ) (events : List Event) → IsGone start serial
         → TellsNobody serial start events }

@@ -185,7 +185,8 @@ some_or (Some k) h = (k, refl)
 
 unlink_met : (s : State) (client context : ℕ) (key ring : ℤ) (c : Context) (from : ℕ × Key) (serial : ℕ)
     → LooksFor s client context key ring c from serial → unlink s client context key ring
-    ≡ (if_linked serial (links_of_key_at s.keys from.0) >>= (λ linked. Ok (changed s from.0 (without_link serial), Nothing)))
+    ≡ (if_linked serial (links_of_key_at s.keys from.0) >>=
+    (λ linked. Ok (changed s from.0 (without_link serial), Nothing)))
 unfolding unlink
 unlink_met s client context key ring c from serial l =
     rw (l.own, l.ring_found, l.named, (some_or (at s.keys serial) l.there).1, l.is_ring.links) refl

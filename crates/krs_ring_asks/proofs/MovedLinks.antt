@@ -191,12 +191,13 @@ pub looks_up_moved :
     → look_up s c (to_z w32 (of_z w32 key)) (Granted LINK) ≡ Ok found
     → look_up s c (to_z w32 (of_z w32 from)) (Granted WRITE) ≡ Ok source
     → LooksUpMoved s client number key from flags c found source
-looks_up_moved s client number key from flags c found source key_fits from_fits own known key_found ring_found = record {
-  own = own;
-  known = known;
-  key_found = ap (λ id. look_up s c id (Granted LINK)) (sym (to_z-of_z w32 key key_fits)) ∙ key_found;
-  ring_found = ap (λ id. look_up s c id (Granted WRITE)) (sym (to_z-of_z w32 from from_fits)) ∙ ring_found;
-}
+looks_up_moved s client number key from flags c found source key_fits from_fits own known key_found
+    ring_found = record {
+      own = own;
+      known = known;
+      key_found = ap (λ id. look_up s c id (Granted LINK)) (sym (to_z-of_z w32 key key_fits)) ∙ key_found;
+      ring_found = ap (λ id. look_up s c id (Granted WRITE)) (sym (to_z-of_z w32 from from_fits)) ∙ ring_found;
+    }
 
 -- ---- the link that goes out
 
@@ -326,7 +327,8 @@ moves_under :
     → IfSome (name_in s serial) (λ name. specs.Moves s r new from into name serial)
     → specs.Moves s r new from into (name_of key) serial
 moves_under s new r from into serial key there h =
-    subst (λ (o : Option Key). IfSome (option_map name_of o) (λ name. specs.Moves s r new from into name serial)) there h
+    subst (λ (o : Option Key). IfSome (option_map name_of o)
+    (λ name. specs.Moves s r new from into name serial)) there h
 
 pub move_done :
     (s new : State) (client number serial from : ℕ) (to : ℤ) (flags : ℕ) (c : Context) (key source : Key)

@@ -9,8 +9,8 @@ use Rattle.krs_commands.specs.Command.{command_of, row_of}
 abbrev pub most_quoted : ℕ
 most_quoted = 64
 
--- A word as it is quoted: the first of its bytes, each that isn't printable as Rust's `escape_default` writes it, so that
--- it does no harm to a terminal or a log; and dots where it goes on.
+-- A word as it is quoted: the first of its bytes, each that isn't printable as Rust's `escape_default` writes it, so
+-- that it does no harm to a terminal or a log; and dots where it goes on.
 abbrev pub quoted : List ℕ → List ℕ
 quoted word =
     if nat_lt most_quoted (length word)
@@ -36,8 +36,8 @@ cause_text TooLong line = codes "is the last that a script may have"
 cause_text Printing line = codes "standard output cannot be written"
 cause_text Connection line = codes "the connection failed"
 
--- how words are a command, told behind why they are none: where no command has the first one, where commands are listed;
--- of a single call that is a command of scripts, where it is one; else some text, as `how`
+-- how words are a command, told behind why they are none: where no command has the first one, where commands are
+-- listed; of a single call that is a command of scripts, where it is one; else some text, as `how`
 abbrev pub listed_text : List ℕ
 listed_text = codes "\nkeyretain: keyretain --help lists the commands"
 

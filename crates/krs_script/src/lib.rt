@@ -1,5 +1,5 @@
-//! A script, whatever carries its commands out: the loop over its lines, how what is printed waits for the next line, how
-//! keys and queues are listed, how a script ends, and what is told of one that stopped.
+//! A script, whatever carries its commands out: the loop over its lines, how what is printed waits for the next line,
+//! how keys and queues are listed, how a script ends, and what is told of one that stopped.
 #![tactic(auto)]
 
 mod carries;

@@ -362,7 +362,8 @@ module _ {R W : Type 0} (source : sources.Ghosts R) (sink : sinks.Ghosts W) (tur
   stands_each start log (s ∷ seats) [] each visited = absurd each
   stands_each start log (s ∷ seats) (t ∷ later) each visited =
       let one = each.0 in
-      All-cons (λ (s : Sitting). (events_of s.part.lane log ≡ s.part.mine) × ∥ IsVisited source sink turns s ∥₁) t later (
+      All-cons (λ (s : Sitting). (events_of s.part.lane log ≡ s.part.mine)
+      × ∥ IsVisited source sink turns s ∥₁) t later (
         subst (λ (k : ℕ). events_of k log ≡ t.part.mine) (sym one.more.lane) (one.calls ∙ sym one.more.mine),
         All-head (λ (s : Sitting). ∥ IsVisited source sink turns s ∥₁) t later visited,
       )

@@ -41,7 +41,8 @@ pair_taken xs rest ys others r s x y taken more all xs_is r_is ys_is s_is same m
 
 -- what holds of each pair holds of its second part
 pub each_second : {J X Y : Type 0} (P : J → X × Y → Type 0) (Q : J → Y → Type 0)
-    → ((j : J) (d : X × Y) → P j d → Q j d.1) → (jobs : List J) (done : List (X × Y)) → AllZip P jobs done → AllZip Q jobs (map (λ d. d.1) done)
+    → ((j : J) (d : X × Y) → P j d → Q j d.1) → (jobs : List J) (done : List (X × Y)) → AllZip P jobs done
+    → AllZip Q jobs (map (λ d. d.1) done)
 each_second P Q so [] [] h = tt
 each_second P Q so [] (d ∷ done) h = absurd h
 each_second P Q so (j ∷ jobs) [] h = absurd h

@@ -9,8 +9,8 @@ use Rattle.krs_serve.specs.Visits.{HasJustItsCalls, IsVisited}
 use Rattle.krs_session.specs.declared.source_and_sink.Sink as sinks
 use Rattle.krs_session.specs.declared.source_and_sink.Source as sources
 
--- There is one legal history from the empty store. Of each of these seats it has just the calls, in order, and those are
--- the calls of one connection after another, each from the bytes that it sent to those that it was told.
+-- There is one legal history from the empty store. Of each of these seats it has just the calls, in order, and those
+-- are the calls of one connection after another, each from the bytes that it sent to those that it was told.
 pub record ServeInOneHistory {R W : Type 0} (source : sources.Ghosts R) (sink : sinks.Ghosts W) (turns : ℕ)
     (seats : List Sitting) : Type 0 where
   pub log : List Event

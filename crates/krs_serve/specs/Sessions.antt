@@ -21,8 +21,9 @@ ends_count source sink reader writer =
     counts_of source.reads source.empties source.failures sink.failures reader writer
 
 -- From this reader, writer and clock and this seat a session of so many reads at most ended so, and left the last seat,
--- whatever it left of the others. Its events are what its frames ask, in order, and then LEAVE. Why it ended is what its
--- ends counted. What readers, clocks and writers show is told by their types, and what leads from seat to seat is given.
+-- whatever it left of the others. Its events are what its frames ask, in order, and then LEAVE. Why it ended is what
+-- its ends counted. What readers, clocks and writers show is told by their types, and what leads from seat to seat is
+-- given.
 pub record ServesEntry {R C W S : Type 0} (source : sources.Ghosts R) (timer : clocks.Ghosts C) (sink : sinks.Ghosts W)
     (leads : S → List Event → S → Type 0) (lane_of : S → ℕ) (turns : ℕ) (connection : Entry R W C) (seat last_seat : S)
     (ended : Ended) : Type 0 where

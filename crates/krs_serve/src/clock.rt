@@ -25,8 +25,8 @@ impl<'r, R: time::Clock> SystemClock<'r, R> {
 impl<'r, R: time::Clock> Clock for SystemClock<'r, R> {
     ghost use Rattle.krs_listen.specs.Clock.{IsKept, kept_both, kept_none};
 
-    // What is answered is kept, and no answer falls behind the one before it. No contract tells what the system's clocks
-    // read, nor that they are read.
+    // What is answered is kept, and no answer falls behind the one before it. No contract tells what the system's
+    // clocks read, nor that they are read.
     ghost ticked = { λ a moments b. IsKept (last_of a.clock) moments (last_of b.clock) };
 
     fn now(&mut self) -> u64 {

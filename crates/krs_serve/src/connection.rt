@@ -35,9 +35,9 @@ impl AtDesk for Brand {
     ghost desk = { any_desk };
 }
 
-/// A seat beside its desk, as it goes from one thread to another. The desk was opened with an empty store. The seat is as
-/// it was dealt, or as its last session left it: what was asked on it are the asks of connections with such ends, one
-/// after another.
+/// A seat beside its desk, as it goes from one thread to another. The desk was opened with an empty store. The seat is
+/// as it was dealt, or as its last session left it: what was asked on it are the asks of connections with such ends,
+/// one after another.
 #[derive(Drop)]
 pub struct Sitting<'d, N: AtDesk, R: Source, W: Sink> {
     desk: &'d Desk,
@@ -189,7 +189,8 @@ impl<'d, N: AtDesk, R: Source + Drop, W: Sink + Drop> Guest<'d, N, R, W> {
 /// A seat of the daemon, whose connections come over such streams.
 pub type StreamSitting<'d, N, S> = Sitting<'d, N, Over<S>, Over<S>>;
 
-/// The ends of a connection that was accepted, for this desk, with what was free for it. Only `guest_of` takes them out.
+/// The ends of a connection that was accepted, for this desk, with what was free for it. Only `guest_of` takes them
+/// out.
 #[derive(Drop)]
 pub struct Arrival<N, F, S> {
     free: F,
@@ -223,8 +224,9 @@ pub(crate) fn guest_of<'d, N: AtDesk, S: Read + Write + Drop>(
     Guest::new(free, Over::new(reader), Over::new(writer))
 }
 
-/// Serves a guest to its end by a keeper that makes calls as the desk does, and gives its ends as the session left them.
-/// It knows nothing of the runtime, and so can't wait: what waits for ever meets every contract, whatever it did before.
+/// Serves a guest to its end by a keeper that makes calls as the desk does, and gives its ends as the session left
+/// them. It knows nothing of the runtime, and so can't wait: what waits for ever meets every contract, whatever it did
+/// before.
 pub(crate) fn serve_by<
     'd,
     N: AtDesk,

@@ -11,8 +11,8 @@ use std::alloc::Global;
 use std::sync::Wait;
 
 /// Serves a connection to its end, which closes it: docs/FORMAT.md, "A connection". Its asks are those of the bytes
-/// that it sent, and what was written to it is the text of their replies. The seat has gained these calls, and one LEAVE.
-/// It keeps no turn. A connection makes 16777216 reads at most.
+/// that it sent, and what was written to it is the text of their replies. The seat has gained these calls, and one
+/// LEAVE. It keeps no turn. A connection makes 16777216 reads at most.
 pub fn serve_connection<'d, N: AtDesk, H: Wait, R: Source + Drop, W: Sink + Drop, C: Clock + Drop>(
     rt: &H,
     alloc: Global,

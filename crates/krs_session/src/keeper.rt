@@ -68,9 +68,9 @@ pub trait Keeper<S, R> {
     /// Whether the session of a seat lacks memory.
     fn is_short(&self) -> bool;
 
-    /// The session of a seat lacks so many bytes of its reserve, in place of those of which it told last. What is lacking
-    /// should be left: asks that would keep memory, whoever makes them, refused with ENOMEM where there is less. No law
-    /// says so.
+    /// The session of a seat lacks so many bytes of its reserve, in place of those of which it told last. What is
+    /// lacking should be left: asks that would keep memory, whoever makes them, refused with ENOMEM where there is
+    /// less. No law says so.
     fn tell_lack(&self, told: &mut u64, lack: u64)
         ensures { told.new ≡ lack };
 

@@ -72,8 +72,8 @@ impl Store {
     }
 
     /// From now on so many bytes are to be left for others: asks that would keep memory are refused with ENOMEM where
-    /// there are fewer, and nothing else refuses them. It is for whoever has read an ask with the last memory: the store
-    /// would keep what was read, and the next ask could not be read. No contract sees it.
+    /// there are fewer, and nothing else refuses them. It is for whoever has read an ask with the last memory: the
+    /// store would keep what was read, and the next ask could not be read. No contract sees it.
     pub fn mind_memory(&self, wanted: u64) {
         self.tables.memory.leave(wanted);
     }
@@ -155,8 +155,8 @@ impl Store {
     }
 
     /// A law of every store: whatever it is asked from now on, no user reads another's keys, unless it was given them.
-    /// Each accepted READ of a key that a uid has to itself, and has not given away since, is in a context of that uid; a
-    /// uid may begin with none of the keys. keyrings(7), "Possession" and "Access rights".
+    /// Each accepted READ of a key that a uid has to itself, and has not given away since, is in a context of that uid;
+    /// a uid may begin with none of the keys. keyrings(7), "Possession" and "Access rights".
     pub fn no_user_reads_anothers_keys(&self)
         ensures reads { (uid : ℕ) (private : ℕ → Bool) → HasToItself uid private self.now
             → ReadsAlone uid private self.now }
@@ -168,8 +168,8 @@ impl Store {
         let _tables = &self.tables;
     }
 
-    /// A law of every store: whatever it is asked from now on, an ask in no context of a uid changes no key that the uid
-    /// has to itself, and has not given away since, nor drops one; only an invalidated key goes out of its links.
+    /// A law of every store: whatever it is asked from now on, an ask in no context of a uid changes no key that the
+    /// uid has to itself, and has not given away since, nor drops one; only an invalidated key goes out of its links.
     pub fn others_neither_change_nor_drop_a_key(&self)
         ensures { (uid : ℕ) (private : ℕ → Bool) → HasToItself uid private self.now
             → LeavesAlone uid private self.now }

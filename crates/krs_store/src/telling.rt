@@ -208,8 +208,8 @@ fn about_link(
     }
 }
 
-/// A key goes out of a keyring and into another; nothing happens where both are one. A keyring that is made for it has no
-/// watch yet.
+/// A key goes out of a keyring and into another; nothing happens where both are one. A keyring that is made for it has
+/// no watch yet.
 fn about_moved(tables: &Tables, client: u32, number: u32, key: i32, from: i32, to: i32) -> Tellings
     ensures { Says result (λ answer. about_moved (named tables.now client number from)
         (named tables.now client number to) (named tables.now client number key)) }

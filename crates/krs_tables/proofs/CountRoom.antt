@@ -6,4 +6,5 @@ use Rattle.krs_tables.specs.{Holding.holders_in, View.{IsConsistent, state_of}, 
 pub room_told : (s : Inside) (k : ℕ) → IsConsistent s → holders_in (state_of s) k < 2 ^ 64 - 1
     → number_at s.holders k < 2 ^ 64 - 1
 room_told s k sound few =
-    let exact : number_at s.holders k ≡ 0 + holders_in (state_of s) k = sound.tallied.exact k in omega (arith, exact, few)
+    let exact : number_at s.holders k ≡ 0 + holders_in (state_of s) k = sound.tallied.exact k in
+    omega (arith, exact, few)

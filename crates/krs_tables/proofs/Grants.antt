@@ -9,7 +9,8 @@ use Rattle.krs_types.specs.declared.rights.{Rights.Rights, Want.{Want, TheVarian
 use Rattle.krs_model.specs.{Access.rights_on, State.Key}
 
 -- more bits have all that the fewer have
-more_bits : (own class wanted : ℕ) → bit_and (bit_or 0 class) wanted ≡ wanted → bit_and (bit_or own class) wanted ≡ wanted
+more_bits : (own class wanted : ℕ) → bit_and (bit_or 0 class) wanted ≡ wanted
+    → bit_and (bit_or own class) wanted ≡ wanted
 more_bits own class wanted has = same_from_bits (bit_and (bit_or own class) wanted) wanted (λ i.
     let none : bit_at 0 i ≡ 0 = bit_at-zero i in
     let had : min (max (bit_at 0 i) (bit_at class i)) (bit_at wanted i) ≡ bit_at wanted i =

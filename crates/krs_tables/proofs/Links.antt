@@ -36,7 +36,8 @@ is_shown None = refl
 is_shown (Some key) = sym (serials-content key.content)
 
 -- what is linked, by name and by serial
-pub links_shown : (es : Table Key) (ring : ℕ) → links_of_key_at (shown es) ring ≡ serials (named_links_of_key_at es ring)
+pub links_shown : (es : Table Key) (ring : ℕ) → links_of_key_at (shown es) ring
+    ≡ serials (named_links_of_key_at es ring)
 links_shown es ring = ap links_of_key (at_map seen es ring) ∙ is_shown (at es ring)
 
 has_link-serials : (serial : ℕ) (links : LinkList) → has_link serial links ≡ is_in serial (serials links)
@@ -45,7 +46,8 @@ has_link-serials serial (link ∷ links) = ap (λ b. (link.1 == serial) || b) (h
 
 -- whether a keyring links a key, as the definitions see it
 pub linked_told :
-    (es : Table Key) (ring serial : ℕ) → has_link serial (named_links_of_key_at es ring) ≡ is_in serial (links_of_key_at (shown es) ring)
+    (es : Table Key) (ring serial : ℕ) → has_link serial (named_links_of_key_at es ring)
+    ≡ is_in serial (links_of_key_at (shown es) ring)
 linked_told es ring serial =
     has_link-serials serial (named_links_of_key_at es ring) ∙ ap (is_in serial) (sym (links_shown es ring))
 

@@ -259,7 +259,8 @@ pub alone_accepted :
     → s.next_serial ≤ 2147483647 → IsOk (ring_made special s client number)
 alone_accepted special s client number c own few =
     let maker = maker_of number c in
-    accepted _ _ (alone_done special s (ring_at special maker [] s) client number s.next_serial c maker own refl few refl
+    accepted _ _ (alone_done special s (ring_at special maker [] s) client number s.next_serial c
+    maker own refl few refl
     refl)
 
 -- the made keyring of the definitions, with a link

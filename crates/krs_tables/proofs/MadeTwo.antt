@@ -109,7 +109,8 @@ two_told special s maker name payload ring key new anchors numbers sound unused 
     let mid_sound = ring_sound s special maker [] None _ _ _ sound unused place refl refl refl refl in
     let below : IsBelow one m = below_put es one n bare refl unused in
     let there : at one n ≡ Some bare = at_put_same es n bare in
-    let keyring : IsKeyringAt (state_of mid) n = (seen bare, at_map seen one n ∙ ap (option_map seen) there, [], refl) in
+    let keyring : IsKeyringAt (state_of mid) n =
+    (seen bare, at_map seen one n ∙ ap (option_map seen) there, [], refl) in
     let keys : new ≡ record { keys = alter (put one m fresh) n (with_entry name m); next = m + 1 } =
     e ∙ (ap (λ (k : Key). with_key (with_key s.keys k) key) er
     ∙ (ap (λ (k : Key). with_key (with_key s.keys (with_entry name m bare)) k) ek

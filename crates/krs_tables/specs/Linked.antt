@@ -27,4 +27,5 @@ Puts old (Err e) new ring name serial = Fails e (room_in old.keys ring name) × 
 abbrev pub Takes : State → Result (Unit {0}) Errno → State → ℕ → ℕ → Type 0
 Takes old (Ok done) new ring serial =
     (is_in serial (links_of_key_at old.keys ring) ≡ true) × (new ≡ changed old ring (without_link serial))
-Takes old (Err e) new ring serial = (is_in serial (links_of_key_at old.keys ring) ≡ false) × ((e ≡ ENOENT) × (new ≡ old))
+Takes old (Err e) new ring serial = (is_in serial (links_of_key_at old.keys ring) ≡ false)
+    × ((e ≡ ENOENT) × (new ≡ old))

@@ -16,8 +16,8 @@ use krs_watch::{Memory, WatchQueues};
 use std::alloc::{AllocError, Global};
 use std::marker::Model;
 
-/// All that a store has. An ask is a function over it, or over its parts. The walker keeps its room from one walk to the
-/// next; it is no part of what contracts see.
+/// All that a store has. An ask is a function over it, or over its parts. The walker keeps its room from one walk to
+/// the next; it is no part of what contracts see.
 #[derive(Drop)]
 pub struct Tables {
     pub keys: KeyTable,
@@ -64,8 +64,8 @@ impl Tables {
         }
     }
 
-    /// Asked before an ask keeps memory, once nothing else refuses it: whether as much is left as is lacking elsewhere. No
-    /// clause can say how much that is.
+    /// Asked before an ask keeps memory, once nothing else refuses it: whether as much is left as is lacking elsewhere.
+    /// No clause can say how much that is.
     pub fn check_memory(&self) -> Result<(), AllocError> {
         self.memory.check()
     }
@@ -102,8 +102,8 @@ impl Tables {
         self.walker.possesses_hinted(&sought) || self.possesses_unhinted(&sought)
     }
 
-    /// The same of a key that no hint finds: where that takes a look at many keyrings, it may be known first that it is out
-    /// of their reach.
+    /// The same of a key that no hint finds: where that takes a look at many keyrings, it may be known first that it is
+    /// out of their reach.
     #[inline(never)]
     fn possesses_unhinted(&self, sought: &Sought<'_>) -> bool
         requires fit { AreFit sought.now.keys.now.keys }

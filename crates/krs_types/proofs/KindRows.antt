@@ -2,7 +2,8 @@
 use Rattle.std.proofs.Common.{◌∙◌, ◌≡◌, ◌≤◌, ap, arith, eqb-true, find, length, nat_eq, Ok, refl, Some, sym, true}
 use Rattle.std.proofs.lemmas.Option.{same_Some}
 use Rattle.krs_types.specs.Kind.{kind_name, kind_named, kind_number, kinds, row_of, same_kind}
-use Rattle.krs_types.specs.{Perm.{group_byte, other_byte}, declared.kind.Kind.{Kind, TheVariants.{Keyring, Logon, User}}}
+use Rattle.krs_types.specs.Perm.{group_byte, other_byte}
+use Rattle.krs_types.specs.declared.kind.Kind.{Kind, TheVariants.{Keyring, Logon, User}}
 
 -- it is found by its number and by its name, which is short; the mask of a new key grants its group and others nothing
 pub record HasRow (kind : Kind) : Type 0 where

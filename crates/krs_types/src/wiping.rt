@@ -19,8 +19,8 @@ pub fn wipe(bytes: Vec<u8>) {
 }
 
 /// Moves bytes to a block of their own with room for so many, and wipes the one in which they lay. Where there is no
-/// memory for it, or the room is less than the bytes, they stay. A vector that grows by itself leaves its old block as it
-/// was.
+/// memory for it, or the room is less than the bytes, they stay. A vector that grows by itself leaves its old block as
+/// it was.
 pub fn move_wiped(alloc: Global, bytes: &mut Vec<u8>, room: usize)
     ensures { bytes.new.items ≡ bytes.old.items }
 {

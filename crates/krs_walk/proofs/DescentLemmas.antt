@@ -28,7 +28,8 @@ unfolding to_depth
 depth_more by name head n =
     let above = levels (entered_rings by) (head ∷ []) n in
     let last = level (entered_rings by) (head ∷ []) n in
-    ap (λ (zs : List ℕ). sought by name (head ∷ flat_map (entered by) zs)) (levels_more (entered_rings by) (head ∷ []) n)
+    ap (λ (zs : List ℕ). sought by name (head ∷ flat_map (entered by) zs))
+    (levels_more (entered_rings by) (head ∷ []) n)
     ∙ (ap (λ (zs : List ℕ). sought by name (head ∷ zs)) (flat_map-append (entered by) above last)
     ∙ sought_append by name (head ∷ flat_map (entered by) above) (flat_map (entered by) last))
 

@@ -218,7 +218,8 @@ pub followed_links : (keys : Table Key) (clock : ℕ) (caller : Caller) (ring se
     → IfNone place (serial_named (named_links_of_content key.content) name ≢ Some serial)
     → is_some place ≡ is_in serial (followed_at (shown keys) clock caller ring)
 followed_links keys clock caller ring serial key name place fit there is named found none =
-    placed_linked (name_at keys) (named_links_of_content key.content) name serial place (fit ring key there) named found none
+    placed_linked (name_at keys) (named_links_of_content key.content) name serial place
+    (fit ring key there) named found none
     ∙ ap (is_in serial) (sym (followed_there keys clock caller ring key true there is))
 
 pub unfollowed : (keys : Table Key) (clock : ℕ) (caller : Caller) (serial : ℕ) (key : Key) → at keys serial ≡ Some key

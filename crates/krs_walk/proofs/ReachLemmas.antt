@@ -60,7 +60,8 @@ reaches_nested keys _ _ only ring (Further a j b p h) =
     Further a j b (reaches_nested keys a j only (only j b h) p)
     (in_filter (λ q. is_ring (at keys q)) (links_of_key_at keys j) b h ring)
 
-pub closes_links : (keys : Table Key) (a b : ℕ) → ClosesCycle (nested_in keys) a b → ClosesCycle (links_of_key_at keys) a b
+pub closes_links : (keys : Table Key) (a b : ℕ) → ClosesCycle (nested_in keys) a b
+    → ClosesCycle (links_of_key_at keys) a b
 closes_links keys a b (inl e) = inl e
 closes_links keys a b (inr p) = inr (reaches_fewer (nested_in keys) (links_of_key_at keys) a b (nested_fewer keys) p)
 

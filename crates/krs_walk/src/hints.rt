@@ -1,4 +1,5 @@
-//! Which keyrings a key hangs below, by the hints of those that link it. A hint is followed only where the keys bear it out.
+//! Which keyrings a key hangs below, by the hints of those that link it. A hint is followed only where the keys bear it
+//! out.
 ghost use Rattle.std.specs.Prelude.{◌+◌, ◌≡◌, IfSome, option_to_list, true};
 ghost use Rattle.krs_model.specs.Levels.{is_in};
 ghost use Rattle.krs_links.specs.Links.{serials};
@@ -31,8 +32,8 @@ impl Sought<'_> {
         }
     }
 
-    /// Whether a hint of it leads to a link of it in a keyring of the levels below, and further hints from there up to an
-    /// attached keyring.
+    /// Whether a hint of it leads to a link of it in a keyring of the levels below, and further hints from there up to
+    /// an attached keyring.
     pub(crate) fn is_hinted_far(&self) -> bool
         requires fit { AreFit self.now.keys.now.keys }
         ensures { result ≡ true → is_linked_anywhere self.now ≡ true }
@@ -56,7 +57,8 @@ impl Sought<'_> {
         }
     }
 
-    /// Whether hints lead up from a keyring, over so many others at most, to one that is attached or nested in such a one.
+    /// Whether hints lead up from a keyring, over so many others at most, to one that is attached or nested in such a
+    /// one.
     fn climbs(&self, ring: Serial, others: u8) -> bool
         requires fit { AreFit self.now.keys.now.keys }
         ensures { result ≡ true → Hangs self.now ring (others + 1) (heads self.now) }
@@ -122,8 +124,8 @@ impl Sought<'_> {
         )
     }
 
-    /// Whether a keyring links it, mostly at this place, and its possessor follows that. The place is taken down where it
-    /// is another.
+    /// Whether a keyring links it, mostly at this place, and its possessor follows that. The place is taken down where
+    /// it is another.
     #[inline(always)]
     fn links_at(&self, ring: Serial, place: usize) -> bool
         requires fit { AreFit self.now.keys.now.keys }

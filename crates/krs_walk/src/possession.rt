@@ -14,8 +14,8 @@ use krs_keys::{Content, Key, KeyTable};
 use krs_links::HashedName;
 use krs_types::{Caller, Context, Rights, SEARCH_DEPTH, Serial};
 
-/// So many levels of keyrings are asked first, by `is_linked_near`: a key is mostly linked by an attached keyring, or by
-/// one that it links, as the session keyring links the user keyring.
+/// So many levels of keyrings are asked first, by `is_linked_near`: a key is mostly linked by an attached keyring, or
+/// by one that it links, as the session keyring links the user keyring.
 pub(crate) const NEAR_LEVELS: u8 = 2;
 
 /// A key that is looked for: among which keys, by which context, its process's keyring, when, and its name and serial.
@@ -99,8 +99,8 @@ impl Sought<'_> {
         is_attached(self.context, &self.process_ring, self.serial)
     }
 
-    /// Whether a followed keyring of the first `SEARCH_DEPTH` levels links it. Hints are followed first: they mostly lead
-    /// to the link at once, however many keyrings there are.
+    /// Whether a followed keyring of the first `SEARCH_DEPTH` levels links it. Hints are followed first: they mostly
+    /// lead to the link at once, however many keyrings there are.
     fn is_linked(&self, walker: &Walker) -> bool
         requires fit { AreFit self.now.keys.now.keys }
         requires name { name_at self.now.keys.now.keys self.now.serial ≡ Some self.now.name.now }
@@ -223,8 +223,8 @@ impl Sought<'_> {
         Ok(false)
     }
 
-    /// Whether a followed keyring of the two nearest levels links it: an attached one, or one that it links. It keeps no
-    /// list of what was seen, and takes no memory.
+    /// Whether a followed keyring of the two nearest levels links it: an attached one, or one that it links. It keeps
+    /// no list of what was seen, and takes no memory.
     fn is_linked_near(&self) -> bool
         requires fit { AreFit self.now.keys.now.keys }
         requires name { name_at self.now.keys.now.keys self.now.serial ≡ Some self.now.name.now }

@@ -124,8 +124,8 @@ impl Search<'_> {
         }
     }
 
-    /// What it comes to where the head has this fault. Mostly the head links the key: so it is asked before lists are taken
-    /// out for a walk.
+    /// What it comes to where the head has this fault. Mostly the head links the key: so it is asked before lists are
+    /// taken out for a walk.
     fn find_under(&self, head: Serial, fault: Errno) -> Result<Serial, Errno>
         requires fit { AreFit self.now.keys.now.keys }
         requires only { OnlyRingsLink (shown self.now.keys.now.keys) }

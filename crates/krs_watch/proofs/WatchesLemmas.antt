@@ -53,7 +53,8 @@ itself a b =
 -- the watches are these, but for the place of a key and a queue
 abbrev pub Sets : ℕ → ℕ → Option ℕ → List Watch → List Watch → Type 0
 Sets k n o old new =
-    (q : ℕ × ℕ) → lookup (is_at (place_cmp q)) new ≡ cond (is_at (place_cmp (k, n)) q) o (lookup (is_at (place_cmp q)) old)
+    (q : ℕ × ℕ) → lookup (is_at (place_cmp q)) new
+    ≡ cond (is_at (place_cmp (k, n)) q) o (lookup (is_at (place_cmp q)) old)
 
 -- the listed places are these, but for that of a queue and a key
 abbrev pub Lists : ℕ → ℕ → Bool → List (ℕ × ℕ) → List (ℕ × ℕ) → Type 0
@@ -123,7 +124,8 @@ ends_one (w ∷ ws) key n =
     let left = filter (λ v. not (v.0.1 == n)) ws in
     elim (is_at (place_cmp (key, n)) w.0) as
     (λ b. is_at (place_cmp (key, n)) w.0 ≡ b
-    → filter (λ v. not (v.0.1 == n)) (cond b ws (w ∷ without_watch ws key n)) ≡ cond (not (w.0.1 == n)) (w ∷ left) left) [
+    → filter (λ v. not (v.0.1 == n)) (cond b ws (w ∷ without_watch ws key n))
+    ≡ cond (not (w.0.1 == n)) (w ∷ left) left) [
       | true ↦ λ t.
           let same : n ≡ w.0.1 = second_same key n w.0 t in
           let out : (w.0.1 == n) ≡ true = grind (arith, nat_tests) in

@@ -6,8 +6,8 @@ use std::cell::Cell;
 /// Where so many bytes are lacking, or more, nothing is kept, whatever memory there is: no machine has as many to give.
 pub const KEEP_NOTHING: u64 = 1 << 40;
 
-/// How many bytes are to be left for others. No contract sees how much memory there is, nor how much of it is lacking: that
-/// lies in a cell.
+/// How many bytes are to be left for others. No contract sees how much memory there is, nor how much of it is lacking:
+/// that lies in a cell.
 #[derive(Drop)]
 pub struct Memory {
     lacking: Cell<u64>,
@@ -44,14 +44,14 @@ impl Memory {
         }
     }
 
-    /// From now on so many bytes are to be left for others: what would keep memory is refused where there are fewer, and
-    /// from `KEEP_NOTHING` on whatever there is.
+    /// From now on so many bytes are to be left for others: what would keep memory is refused where there are fewer,
+    /// and from `KEEP_NOTHING` on whatever there is.
     pub fn leave(&self, bytes: u64) {
         self.lacking.set(bytes);
     }
 
-    /// Asked before memory is kept, once nothing else refuses it: whether as much is left as is lacking elsewhere. No clause
-    /// can say how much that is.
+    /// Asked before memory is kept, once nothing else refuses it: whether as much is left as is lacking elsewhere. No
+    /// clause can say how much that is.
     pub fn check(&self) -> Result<(), AllocError> {
         are_left(self.alloc, self.lacking.get())
     }

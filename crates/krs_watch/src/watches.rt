@@ -12,8 +12,8 @@ use std::alloc::{AllocError, Global};
 use std::collections::{BTreeMap, BTreeSet};
 use std::marker::Model;
 
-/// The watches by key, then queue; and where they are once more, by queue, then key. So what is asked of one queue looks
-/// at no other's watches.
+/// The watches by key, then queue; and where they are once more, by queue, then key. So what is asked of one queue
+/// looks at no other's watches.
 #[derive(Drop)]
 pub(crate) struct Watches {
     by_key: BTreeMap<Place, u8>,

@@ -20,7 +20,8 @@ macro_rules! readings {
         }
     };
     (@row $alloc:expr, $body:expr, $ask:ident {$($field:ident: $form:ident),*}) => {
-        row_at::<readings!(@forms $($form),*), _>($alloc, $body, |readings!(@names $($field),*)| Op::$ask { $($field),* })
+        row_at::<readings!(@forms $($form),*), _>($alloc, $body, |readings!(@names $($field),*)|
+            Op::$ask { $($field),* })
     };
     (@row $alloc:expr, $body:expr, $ask:ident ($field:ident: $form:ident)) => {
         row_at::<readings!(@forms $form), _>($alloc, $body, |readings!(@names $field)| Op::$ask($field))

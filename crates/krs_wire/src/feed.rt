@@ -16,8 +16,8 @@ use std::{mem, thread};
 /// much as is read at once.
 const ROOM: usize = 69_635;
 
-/// So often a piece is tried to be taken, and after so many tries one more quarter of the reserve is let go: an ask that
-/// is served just now may have found memory before the warning, and takes it.
+/// So often a piece is tried to be taken, and after so many tries one more quarter of the reserve is let go: an ask
+/// that is served just now may have found memory before the warning, and takes it.
 const TRIES: u32 = 1024;
 
 const TRIES_A_QUARTER: u32 = 64;
@@ -26,8 +26,8 @@ const TRIES_A_QUARTER: u32 = 64;
 const MOST_KEPT: usize = 128;
 
 /// The reading end of a connection: pieces of a stream in, whole frames out. A contract sees how the stream ends so
-/// far: in the beginning of a frame, or in a fault. It has a reserve of memory, which no contract sees. The beginning of a
-/// frame is wiped where it is let go.
+/// far: in the beginning of a frame, or in a fault. It has a reserve of memory, which no contract sees. The beginning
+/// of a frame is wiped where it is let go.
 pub struct Feed {
     alloc: Global,
     left: Vec<u8>,
@@ -105,8 +105,8 @@ fn cut_stream(alloc: Global, bytes: &[u8], frames: &mut Vec<Framed>) -> Result<C
     }
 }
 
-/// Drops the front of bytes that end with this piece. What is left then mostly is an end of the piece, and is taken from
-/// there.
+/// Drops the front of bytes that end with this piece. What is left then mostly is an end of the piece, and is taken
+/// from there.
 fn drop_front(bytes: &mut Vec<u8>, count: usize, piece: &[u8])
     requires within { count ≤ vec_len bytes.old }
     requires ends { (front : List ℕ) × (bytes.old.items ≡ front ++ piece.now) }
@@ -185,9 +185,9 @@ fn take_once(
     }
 }
 
-/// Takes a piece. Where there is no memory, the reserve is let go, a quarter at a time and with a warning before, and it is
-/// tried again for a while: another thread may have been faster to take what was let go, and will mostly give it back
-/// soon. It ends for want of memory only where nothing of the reserve is left.
+/// Takes a piece. Where there is no memory, the reserve is let go, a quarter at a time and with a warning before, and
+/// it is tried again for a while: another thread may have been faster to take what was let go, and will mostly give it
+/// back soon. It ends for want of memory only where nothing of the reserve is left.
 fn take_in<A: Warned>(
     alloc: Global,
     left: &mut Vec<u8>,
@@ -247,8 +247,8 @@ impl Feed {
         }
     }
 
-    /// How many bytes are lacking of the reserve, which has `RESERVE` where it is whole. What is lacking should be left by
-    /// whoever answers what was fed, so that it can be taken back.
+    /// How many bytes are lacking of the reserve, which has `RESERVE` where it is whole. What is lacking should be left
+    /// by whoever answers what was fed, so that it can be taken back.
     pub fn lacking(&self) -> usize
         ensures { result ≤ 2097152 }
     {
@@ -316,7 +316,8 @@ impl Feed {
         }
     }
 
-    /// Takes a list that `feed` answered back, whose room then serves the next piece. What still stands there is dropped.
+    /// Takes a list that `feed` answered back, whose room then serves the next piece. What still stands there is
+    /// dropped.
     pub fn reuse(&mut self, frames: Vec<Framed>)
         ensures { self.new ≡ self.old }
     {

@@ -139,8 +139,8 @@ impl<A: Form, B: Form> Form for (A, B) {
     }
 }
 
-/// The ask that is made of the fields of a body, where nothing follows them. Each row has a function of its own by this,
-/// which clears room for its own fields alone.
+/// The ask that is made of the fields of a body, where nothing follows them. Each row has a function of its own by
+/// this, which clears room for its own fields alone.
 pub(crate) fn row_at<F: Form, M: FnOnce(F::Value) -> Op>(
     alloc: Global,
     body: &[u8],

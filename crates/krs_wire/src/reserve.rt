@@ -8,8 +8,8 @@ use std::marker::Model;
 /// wanting, the C library may give each of these texts a page of its own, 4096 bytes.
 pub const RESERVE: usize = 2_097_152;
 
-/// The bytes of its quarters, of its parts where there is no room for a quarter in one, and of those that it takes where
-/// there is none for such: a whole number of them is a quarter.
+/// The bytes of its quarters, of its parts where there is no room for a quarter in one, and of those that it takes
+/// where there is none for such: a whole number of them is a quarter.
 const QUARTER: usize = 524_288;
 
 const LARGE: usize = 65_536;
@@ -53,8 +53,8 @@ fn drop_parts(parts: &mut Vec<Vec<u8>>, bytes: usize) -> usize
     gone
 }
 
-/// Takes parts of a size, of so many bytes together at most, as far as there is memory for them and room in the list. The
-/// answer is how many bytes they take.
+/// Takes parts of a size, of so many bytes together at most, as far as there is memory for them and room in the list.
+/// The answer is how many bytes they take.
 fn take_parts(alloc: Global, parts: &mut Vec<Vec<u8>>, size: usize, bytes: usize) -> usize
     requires size { 0 < size }
     requires bytes { bytes ≤ 2097152 }

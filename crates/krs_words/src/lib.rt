@@ -1,6 +1,6 @@
 //! The text of a script: its lines and their words, the numbers, keys and data that words spell, and the lines that are
-//! printed for replies. A contract sees a line and a word as lists of bytes, and a reader and a writer by the bytes that
-//! they tell.
+//! printed for replies. A contract sees a line and a word as lists of bytes, and a reader and a writer by the bytes
+//! that they tell.
 #![tactic(auto)]
 
 mod line;

@@ -99,7 +99,8 @@ front_had q front log c begun u f =
     subst (Begins (events_of q.lane front)) (mine_is q log c u f) (events_prefix q.lane front log begun)
 
 pub collected_between : KeepsCollectedBetween
-collected_between a t t' home home' cell cell' views views' front j j' q q' e more o later was is at unanswered there lane
+collected_between a t t' home home' cell cell' views views' front j j' q q' e more o later was is at
+    unanswered there lane
     mine =
     let k = o.each j (one a q) at in
     let k' = later.each j' (one a q') there in
@@ -120,13 +121,15 @@ collected_between a t t' home home' cell cell' views views' front j j' q q' e mo
     )
 
 pub real_time_between : KeepsRealTimeBetween
-real_time_between a t t' home home' cell cell' views views' front j j' q q' e more o later was is at idle there lane mine =
+real_time_between a t t' home home' cell cell' views views' front j j' q q' e more o later was is at
+    idle there lane mine =
     let k = o.each j (one a q) at in
     collected_between a t t' home home' cell cell' views views' front j j' q q' e more o later was is at
     (subst IsUnanswered (sym (empty_if_idle q o.log (cell q.lane) idle k.fits)) tt) there lane mine
 
 pub posted_between : KeepsPostedBetween
-posted_between a t t' home home' cell cell' views views' front j j' q q' m ask reply o later was is at unanswered there lane
+posted_between a t t' home home' cell cell' views views' front j j' q q' m ask reply o later was is at
+    unanswered there lane
     mine answered =
     let k = o.each j (one a q) at in
     let k' = later.each j' (one a q') there in

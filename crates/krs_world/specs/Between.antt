@@ -33,8 +33,8 @@ KeepsRealTimeBetween = (opening : State) (turn turn' : ℕ) (home home' : Option
     → StandsNext q.lane front q.mine e later.log × StandsNext q.lane front q.mine e q'.seen
 
 -- The same of a call that is posted: it stands behind all that any seat had seen at a moment where it wasn't answered
--- yet, from that moment on where it is answered, though its reply isn't collected. So it stands behind all that any seat
--- had seen as it was posted, what its own had seen among it.
+-- yet, from that moment on where it is answered, though its reply isn't collected. So it stands behind all that any
+-- seat had seen as it was posted, what its own had seen among it.
 abbrev pub KeepsPostedBetween : Type 0
 KeepsPostedBetween = (opening : State) (turn turn' : ℕ) (home home' : Option State) (cell cell' : ℕ → Cell)
     (views views' : List View) (front : List Event) (j j' : ℕ) (q q' : Part) (moment : ℕ) (ask : Ask)

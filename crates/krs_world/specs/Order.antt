@@ -31,7 +31,8 @@ SeesOneOrder = (opening : State) (lanes : ℕ) (before after : List WorldStep) (
 -- that its seat had seen as the call was made, events of other lanes among it.
 abbrev pub KeepsSessionOrder : Type 0
 KeepsSessionOrder = (opening : State) (lanes : ℕ) (before after : List WorldStep) (mid next end : World) (lane : ℕ)
-    (p : Part) (call : ℕ × Ask) (log : List Event) → Runs (begun opening lanes) before mid → get_elem? mid.seats lane ≡ some p
+    (p : Part) (call : ℕ × Ask) (log : List Event) → Runs (begun opening lanes) before mid
+    → get_elem? mid.seats lane ≡ some p
     → StepsAs mid lane p (Put (Some call)) next → Runs next after end → IsHistory end log
     → (reply : Result Answer Errno) × (q : Part) × (get_elem? next.seats lane ≡ some q)
     × (q.mine ≡ p.mine ++ event_of lane call.0 call.1 reply ∷ [])
@@ -40,7 +41,8 @@ KeepsSessionOrder = (opening : State) (lanes : ℕ) (before after : List WorldSt
 -- The same of an own call whose seat keeps the turn.
 abbrev pub KeepsServedOrder : Type 0
 KeepsServedOrder = (opening : State) (lanes : ℕ) (before after : List WorldStep) (mid next end : World) (lane : ℕ)
-    (p : Part) (call : ℕ × Ask) (log : List Event) → Runs (begun opening lanes) before mid → get_elem? mid.seats lane ≡ some p
+    (p : Part) (call : ℕ × Ask) (log : List Event) → Runs (begun opening lanes) before mid
+    → get_elem? mid.seats lane ≡ some p
     → StepsAs mid lane p (Serve call.0 call.1) next → Runs next after end → IsHistory end log
     → (reply : Result Answer Errno) × (q : Part) × (get_elem? next.seats lane ≡ some q)
     × (q.mine ≡ p.mine ++ event_of lane call.0 call.1 reply ∷ [])

@@ -1,6 +1,6 @@
-//! Growths that are refused, in the rows of the scripts. For a run in which one is: the ask that it hits answers ENOMEM,
-//! where it takes memory and is accepted, and changes nothing; made again at the same moment it gives the row's answer.
-//! Any other ask gives the row's answer at once, and the rest of the row goes on as written.
+//! Growths that are refused, in the rows of the scripts. For a run in which one is: the ask that it hits answers
+//! ENOMEM, where it takes memory and is accepted, and changes nothing; made again at the same moment it gives the row's
+//! answer. Any other ask gives the row's answer at once, and the rest of the row goes on as written.
 use super::script::{changes, contexts, holders, keyrings, moves, notes};
 use krs_commands::{Command, parse};
 use krs_script::records;

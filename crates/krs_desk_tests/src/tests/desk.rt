@@ -1,5 +1,5 @@
-//! Seats of one desk: in turn on one thread, and side by side on two. Where an allocation of `open` is refused, the store
-//! that came back opens the next desk, so that each of these also shows that it came back whole.
+//! Seats of one desk: in turn on one thread, and side by side on two. Where an allocation of `open` is refused, the
+//! store that came back opens the next desk, so that each of these also shows that it came back whole.
 ghost use Rattle.krs_desk.specs.Sitting.{IsIdleAt};
 
 use crate::two_seats;
@@ -130,8 +130,8 @@ fn used_store(alloc: Global) -> Result<Store, AllocError> {
     Ok(store)
 }
 
-// The seats of a desk go on with what its store has. Where an allocation of `open` was refused it is the store that came
-// back.
+// The seats of a desk go on with what its store has. Where an allocation of `open` was refused it is the store that
+// came back.
 #[test]
 fn a_desk_goes_on_with_its_store(rt: HostRuntime) -> Result<(), Fail> {
     let alloc = rt.alloc();

@@ -150,7 +150,8 @@ first_link links _ _ (Further a j b p h) = first_link links a j p
 
 -- a new key, and its link
 made_stands :
-    (s : State) (ring : ℕ) (name : Name) (key : Key) → IsKeyringAt s ring → name_of key ≡ name → links_of_content key.content ≡ []
+    (s : State) (ring : ℕ) (name : Name) (key : Key) → IsKeyringAt s ring → name_of key ≡ name
+    → links_of_content key.content ≡ []
     → IsFitting key → Stands s → Stands (made s ring name key)
 made_stands s ring name key is named empty fits stands =
     let n = s.next_serial in
@@ -187,7 +188,8 @@ added_fits hide (Ok done) payload kind hides = hides (serial_in done.1) kind pay
 added_fits hide (Err e) payload kind hides = hides 0 kind payload
 
 added_guarded :
-    (uid : ℕ) (private : ℕ → Bool) (P : Type 0) (s : State) (c : Context) (name : Name) (payload : List ℕ) (place : Place)
+    (uid : ℕ) (private : ℕ → Bool) (P : Type 0) (s : State) (c : Context) (name : Name)
+    (payload : List ℕ) (place : Place)
     → HasToItself uid private s → Guarded uid private P (added s c name payload place)
 added_guarded uid private P s c name payload (Updated serial) alone =
     search (changed_guarded, lessens_keeps, updated_lessens) depth 8
@@ -315,9 +317,11 @@ add_law s client context type_name desc payload ring = record {
             (made_for_has s context c ring (own_process_there s context c there placed)) is;
         houses = added_houses s made.0 client context (Add type_name desc payload ring) made.1 name payload place
             (made_houses s client context (Add type_name desc payload ring) c ring own);
-        stands = λ stands. added_stands made.0 made.1 name payload ring place is (made_for_stands s context c ring stands);
+        stands = λ stands. added_stands made.0 made.1 name payload ring place is
+            (made_for_stands s context c ring stands);
         guards = λ uid private stands alone.
-            added_guarded uid private _ made.0 made.1 name payload place (made_alone uid private s context c ring alone);
+            added_guarded uid private _ made.0 made.1 name payload place
+            (made_alone uid private s context c ring alone);
         keeps = λ uid private stands alone other.
             inl (same_trans private s.keys made.0.keys (added made.0 made.1 name payload place).keys
             (made_same uid private s context c ring alone)

@@ -34,7 +34,8 @@ where_blind hide true s number c id = made_blind hide s number c id
 where_blind hide false s number c id = refl
 
 made_where_alone :
-    (uid : ℕ) (private : ℕ → Bool) (create : Bool) (s : State) (number : ℕ) (c : Context) (id : ℤ) → HasToItself uid private s
+    (uid : ℕ) (private : ℕ → Bool) (create : Bool) (s : State) (number : ℕ) (c : Context) (id : ℤ)
+    → HasToItself uid private s
     → HasToItself uid private (made_where create s number c id).0
 made_where_alone uid private true s number c id alone = made_alone uid private s number c id alone
 made_where_alone uid private false s number c id alone = alone

@@ -61,7 +61,8 @@ with_uid_blind hide s c None =
     let to : Table Key → State = λ es. record t { keys = es } in
     rw (put_blind hide s.keys n first, put_blind hide (put s.keys n first) (n + 1) second)
 
-second_apart : (uid : ℕ) (private : ℕ → Bool) (s : State) → HasToItself uid private s → private (s.next_serial + 1) ≡ true → ⊥
+second_apart : (uid : ℕ) (private : ℕ → Bool) (s : State) → HasToItself uid private s
+    → private (s.next_serial + 1) ≡ true → ⊥
 second_apart uid private s alone m =
     let less : s.next_serial + 1 < s.next_serial = alone.made (s.next_serial + 1) m in omega arith
 
@@ -85,7 +86,8 @@ uid_contexts :
 uid_contexts uid private s client c stands alone =
     let rings = at s.uids c.uid in
     let one = with_uid s c rings in
-    let first = with_uid_unattached uid private s c rings (next_apart uid private s alone) (second_apart uid private s alone)
+    let first = with_uid_unattached uid private s c rings (next_apart uid private s alone)
+    (second_apart uid private s alone)
     alone.unattached in
     grind (arith, nat_tests, entered_unattached, first_session_apart, second_apart, uid_processes, uid_placed)
 

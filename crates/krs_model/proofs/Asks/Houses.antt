@@ -27,7 +27,8 @@ pub data EntersAs (s : State) (client context : ℕ) (op : Op) : Caller → Opti
   Named :
       (c : Caller) (rings : UidRings) → op ≡ Hello c → at s.uids c.uid ≡ Some rings
       → EntersAs s client context op c rings.session
-  Forked : (d : Context) → op ≡ Fork → context_of s client context ≡ Ok d → EntersAs s client context op d.caller d.session
+  Forked : (d : Context) → op ≡ Fork → context_of s client context ≡ Ok d
+      → EntersAs s client context op d.caller d.session
 
 -- what an accepted ask does to contexts, processes and uids
 pub data Houses (s : State) (client context : ℕ) (op : Op)

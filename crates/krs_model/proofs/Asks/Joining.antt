@@ -68,7 +68,8 @@ joinable_first s c name found h = grind (arith, nat_tests, none-some)
 -- a context of another uid joins none of these keys
 other_joins :
     (uid : ℕ) (private : ℕ → Bool) (s : State) (c : Context) (name : List ℕ) (found : ℕ × Key) → Rises s.keys
-    → HasToItself uid private s → c.caller.uid ≢ uid → joinable s c.caller name ≡ Some found → private found.0 ≡ true → ⊥
+    → HasToItself uid private s → c.caller.uid ≢ uid → joinable s c.caller name ≡ Some found
+    → private found.0 ≡ true → ⊥
 other_joins uid private s c name found rises alone other is m =
     let least = found_least (is_joinable s.clock c.caller name) s.keys found rises (joinable_first s c name found is) in
     let may = passed_may s c name found.0 found.1 least.there least.passes in
@@ -100,7 +101,8 @@ joined_fares s client context c name None own is =
       comes = λ other. comes_trans s one (joined_to one context s.next_serial) (with_new_comes s ring)
           (same_comes one (joined_to one context s.next_serial) refl refl refl refl);
       counts = λ placed. within;
-      houses = Alters c (session_to s.next_serial) own (record { client = λ v. refl; process = λ v. refl; caller = λ v. refl });
+      houses = Alters c (session_to s.next_serial) own
+          (record { client = λ v. refl; process = λ v. refl; caller = λ v. refl });
       stands = λ stands. new_joined_stands s context name c.caller stands;
       guards = λ uid private stands alone. record {
         made = later_made uid private s alone;

@@ -71,7 +71,8 @@ less_guarded uid private P s from serial g = record {
 
 is_moved_guarded :
     (uid : ℕ) (private : ℕ → Bool) (P : Type 0) (s : State) (found from into : ℕ × Key) (new : State)
-    → (P → private found.0 ≡ true → ⊥) → IsMoved s found from into new → HasToItself uid private s → Guarded uid private P new
+    → (P → private found.0 ≡ true → ⊥) → IsMoved s found from into new → HasToItself uid private s
+    → Guarded uid private P new
 is_moved_guarded uid private P s found from into _ apart Stays alone = alone_guarded uid private P s alone
 is_moved_guarded uid private P s found from into _ apart (Moves mid linked) alone =
     less_guarded uid private P mid from.0 found.0 (linked_guarded uid private P s into found mid apart linked alone)
@@ -110,7 +111,8 @@ move_fares s client context key from to flags =
           (look_up_usable s c key (Granted LINK) found is).there in
           is_moved_stands made.0 found first into new there is_moved (made_for_stands s context c to stands);
       guards = λ uid private stands alone. is_moved_guarded uid private _ made.0 found first into new
-          (λ holds m. none_found uid private s client context c key (Granted LINK) found alone own (holds refl) refl is m)
+          (λ holds m. none_found uid private s client context c key (Granted LINK) found alone own
+          (holds refl) refl is m)
           is_moved (made_alone uid private s context c to alone);
       keeps = λ uid private stands alone other.
           inl (same_trans private s.keys made.0.keys new.keys (made_same uid private s context c to alone)

@@ -46,7 +46,8 @@ room_is :
 room_is s ring links displaced place h = grind (arith, nat_tests, bind_ok, same_ok, ltb-false)
 
 match_is :
-    (s : State) (c : Context) (ring : ℕ × Key) (links : List ℕ) (k : ℕ) (o : Option Key) (place : Place) → at s.keys k ≡ o
+    (s : State) (c : Context) (ring : ℕ × Key) (links : List ℕ) (k : ℕ) (o : Option Key)
+    (place : Place) → at s.keys k ≡ o
     → over_match s c ring links k o ≡ Ok place → IsPlace s place
 match_is s c ring links k None place there h = room_is s ring links None place h
 match_is s c ring links k (Some key) place there h = grind (arith, nat_tests, same_ok, room_is)

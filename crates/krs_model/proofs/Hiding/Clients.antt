@@ -147,7 +147,8 @@ reply_or_read hide s t event other b same first second =
           (λ accepted x. unread_tells_none hide top other.lane other.ask.context other.ask.op x q) alike)
     ] first second
 
-pub read_alike : (hide : Hiding) (s t : State) (event other : Event) → blind_event hide s event ≡ blind_event hide t other
+pub read_alike : (hide : Hiding) (s t : State) (event other : Event) → blind_event hide s event
+    ≡ blind_event hide t other
     → is_read other.ask.op ≡ is_read event.ask.op
 read_alike hide s t event other same = grind (arith, nat_tests, same_read)
 

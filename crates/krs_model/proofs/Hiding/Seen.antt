@@ -7,7 +7,8 @@ use Rattle.krs_model.specs.{Asks.{Changing.changed, Linked.linked_into}, Linking
 use Rattle.krs_model.specs.Hiding.{blind, blind_content, blind_key, blind_keys, Hiding, over}
 use Rattle.krs_model.specs.{Lookup.{context_of, look_up, serial_of}, Making.within_serials, Outcome.Outcome}
 use Rattle.krs_model.specs.{State.{Content, Key, Links, Payload, State}, Table.{at, Table}}
-use Rattle.krs_model.proofs.Hiding.{Accepted.{blind_done, changed_blind, done_changed}, Links.{linked_into_blind, within_blind}}
+use Rattle.krs_model.proofs.Hiding.Accepted.{blind_done, changed_blind, done_changed}
+use Rattle.krs_model.proofs.Hiding.Links.{linked_into_blind, within_blind}
 use Rattle.krs_model.proofs.Hiding.Lookups.{blind_found, look_up_blind, there_blind}
 
 -- a result is another, seen through h: step by step, as a search goes

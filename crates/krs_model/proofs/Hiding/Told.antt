@@ -6,7 +6,8 @@ use Rattle.krs_model.specs.{Hiding.{blind_event, FurtherEvents, Hiding, IsBlinde
 use Rattle.krs_model.specs.{Secrecy.{replies_to, tells, TellsByReadsAlone}, State.State}
 use Rattle.krs_model.proofs.Hiding.Clients.{blinded_alike, read_alike, replied, reply_or_read}
 
--- event by event the clients are the same, both or neither are accepted READs, and the replies are the same but for these
+-- event by event the clients are the same, both or neither are accepted READs, and the replies are the same but for
+-- these
 abbrev pub DifferByTold : List Event → List Event → Type 0
 DifferByTold [] [] = Unit {0}
 DifferByTold (event ∷ events) (other ∷ others) =

@@ -28,7 +28,8 @@ passed :
     → (k : ℕ) × (p (k, v) ≡ true)
 passed p [] n v there = absurd (none-some v there)
 passed {X} p (e ∷ es) n v there =
-    elim (p e) as (λ b. p e ≡ b → at (cond b (e ∷ filter p es) (filter p es)) n ≡ Some v → (k : ℕ) × (p (k, v) ≡ true)) [
+    elim (p e) as (λ b. p e ≡ b → at (cond b (e ∷ filter p es) (filter p es)) n ≡ Some v → (k : ℕ)
+    × (p (k, v) ≡ true)) [
       | true ↦ λ t h. elim (is_at (nat_cmp n) e.0) as
           (λ d. cond d (Some e.1) (at (filter p es) n) ≡ Some v → (k : ℕ) × (p (k, v) ≡ true)) [
             | true ↦ λ i. (e.0, subst (λ (x : X). p (e.0, x) ≡ true) (same_Some e.1 v i) t)
@@ -246,7 +247,8 @@ greeted_on old new past event sound known step number c there =
 pub contexts_greeted :
     (n : ℕ) (events : List Event) (end : State) → IsLegal (starting_at n) events end → AreGreeted end events
 contexts_greeted n events end legal =
-    legal_keeps AreGreeted greeted_on (starting_at n) end [] events (start_sound n) (λ k d h. absurd (none-some d h)) legal
+    legal_keeps AreGreeted greeted_on (starting_at n) end [] events (start_sound n)
+    (λ k d h. absurd (none-some d h)) legal
 
 pub readers_greeted :
     (n uid : ℕ) (before : List Event) (old : State) (last : ℕ → Bool)

@@ -48,7 +48,8 @@ pub attaches_none :
 attaches_none uid private s number c alone there other = λ k m i.
     let foreign = is_foreign uid c other in
     let keys : is_in k (context_keys c) ≡ true → ⊥ = λ h.
-    alone.contexts k m (attached_at (foreign_keys uid) s.contexts number c k there (subst (λ (xs : List ℕ). is_in k xs ≡ true) (sym foreign.0) h)) in
+    alone.contexts k m (attached_at (foreign_keys uid) s.contexts number c k there
+    (subst (λ (xs : List ℕ). is_in k xs ≡ true) (sym foreign.0) h)) in
     let ring = process_ring s c.process in
     let self : is_in c.process (c.process ∷ []) ≡ true = rw (same_is c.process c.process refl) refl in
     ⊎_elim (λ h. keys (in_left k (option_to_list c.thread) (option_to_list c.session) h))
@@ -126,7 +127,8 @@ threaded_unattached uid private s number c there alone =
       contexts = λ k m i. ⊎_elim
           (λ h. let r = of_foreign uid new k h in
           let foreign = is_foreign uid c r.0 in
-          let had : is_in k (context_keys c) ≡ true = in_right k (option_to_list c.thread) (option_to_list c.session) r.1 in
+          let had : is_in k (context_keys c) ≡ true = in_right k (option_to_list c.thread)
+          (option_to_list c.session) r.1 in
           alone.contexts k m (attached_at (foreign_keys uid) s.contexts number c k there
           (subst (λ (xs : List ℕ). is_in k xs ≡ true) (sym foreign.0) had)))
           (λ was. alone.contexts k m was)
@@ -141,7 +143,8 @@ threaded_unattached uid private s number c there alone =
 -- a changed context, which attaches a key that is none of these
 pub altered_unattached :
     (uid : ℕ) (private : ℕ → Bool) (s : State) (number n : ℕ) (f : Context → Context)
-    → ((v : Context) (k : ℕ) → is_in k (foreign_keys uid (f v)) ≡ true → (is_in k (foreign_keys uid v) ≡ true) ⊎ (k ≡ n))
+    → ((v : Context) (k : ℕ) → is_in k (foreign_keys uid (f v)) ≡ true
+    → (is_in k (foreign_keys uid v) ≡ true) ⊎ (k ≡ n))
     → ((v : Context) (p : ℕ) → is_in p (foreign_process uid (f v)) ≡ true → is_in p (foreign_process uid v) ≡ true)
     → (private n ≡ true → ⊥) → AreUnattached uid private s
     → AreUnattached uid private (record s { contexts = alter s.contexts number f })
@@ -203,7 +206,8 @@ pub thread_unattached :
     → AreUnattached uid private s → AreUnattached uid private (with_thread s number c)
 thread_unattached uid private s number c fresh alone =
     let n = s.next_serial in
-    let still = altered_unattached uid private s number n (thread_to n) (foreign_threaded uid n) (λ v p h. h) fresh alone in
+    let still = altered_unattached uid private s number n (thread_to n) (foreign_threaded uid n)
+    (λ v p h. h) fresh alone in
     search same_unattached depth 8
 
 ring_changed :

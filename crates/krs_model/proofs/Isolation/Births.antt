@@ -86,7 +86,8 @@ ruleset keeping = (meets_after, meets_within, meets_ok, same_owner)
 
 get_id_keeps :
     (uid : ℕ) (set : ℕ → Bool) (s : State) (client context : ℕ) (id : ℤ) (create : Bool) → ActsAs uid s client context
-    → set s.next_serial ≡ true → AreEnclosed uid set s.keys → Meets (Encloses uid set) (get_id s client context id create)
+    → set s.next_serial ≡ true → AreEnclosed uid set s.keys
+    → Meets (Encloses uid set) (get_id s client context id create)
 unfolding get_id
 get_id_keeps uid set s client context id create ask next alone = search (keeping, where_own) depth 12
 
@@ -230,7 +231,8 @@ late_is_made private old new j unused there m = grind (arith, nat_tests, or_true
 -- an ask that makes keys for its own uid gives none away
 none_given :
     (uid : ℕ) (private : ℕ → Bool) (old new : State) → IsBelow new.keys new.next_serial
-    → AreEnclosed uid (or_late private old.next_serial) new.keys → IsGivenAway uid (with_made private old new) new.keys → ⊥
+    → AreEnclosed uid (or_late private old.next_serial) new.keys
+    → IsGivenAway uid (with_made private old new) new.keys → ⊥
 none_given uid private old new unused alone given =
     grind (arith, nat_tests, or_true, of_made, true≢false, linking_is_there, late_is_made)
 

@@ -1,4 +1,5 @@
--- Nothing of the payloads of keys that a uid has to itself is told to a client that asks nothing in a context of the uid.
+-- Nothing of the payloads of keys that a uid has to itself is told to a client that asks nothing in a context of the
+-- uid.
 use Rattle.std.proofs.Common.{[], ◌++◌, ◌<◌, ◌∙◌, ◌∷◌, ◌≡◌, ◌≤◌, ◌⊎◌, arith, Bool, false, inl, leb-true, List, refl}
 use Rattle.std.proofs.{Common.{Some, subst, sym, true, ℕ}, lemmas.{Bool.Decides.nat_tests, Option.none-some}}
 use Rattle.krs_types.specs.declared.event.Event.{Event}
@@ -68,7 +69,8 @@ reads_shown :
     (client : ℕ) → IsSound start → HasToItself uid private start → KeepsPrivate uid private start events end last
     → ((n : ℕ) → last n ≡ false → IsShown hide n) → IsStranger uid client start events
     → ReadsShown hide client start events
-reads_shown uid private start events end last hide client sound alone keeps shown stranger before later reading old serial key
+reads_shown uid private start events end last hide client sound alone keeps shown stranger before later
+    reading old serial key
     is legal lane reads there kind =
     let whole : KeepsPrivate uid private start (before ++ reading ∷ later) end last =
     subst (λ (es : List Event). KeepsPrivate uid private start es end last) is keeps in
@@ -94,5 +96,6 @@ reads_shown uid private start events end last hide client sound alone keeps show
 pub tells_no_stranger :
     (uid : ℕ) (private : ℕ → Bool) (start : State) → IsSound start → HasToItself uid private start
     → TellsNoStranger uid private start
-tells_no_stranger uid private start sound alone events end last keeps hide client other others lawful shown alike stranger =
+tells_no_stranger uid private start sound alone events end last keeps hide client other others lawful
+    shown alike stranger =
     search (keeps_secrets, reads_shown) depth 8

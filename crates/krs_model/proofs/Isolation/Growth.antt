@@ -36,7 +36,8 @@ foreign_in uid (e ∷ es) k i = grind (arith, nat_tests, in_left, of_foreign, in
 
 -- a serial that is not given yet is attached nowhere
 late_unattached :
-    (uid : ℕ) (private : ℕ → Bool) (s : State) → Stands s → HasToItself uid private s → AreUnattached uid (late s.next_serial) s
+    (uid : ℕ) (private : ℕ → Bool) (s : State) → Stands s → HasToItself uid private s
+    → AreUnattached uid (late s.next_serial) s
 late_unattached uid private s stands alone =
     let n = s.next_serial in
     let none : (k : ℕ) → late n k ≡ true → IsSome (at s.keys k) → ⊥ = λ k m there.
@@ -133,7 +134,8 @@ acts_leave uid private s new client context op _ _ _ sound may other acts a b d 
     (same_owner uid s client context c acts own) alone)
 acts_leave uid private s new client context op _ _ _ sound may other acts a b d (Execs c is own) alone =
     absurd (true≢false (sym may ∙ ap may_make is))
-acts_leave uid private s new client context op _ _ _ sound may other acts a b d (Detaches c id gone is own found) alone =
+acts_leave uid private s new client context op _ _ _ sound may other acts a b d
+    (Detaches c id gone is own found) alone =
     absurd (true≢false (sym may ∙ ap may_make is))
 acts_leave uid private s new client context op _ _ _ sound may other acts a b d (Exits c is own) alone =
     absurd (true≢false (sym may ∙ ap may_make is))
@@ -185,7 +187,8 @@ swept_leaves :
 swept_leaves uid private old new s alone = grind (arith, nat_tests, same_unattached)
 
 ended_leaves :
-    (uid : ℕ) (private : ℕ → Bool) (s new : State) (client context : ℕ) (op : Op) (reply : Result Answer Errno) → IsSound s
+    (uid : ℕ) (private : ℕ → Bool) (s new : State) (client context : ℕ) (op : Op)
+    (reply : Result Answer Errno) → IsSound s
     → may_make op ≡ true → IsFor uid s client context op → Ends s client context op reply new
     → AreUnattached uid private s → AreUnattached uid private new
 ended_leaves uid private s new client context op (Ok answer) sound may ask serves alone =
@@ -244,10 +247,12 @@ both_unattached :
     → AreUnattached uid (late old.next_serial) new → AreUnattached uid (with_made private old new) new
 both_unattached uid private old new was made = grind (arith, nat_tests, of_made)
 
--- some of the keys that the uid had to itself, and of those that an ask for it makes, it has so where none is given away
+-- some of the keys that the uid had to itself, and of those that an ask for it makes, it has so where none is given
+-- away
 pub some_grow :
     (uid : ℕ) (private after : ℕ → Bool) (old new : State) (event : Event) → IsSound old → HasToItself uid private old
-    → Step old event new → ((k : ℕ) → after k ≡ true → with_made private old new k ≡ true) → may_make event.ask.op ≡ true
+    → Step old event new → ((k : ℕ) → after k ≡ true → with_made private old new k ≡ true)
+    → may_make event.ask.op ≡ true
     → IsFor uid old event.lane event.ask.context event.ask.op → (IsGivenAway uid after new.keys → ⊥)
     → HasToItself uid after new
 some_grow uid private after old new event sound alone step part may ask none =
@@ -283,7 +288,8 @@ pub goes_alone :
 goes_alone uid private after old new event sound alone step goes =
     ⊎_elim
     (λ (h : (after ≡ private) × (GivesAway uid private old event new → ⊥)).
-    subst (λ (set : ℕ → Bool). HasToItself uid set new) (sym h.0) (step_alone uid private old new event sound alone step h.1))
+    subst (λ (set : ℕ → Bool). HasToItself uid set new) (sym h.0)
+    (step_alone uid private old new event sound alone step h.1))
     (λ rest. ⊎_elim
     (λ (h : ((k : ℕ) → after k ≡ true → private k ≡ true) × (IsGivenAway uid after new.keys → ⊥)).
     some_stay uid private after old new event sound alone step h.0 h.1)

@@ -16,11 +16,13 @@ pub record Guarded (uid : ℕ) (private : ℕ → Bool) (P : Type 0) (s : State)
   pub enclosed : P → AreEnclosed uid private s.keys
   pub unattached : AreUnattached uid private s
 
-pub alone_guarded : (uid : ℕ) (private : ℕ → Bool) (P : Type 0) (s : State) → HasToItself uid private s → Guarded uid private P s
+pub alone_guarded : (uid : ℕ) (private : ℕ → Bool) (P : Type 0) (s : State) → HasToItself uid private s
+    → Guarded uid private P s
 alone_guarded uid private P s alone = search depth 8
 
 -- a serial that is not given yet is of none of these keys
-pub next_apart : (uid : ℕ) (private : ℕ → Bool) (s : State) → HasToItself uid private s → private s.next_serial ≡ true → ⊥
+pub next_apart : (uid : ℕ) (private : ℕ → Bool) (s : State) → HasToItself uid private s
+    → private s.next_serial ≡ true → ⊥
 next_apart uid private s alone m = let less : s.next_serial < s.next_serial = alone.made s.next_serial m in omega arith
 
 -- no context of this uid asks
@@ -45,7 +47,8 @@ lessens_keeps uid private n f less own = grind (arith, nat_tests, part_in)
 
 -- a context of another uid finds none of these keys
 pub none_found :
-    (uid : ℕ) (private : ℕ → Bool) (s : State) (client context : ℕ) (c : Context) (id : ℤ) (want : Want) (found : ℕ × Key)
+    (uid : ℕ) (private : ℕ → Bool) (s : State) (client context : ℕ) (c : Context) (id : ℤ)
+    (want : Want) (found : ℕ × Key)
     → HasToItself uid private s → context_of s client context ≡ Ok c → NotBy uid s client context
     → allows want 0 false ≡ false → look_up s c id want ≡ Ok found → private found.0 ≡ true → ⊥
 none_found uid private s client context c id want found alone own other wants is m =

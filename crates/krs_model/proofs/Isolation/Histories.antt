@@ -18,7 +18,8 @@ private_legal uid private start (event ∷ events) end last keeps =
 -- over a whole history
 pub withheld_alone :
     (uid : ℕ) (private : ℕ → Bool) (start : State) (events : List Event) (end : State) (last : ℕ → Bool) → IsSound start
-    → HasToItself uid private start → KeepsPrivate uid private start events end last → IsSound end × HasToItself uid last end
+    → HasToItself uid private start → KeepsPrivate uid private start events end last → IsSound end
+    × HasToItself uid last end
 unfolding KeepsPrivate
 withheld_alone uid private start [] end last sound alone held = grind (arith, nat_tests)
 withheld_alone uid private start (event ∷ events) end last sound alone held =
@@ -37,7 +38,8 @@ keeps_to_itself uid private start sound alone before old last held reading end s
 
 -- from an empty store on
 pub keeps_from_nothing : (uid n : ℕ) → ReadsAlone uid (λ k. false) (starting_at n)
-keeps_from_nothing uid n = keeps_to_itself uid (λ k. false) (starting_at n) (start_sound n) (none_alone uid (starting_at n))
+keeps_from_nothing uid n = keeps_to_itself uid (λ k. false) (starting_at n) (start_sound n)
+    (none_alone uid (starting_at n))
 
 -- the keys that a uid goes on to have it has to itself
 pub end_alone :

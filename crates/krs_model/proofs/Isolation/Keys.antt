@@ -50,7 +50,8 @@ changed_enclosed uid private es n f keeps alone = record {
 pub mapped_enclosed :
     (uid : ℕ) (private : ℕ → Bool) (es : Table Key) (f : Key → Key)
     → ((v : Key) → is_own uid v ≡ true → is_own uid (f v) ≡ true)
-    → ((v : Key) (k : ℕ) → is_in k (links_of_content (f v).content) ≡ true → is_in k (links_of_content v.content) ≡ true)
+    → ((v : Key) (k : ℕ) → is_in k (links_of_content (f v).content) ≡ true
+    → is_in k (links_of_content v.content) ≡ true)
     → AreEnclosed uid private es → AreEnclosed uid private (map_values f es)
 mapped_enclosed uid private es f keeps less alone = record {
   own = λ k key m there. own_mapped uid f (at es k) key keeps (λ v h. alone.own k v m h) (sym (at_map f es k) ∙ there);

@@ -18,15 +18,18 @@ use Rattle.krs_model.proofs.Sound.{Changes.with_linked, Links.linkable_is, NewCo
 
 -- a new key that links nothing
 pub new_enclosed :
-    (uid : ℕ) (private : ℕ → Bool) (s : State) (key : Key) → links_of_content key.content ≡ [] → HasToItself uid private s
+    (uid : ℕ) (private : ℕ → Bool) (s : State) (key : Key) → links_of_content key.content ≡ []
+    → HasToItself uid private s
     → AreEnclosed uid private (with_new s key).keys
 new_enclosed uid private s key empty alone = grind (arith, nat_tests, put_enclosed, next_apart, true≢false)
 
-pub later_made : (uid : ℕ) (private : ℕ → Bool) (s : State) → HasToItself uid private s → (k : ℕ) → private k ≡ true → k < s.next_serial + 1
+pub later_made : (uid : ℕ) (private : ℕ → Bool) (s : State) → HasToItself uid private s → (k : ℕ) → private k ≡ true
+    → k < s.next_serial + 1
 later_made uid private s alone k m = let less : k < s.next_serial = alone.made k m in omega arith
 
 is_made_alone :
-    (uid : ℕ) (private : ℕ → Bool) (s : State) (number : ℕ) (c : Context) (id : Result KeyId Errno) (made : State × Context)
+    (uid : ℕ) (private : ℕ → Bool) (s : State) (number : ℕ) (c : Context) (id : Result KeyId Errno)
+    (made : State × Context)
     → IsMade s number c id made → HasToItself uid private s → HasToItself uid private made.0
 is_made_alone uid private s number c id _ NoneMade alone = alone
 is_made_alone uid private s number c id _ (ThreadMade is none) alone =
@@ -43,7 +46,8 @@ made_alone uid private s number c id alone =
 
 has_made_none :
     (private : ℕ → Bool) (s t : State) (c d : Context) (desc before after : List ℕ)
-    → HasMade s c t d desc before after → (private s.next_serial ≡ true → ⊥) → AttachesNone private s c → AttachesNone private t d
+    → HasMade s c t d desc before after → (private s.next_serial ≡ true → ⊥) → AttachesNone private s c
+    → AttachesNone private t d
 has_made_none private s t c d desc before after made fresh none =
     grind (arith, nat_tests, in_left, only_in, in_right, in_one)
 
@@ -61,7 +65,8 @@ pub record IsOther (uid : ℕ) (private : ℕ → Bool) (s : State) (c : Context
   pub apart : c.caller.uid ≢ uid
 
 pub other_made :
-    (uid : ℕ) (private : ℕ → Bool) (s : State) (client context : ℕ) (c : Context) (id : ℤ) → Stands s → HasToItself uid private s
+    (uid : ℕ) (private : ℕ → Bool) (s : State) (client context : ℕ) (c : Context) (id : ℤ) → Stands s
+    → HasToItself uid private s
     → context_of s client context ≡ Ok c → NotBy uid s client context
     → IsOther uid private (made_for s context c id).0 (made_for s context c id).1
 other_made uid private s client context c id stands alone own other =

@@ -59,7 +59,8 @@ own_process uid private s n p k c alone m is there same =
     let self : is_in p (c.process ∷ []) ≡ true = ap (λ (b : Bool). b || false) (same_is c.process p same) in
     elim (c.caller.uid == uid) as (λ b. (c.caller.uid == uid) ≡ b → c.caller.uid ≡ uid) [
       | true ↦ λ t. grind (arith, nat_tests)
-      | false ↦ λ t. absurd (alone.unattached.processes p k m is (attached_at (foreign_process uid) s.contexts n c p there
+      | false ↦ λ t. absurd (alone.unattached.processes p k m is
+          (attached_at (foreign_process uid) s.contexts n c p there
           (subst (λ (xs : List ℕ). is_in p xs ≡ true)
           (sym (is_foreign uid c (λ e. true≢false (sym (same_is c.caller.uid uid e) ∙ t))).1) self)))
     ] refl
@@ -132,14 +133,17 @@ left_stays uid private s client context op sound alone outside is =
       by_process = λ p k m there.
           let has = sound.used.process p (rw there refl) in
           let own = own_process uid private s has.number p k has.context alone m there has.there has.so in
-          let passes : has_process contexts p ≡ true = entry_passes (λ (c : Context). c.process == p) contexts has.number
+          let passes : has_process contexts p ≡ true = entry_passes
+          (λ (c : Context). c.process == p) contexts has.number
           has.context (stays has.number has.context has.there own) (same_is has.context.process p has.so) in
-          at_kept (has_process contexts) s.processes p ∙ (ap (λ (b : Bool). cond b (at s.processes p) None) passes ∙ there);
+          at_kept (has_process contexts) s.processes p
+          ∙ (ap (λ (b : Bool). cond b (at s.processes p) None) passes ∙ there);
       by_uid = λ v k rings m there i.
           let own : v ≡ uid = own_uid uid private s v k rings alone m there i in
           let has = sound.used.owner v (rw there refl) in
           let passes : has_uid contexts v ≡ true = entry_passes (λ (c : Context). c.caller.uid == v) contexts has.number
-          has.context (stays has.number has.context has.there (has.so ∙ own)) (same_is has.context.caller.uid v has.so) in
+          has.context (stays has.number has.context has.there (has.so ∙ own))
+          (same_is has.context.caller.uid v has.so) in
           entry _ (λ r. is_in k (uid_keys r) ≡ true) v rings
           (at_kept (has_uid contexts) s.uids v ∙ (ap (λ (b : Bool). cond b (at s.uids v) None) passes ∙ there)) i;
     }
@@ -311,7 +315,8 @@ served_unchanged :
     → (AreSame private s.keys new.keys) ⊎ IsTakenOut private s client context op new.keys
 served_unchanged uid private s new client context op answer sound alone outside serves =
     let mid = serves.mid in
-    let after = ((law_of s client context op).fares.meets mid answer serves.meant).keeps uid private (sound_stands s sound) alone
+    let after = ((law_of s client context op).fares.meets mid answer serves.meant).keeps uid private
+    (sound_stands s sound) alone
     outside.other in
     let houses = houses_stay uid private s client context op mid.contexts mid.processes mid.uids sound alone outside
     ((law_of s client context op).fares.meets mid answer serves.meant).houses in

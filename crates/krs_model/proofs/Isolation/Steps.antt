@@ -25,7 +25,8 @@ posted_guarded uid private P ps s g = search same_unattached depth 8
 
 -- the clock alone
 pub raised_alone :
-    (uid : ℕ) (private : ℕ → Bool) (s : State) (moment : ℕ) → HasToItself uid private s → HasToItself uid private (raised s moment)
+    (uid : ℕ) (private : ℕ → Bool) (s : State) (moment : ℕ) → HasToItself uid private s
+    → HasToItself uid private (raised s moment)
 raised_alone uid private s moment alone = search same_unattached depth 8
 
 served_guarded :
@@ -34,13 +35,16 @@ served_guarded :
     → Guarded uid private (Holds uid s client context op) new
 served_guarded uid private s new client context op answer sound alone serves =
     let P = Holds uid s client context op in
-    let mid = ((law_of s client context op).fares.meets serves.mid answer serves.meant).guards uid private (sound_stands s sound) alone in
+    let mid = ((law_of s client context op).fares.meets serves.mid answer serves.meant).guards uid private
+    (sound_stands s sound) alone in
     let swept = sweep_guarded uid private P serves.mid serves.swept serves.sweep mid in
     grind (arith, nat_tests, posted_guarded)
 
 ended_guarded :
-    (uid : ℕ) (private : ℕ → Bool) (s new : State) (client context : ℕ) (op : Op) (reply : Result Answer Errno) → IsSound s
-    → HasToItself uid private s → Ends s client context op reply new → Guarded uid private (Holds uid s client context op) new
+    (uid : ℕ) (private : ℕ → Bool) (s new : State) (client context : ℕ) (op : Op)
+    (reply : Result Answer Errno) → IsSound s
+    → HasToItself uid private s → Ends s client context op reply new
+    → Guarded uid private (Holds uid s client context op) new
 ended_guarded uid private s new client context op (Ok answer) sound alone serves =
     served_guarded uid private s new client context op answer sound alone serves
 ended_guarded uid private s new client context op (Err e) sound alone ends = grind (arith, nat_tests, alone_guarded)
@@ -62,7 +66,8 @@ step_guarded uid private old new event sound alone step =
 
 -- where none of these keys is given away, they are the uid's own, and linked among themselves
 pub not_given :
-    (uid : ℕ) (private : ℕ → Bool) (keys : Table Key) → (IsGivenAway uid private keys → ⊥) → AreEnclosed uid private keys
+    (uid : ℕ) (private : ℕ → Bool) (keys : Table Key) → (IsGivenAway uid private keys → ⊥)
+    → AreEnclosed uid private keys
 not_given uid private keys none = record {
   own = grind (arith, nat_tests);
   linked = λ j k m i. elim (private j) as (λ b. private j ≡ b → b ≡ true) [
@@ -137,7 +142,8 @@ reads_own uid private old end reading serial alone m step reads =
     let c = reads.names.whose in
     let may : MayBeRead up c serial = reads_by_right old [] old refl reading end serial step reads in
     let there = own_there up reading.lane reading.ask.context c reads.names.own in
-    let apart = others_read_none uid private up reading.ask.context c serial (raised_alone uid private old reading.moment alone)
+    let apart = others_read_none uid private up reading.ask.context c serial
+    (raised_alone uid private old reading.moment alone)
     there m may in
     grind (arith, nat_tests)
 
@@ -151,4 +157,5 @@ pub others_rights :
     → at s.contexts number ≡ Some c → c.caller.uid ≢ uid → private k ≡ true → at s.keys k ≡ Some key
     → (possessed s c k ≡ false) × (rights_on key c.caller (possessed s c k) ≡ 0)
 others_rights uid private s number k c key alone there other m is =
-    no_rights uid private s c k key alone.enclosed (attaches_none uid private s number c alone.unattached there other) other m is
+    no_rights uid private s c k key alone.enclosed
+    (attaches_none uid private s number c alone.unattached there other) other m is

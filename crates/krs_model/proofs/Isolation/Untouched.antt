@@ -1,5 +1,5 @@
--- An ask in no context of a uid leaves each key that the uid has to itself as it is, but that an invalidated key goes out
--- of its links.
+-- An ask in no context of a uid leaves each key that the uid has to itself as it is, but that an invalidated key goes
+-- out of its links.
 use Rattle.std.proofs.Common.{◌∙◌, ◌≡◌, ◌⊎◌, arith, Bool, codes, Ok, refl, Result, subst, true, ℕ, ℤ}
 use Rattle.std.proofs.lemmas.Bool.Decides.{nat_tests}
 use Rattle.krs_types.specs.declared.{ask.Op.{Op, TheVariants.Invalidate}, context.Context.Context, errno.Errno.Errno}
@@ -16,7 +16,8 @@ use Rattle.krs_model.proofs.Sound.Changes.{Stands, with_linked}
 abbrev pub AreSame : (ℕ → Bool) → Table Key → Table Key → Type 0
 AreSame private old new = (k : ℕ) → private k ≡ true → at new k ≡ at old k
 
-pub same_trans : (private : ℕ → Bool) (a b c : Table Key) → AreSame private a b → AreSame private b c → AreSame private a c
+pub same_trans : (private : ℕ → Bool) (a b c : Table Key) → AreSame private a b → AreSame private b c
+    → AreSame private a c
 same_trans private a b c f g = λ k m. g k m ∙ f k m
 
 -- a change of a key that is none of these

@@ -20,7 +20,8 @@ none_followed false links empty = refl
 
 -- an empty keyring has no links to follow
 followed_put :
-    (clock : ℕ) (caller : Caller) (es : Table Key) (n k : ℕ) (v : Key) → at es n ≡ None → links_of_content v.content ≡ []
+    (clock : ℕ) (caller : Caller) (es : Table Key) (n k : ℕ) (v : Key) → at es n ≡ None
+    → links_of_content v.content ≡ []
     → followed clock caller (at (put es n v) k) ≡ followed clock caller (at es k)
 followed_put clock caller es n k v none empty =
     let entered = is_alive clock v && has_all (rights_on v caller true) SEARCH in

@@ -207,7 +207,8 @@ unfolding searched
 met_any by head p (depth, place, serial, bound, stands, passes) =
     elim (list_any p (searched by head)) as (λ b. list_any p (searched by head) ≡ b → b ≡ true) [
       | true ↦ λ e. refl
-      | false ↦ λ e. absurd (true≢false (sym passes ∙ none_above p (entered by) (head ∷ []) (suc search_depth) depth place
+      | false ↦ λ e. absurd (true≢false (sym passes
+          ∙ none_above p (entered by) (head ∷ []) (suc search_depth) depth place
           serial (none_found p (searched by head) e) (omega (arith, bound)) stands))
     ] refl
 
@@ -240,7 +241,8 @@ refused_with : (e f : Errno) (o : Option ℕ) → or_refuse e o ≡ Err f → e 
 refused_with e f None h = cc
 refused_with e f (Some x) h = cc
 
-pub refused_faults : (s : State) (c : Context) (head : ℕ) (name : Name) (error : Errno) → found s c head name ≡ Err error
+pub refused_faults : (s : State) (c : Context) (head : ℕ) (name : Name) (error : Errno)
+    → found s c head name ≡ Err error
     → IsFault (searcher_of s c) head name error
 unfolding found possessed
 refused_faults s c head name error h =

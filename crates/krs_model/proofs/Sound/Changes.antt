@@ -60,7 +60,8 @@ pub record IsLess (old new : Table Key) : Type 0 where
   pub links : (j : ℕ) → IsPart (links_of_key_at new j) (links_of_key_at old j)
   pub names : (name : Name) (k : ℕ) → is_named name (at new k) ≡ true → is_named name (at old k) ≡ true
 
-pub less_acyclic : (old new : Table Key) → IsLess old new → IsAcyclic (links_of_key_at old) → IsAcyclic (links_of_key_at new)
+pub less_acyclic : (old new : Table Key) → IsLess old new → IsAcyclic (links_of_key_at old)
+    → IsAcyclic (links_of_key_at new)
 less_acyclic old new less acyclic =
     acyclic_fewer (links_of_key_at old) (links_of_key_at new)
     (λ j k i. part_in (links_of_key_at new j) (links_of_key_at old j) k (less.links j) i) acyclic
@@ -204,7 +205,8 @@ kept_stands s kept watches picks stands =
     record {
       acyclic = less_acyclic s.keys keys less stands.acyclic;
       linked = λ j k i.
-          let was : LinksTo k (at s.keys j) = part_in (links_of_key_at keys j) (links_of_key_at s.keys j) k (less.links j) i in
+          let was : LinksTo k (at s.keys j) = part_in (links_of_key_at keys j) (links_of_key_at s.keys j)
+          k (less.links j) i in
           let links : LinksTo k (cond (kept j) (at s.keys j) None) = subst (LinksTo k) (at_kept kept s.keys j) i in
           let still : kept j ≡ true = linking_kept (kept j) (at s.keys j) k links in
           let held = picks.only j (linking_is_there k (at s.keys j) was) still in
@@ -316,7 +318,8 @@ in_linked_content displaced serial (Links links) k i = in_with_link displaced li
 one_linked_content :
     (displaced p : ℕ → Bool) (serial : ℕ) (content : Content)
     → (p serial ≡ true → (k : ℕ) → is_in k (links_of_content content) ≡ true → p k ≡ displaced k)
-    → count_by p (links_of_content content) ≤ 1 → count_by p (links_of_content (linked_content displaced serial content)) ≤ 1
+    → count_by p (links_of_content content) ≤ 1 → count_by p
+    (links_of_content (linked_content displaced serial content)) ≤ 1
 one_linked_content displaced p serial (Payload bytes) alike few = few
 one_linked_content displaced p serial (Links links) alike few = one_linked displaced p links serial alike few
 

@@ -29,7 +29,8 @@ still_put :
 still_put contexts n new P none has = grind (arith, nat_tests, none-some, at_put)
 
 new_put :
-    (contexts : Table Context) (n : ℕ) (new : Context) (P : Context → Type 0) → P new → HasContext (put contexts n new) P
+    (contexts : Table Context) (n : ℕ) (new : Context) (P : Context → Type 0) → P new
+    → HasContext (put contexts n new) P
 new_put contexts n new P so =
     record { number = n; context = new; there = at_put_same contexts n new; so = so }
 
@@ -59,8 +60,13 @@ changed_from :
     → (was : Context) × (o ≡ Some was) × (c.process ≡ was.process) × (c.caller.uid ≡ was.caller.uid)
 changed_from f None c stays h = absurd (none-some c h)
 changed_from f (Some v) c stays h =
-    let same : f v ≡ c = same_Some (f v) c h in
-    (v, refl, ap process_of (sym same) ∙ stays.process v, ap uid_of (sym same) ∙ ap (λ (z : Caller). z.uid) (stays.caller v))
+    let same : f v ≡ c = same_Some (f v) c h in (
+      v,
+      refl,
+      ap process_of (sym same) ∙ stays.process v,
+      ap uid_of (sym same)
+          ∙ ap (λ (z : Caller). z.uid) (stays.caller v),
+    )
 
 alter_from :
     (contexts : Table Context) (n : ℕ) (f : Context → Context) → StaysWhose f → CameFrom contexts (alter contexts n f)
@@ -223,7 +229,8 @@ houses_in_use s client context op _ _ _ stands used (Begins c session rings room
       process = grind (arith, nat_tests, new_put, still_put, at_put);
       owner = λ uid there. ⊎_elim
           (λ (r : IsPut s.uids c.uid rings uid). new_put s.contexts n new (λ v. v.caller.uid ≡ uid) (sym r.0))
-          (λ same. still_put s.contexts n new (λ v. v.caller.uid ≡ uid) unused (used.owner uid (subst IsSome same there)))
+          (λ same. still_put s.contexts n new (λ v. v.caller.uid ≡ uid) unused
+          (used.owner uid (subst IsSome same there)))
           (at_put s.uids c.uid uid rings);
       alike = entering_alike s client c session stands used;
     }

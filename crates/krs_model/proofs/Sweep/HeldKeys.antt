@@ -65,7 +65,8 @@ walk keys attached kept acyclic c (suc n) k vs distinct there reached keep enoug
           (λ q i. ⊎_elim (λ (s : q ≡ j). subst (λ (z : ℕ). IsSome (at keys z)) (sym s) stands)
           (λ (ne : q ≡ j → ⊥). there q (in_rest q j (k ∷ vs) ne i)) (cases_eq q j))
           (λ q i. ⊎_elim (λ (s : q ≡ k). subst (λ (z : ℕ). Reaches (links_of_key_at keys) j z) (sym s) link)
-          (λ (ne : q ≡ k → ⊥). reaches_on (links_of_key_at keys) j k q link (reached q (in_rest q k vs ne i))) (cases_eq q k))
+          (λ (ne : q ≡ k → ⊥). reaches_on (links_of_key_at keys) j k q link
+          (reached q (in_rest q k vs ne i))) (cases_eq q k))
           l.1 (omega (arith, enough)))
           l.2
     ] refl)

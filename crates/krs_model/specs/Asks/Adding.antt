@@ -23,8 +23,8 @@ pub data Place : Type 0 where
   Updated : ℕ → Place
   Made : ℕ → Place
 
--- a new key, where the keyring is not closed and has room, and a serial is left: profile, closed keyrings; profile, full
--- keyrings; profile, serials run out
+-- a new key, where the keyring is not closed and has room, and a serial is left: profile, closed keyrings; profile,
+-- full keyrings; profile, serials run out
 abbrev pub if_room : State → ℕ × Key → List ℕ → Option ℕ → Result Place Errno
 if_room s ring links displaced = do
   unclosed ← unless ring.1.closed EPERM

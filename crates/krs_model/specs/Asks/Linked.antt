@@ -23,9 +23,9 @@ nestable keys ring serial = do
   acyclic ← unless (closes keys serial ring) EDEADLK
   unless (has_chain keys serial nesting_depth) ELOOP
 
--- The keyring of these links may link the key: it is not closed, the link closes no cycle and nests no keyring too deep,
--- and the keyring has room. EPERM, EDEADLK, ELOOP and ENFILE come in this order: KEYCTL_LINK, "ERRORS"; profile, closed
--- keyrings; profile, full keyrings
+-- The keyring of these links may link the key: it is not closed, the link closes no cycle and nests no keyring too
+-- deep, and the keyring has room. EPERM, EDEADLK, ELOOP and ENFILE come in this order: KEYCTL_LINK, "ERRORS"; profile,
+-- closed keyrings; profile, full keyrings
 abbrev pub link_check : Table Key → ℕ × Key → List ℕ → ℕ × Key → Result (Unit {0}) Errno
 link_check keys ring links found = do
   unclosed ← unless ring.1.closed EPERM

@@ -32,7 +32,8 @@ moved_to s c exclusive found from to = do
   Ok (new, Nothing)
 
 -- a key that grants LINK, from a keyring that grants WRITE into another, which is made where it is wanted: KEYCTL_MOVE.
--- The flags are 0, or 1 for an exclusive move: profile, flags of moves; what is looked up first: profile, order of a move
+-- The flags are 0, or 1 for an exclusive move: profile, flags of moves; what is looked up first: profile, order of a
+-- move
 unfoldable pub move_link : State → ℕ → ℕ → ℤ → ℤ → ℤ → ℕ → Outcome
 move_link s client context key from to flags = do
   c ← context_of s client context

@@ -145,8 +145,8 @@ fn entries_of<'a, R: Wait>(
     Ok(list)
 }
 
-/// As many sessions at one desk, each in a thread of its own and of so many reads at most: how they ended, and what each
-/// wrote.
+/// As many sessions at one desk, each in a thread of its own and of so many reads at most: how they ended, and what
+/// each wrote.
 fn serve_at_once<R: Threads + Wait + Sync, G: Gate + Sync>(
     rt: &R,
     alloc: Global,

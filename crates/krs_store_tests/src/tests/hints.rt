@@ -6,8 +6,8 @@ use krs_types::{Blob, Desc, Fault, Kind, Name, Perm, Serial};
 use std::alloc::{AllocError, Global};
 use std::process::Abort;
 
-/// What is done to the table: a keyring comes, linked or not; links a key under the name of the key at a serial, which may
-/// be another; loses its links; is revoked; or goes.
+/// What is done to the table: a keyring comes, linked or not; links a key under the name of the key at a serial, which
+/// may be another; loses its links; is revoked; or goes.
 #[derive(Clone, Copy)]
 enum Step {
     Insert(u32),

@@ -86,8 +86,8 @@ const DETACHED: [(&str, &str); 10] = [
     ("id @u", "3"),
 ];
 
-/// A key that many keyrings link is out of each of them, however its links came and went: by UNLINK, CLEAR, MOVE, a link
-/// that took the place of another, and the end of a keyring.
+/// A key that many keyrings link is out of each of them, however its links came and went: by UNLINK, CLEAR, MOVE, a
+/// link that took the place of another, and the end of a keyring.
 #[rattlefmt::skip]
 const LINKED_BY_MANY: [(&str, &str); 30] = [
     ("hello 1000 1000", "1"),
@@ -139,8 +139,8 @@ const IN_ANOTHERS_PLACE: [(&str, &str); 12] = [
     ("print 8", "error 126 ENOKEY"),
 ];
 
-/// A keyring that three contexts and a uid attach, and that keyrings at three levels link, is out of all of them, and so
-/// is one that a process attaches; what they alone link goes along.
+/// A keyring that three contexts and a uid attach, and that keyrings at three levels link, is out of all of them, and
+/// so is one that a process attaches; what they alone link goes along.
 #[rattlefmt::skip]
 const HELD_IN_ALL_WAYS: [(&str, &str); 30] = [
     ("hello 1000 1000", "1"),

@@ -87,8 +87,8 @@ const INVALIDATED: [(&str, &str); 10] = [
     ("rlist @u", "5"),
 ];
 
-/// Keys that go at once: their removal records come by rising serial, whatever the filter, and the watches of other keys
-/// stay.
+/// Keys that go at once: their removal records come by rising serial, whatever the filter, and the watches of other
+/// keys stay.
 #[rattlefmt::skip]
 const DROPPED: [(&str, &str); 14] = [
     ("hello 1000 1000", "1"),

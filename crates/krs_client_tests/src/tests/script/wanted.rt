@@ -1,5 +1,5 @@
-//! What a store does while memory is wanted elsewhere: asks that would keep some are refused with ENOMEM, whatever there
-//! is, and no others. docs/FORMAT.md, "ENOSPC and ENOMEM".
+//! What a store does while memory is wanted elsewhere: asks that would keep some are refused with ENOMEM, whatever
+//! there is, and no others. docs/FORMAT.md, "ENOSPC and ENOMEM".
 use super::{check_rows_on, run, text_of};
 use krs_store::{KEEP_NOTHING, Store};
 use std::alloc::{AllocError, Global};

@@ -11,4 +11,5 @@ returns-in-Ok c =
 pub returns-in-Err : goal.returns-in-Err
 returns-in-Err c =
     let words = map string_bytes c.args.words.now in
-    leads_by_fault (fault_of client words) c.in-Err.error c.told.result c.in-Err.ensures.faults c.told.ensures words refl
+    leads_by_fault (fault_of client words) c.in-Err.error c.told.result c.in-Err.ensures.faults
+    c.told.ensures words refl

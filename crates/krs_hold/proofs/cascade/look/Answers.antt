@@ -73,6 +73,7 @@ returns-clause-watched g c = λ none.
       | else-has w ↦ (
         sym w.told-is ∙ none,
         unwatched_goes has c.args.keys.now.keys c.drop_key.new.keys.keys c.args.serial
-            (ap has (sym c.new.ensures) ∙ (sym c.has.ensures ∙ w.if-has.false)) (ap (λ t. t.keys) c.drop_key.ensures.keys),
+            (ap has (sym c.new.ensures) ∙ (sym c.has.ensures ∙ w.if-has.false))
+            (ap (λ t. t.keys) c.drop_key.ensures.keys),
       )
     ]

@@ -90,4 +90,5 @@ returns-in-Ok-insert_linked-clause-ok c =
 
 pub insert_linked-requires : goal.insert_linked-requires
 insert_linked-requires c =
-    subst (λ (k : Key). IsOfKind k.name.kind k.content) (sym c.new_key-key.ensures) (first_kind c.args.name.kind c.args.payload)
+    subst (λ (k : Key). IsOfKind k.name.kind k.content) (sym c.new_key-key.ensures)
+    (first_kind c.args.name.kind c.args.payload)

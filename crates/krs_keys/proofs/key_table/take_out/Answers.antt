@@ -6,7 +6,8 @@ use Rattle.krs_keys.proofs.key_table.take_out.Goals as goal
 pub returns-in_err-key-clause-sessions : goal.returns-in_err-key-clause-sessions
 returns-in_err-key-clause-sessions c =
     subst (AreSessions c.args.sessions.now)
-    (sym (c.remove.ensures.keys ∙ without_absent (by_place c.args.keys.now) c.args.serial (sym c.in_err-key.ensures.key)))
+    (sym (c.remove.ensures.keys ∙ without_absent (by_place c.args.keys.now) c.args.serial
+    (sym c.in_err-key.ensures.key)))
     c.requires.sessions
 
 pub returns-clause-sessions : goal.returns-clause-sessions

@@ -7,7 +7,8 @@ use Rattle.krs_keys.proofs.slots.links_key.Goals as goal
 pub links_at-requires : goal.links_at-requires
 links_at-requires c = record {
   named = subst (λ (o : Option Key). AreNamed (name_at (in_slots c.args.slots.now.slots c.args.places.now.entries))
-      (named_links_of_key o)) (placed c.args.slots.now.slots c.args.places.now.entries c.args.ring _ c.in-Some.ensures.value)
+      (named_links_of_key o)) (placed c.args.slots.now.slots c.args.places.now.entries c.args.ring _
+      c.in-Some.ensures.value)
       (ring_named (in_slots c.args.slots.now.slots c.args.places.now.entries) c.args.ring c.requires.fit);
 }
 

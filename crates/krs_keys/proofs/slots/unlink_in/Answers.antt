@@ -9,13 +9,15 @@ use Rattle.krs_keys.proofs.slots.unlink_in.Goals as goal
 pub unlink-requires : goal.unlink-requires
 unlink-requires c = record {
   named = subst (λ (o : Option Key). AreNamed (name_at (in_slots c.args.slots.now.slots c.args.places.now.entries))
-      (named_links_of_key o)) (placed c.args.slots.now.slots c.args.places.now.entries c.args.ring _ c.in-Some.ensures.value)
+      (named_links_of_key o)) (placed c.args.slots.now.slots c.args.places.now.entries c.args.ring _
+      c.in-Some.ensures.value)
       (ring_named (in_slots c.args.slots.now.slots c.args.places.now.entries) c.args.ring c.requires.fit);
 }
 
 pub returns-in-Some-clause-linked : goal.returns-in-Some-clause-linked
 returns-in-Some-clause-linked c =
-    c.unlink.ensures.linked ∙ ap (λ (o : Option Key). has_link c.args.serial (named_links_of_key o)) (sym (placed c.args.slots.now.slots c.args.places.now.entries c.args.ring _ c.in-Some.ensures.value))
+    c.unlink.ensures.linked ∙ ap (λ (o : Option Key). has_link c.args.serial (named_links_of_key o))
+    (sym (placed c.args.slots.now.slots c.args.places.now.entries c.args.ring _ c.in-Some.ensures.value))
 
 pub returns-in-Some-clause-keys : goal.returns-in-Some-clause-keys
 returns-in-Some-clause-keys c =
@@ -24,9 +26,11 @@ returns-in-Some-clause-keys c =
 
 pub returns-in-None-clause-linked : goal.returns-in-None-clause-linked
 returns-in-None-clause-linked c =
-    sym (ap (λ (o : Option Key). has_link c.args.serial (named_links_of_key o)) (placed c.args.slots.now.slots c.args.places.now.entries c.args.ring _ c.in-None.ensures.value))
+    sym (ap (λ (o : Option Key). has_link c.args.serial (named_links_of_key o))
+    (placed c.args.slots.now.slots c.args.places.now.entries c.args.ring _ c.in-None.ensures.value))
 
 pub returns-in-None-clause-keys : goal.returns-in-None-clause-keys
 returns-in-None-clause-keys c =
     sym (alter_none (in_slots c.args.slots.now.slots c.args.places.now.entries) c.args.ring
-    (without_key c.args.serial) (placed c.args.slots.now.slots c.args.places.now.entries c.args.ring _ c.in-None.ensures.value))
+    (without_key c.args.serial) (placed c.args.slots.now.slots c.args.places.now.entries c.args.ring _
+    c.in-None.ensures.value))

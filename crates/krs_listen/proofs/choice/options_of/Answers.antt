@@ -18,5 +18,6 @@ returns c =
     (one_text found (codes "accept")) c.get_one-accept.result (λ t r h. h.0) c.get_one-accept.ensures.none
     c.get_one-accept.ensures.value in
     gives_made found c.new.result c.in-Some-get_one.lanes c.get_one-accept.result c.new.ensures.fits
-    (some_weaker c.new.result _ _ (λ options same. socket ∙ ap (λ p. Some (string_bytes p)) (sym same)) c.new.ensures.path)
+    (some_weaker c.new.result _ _ (λ options same. socket
+    ∙ ap (λ p. Some (string_bytes p)) (sym same)) c.new.ensures.path)
     c.new.ensures.lanes c.new.ensures.accept lanes accept

@@ -25,7 +25,8 @@ returns-else-starts_with-clause-each c = λ r h b.
     absurd (true≢false (sym (starts.1 b.0 (sym b.1 ∙ ap (λ (xs : List ℕ). xs ++ b.0) (sym own)))))
 
 pub returns-in_err-note-clause-each : goal.returns-in_err-note-clause-each
-returns-in_err-note-clause-each c = λ r h b. absurd (none-some _ (c.in_err-note.ensures ∙ guess-begins r c.args.bytes.now h b))
+returns-in_err-note-clause-each c = λ r h b. absurd
+    (none-some _ (c.in_err-note.ensures ∙ guess-begins r c.args.bytes.now h b))
 
 pub returns-then-starts_with-clause-each : goal.returns-then-starts_with-clause-each
 returns-then-starts_with-clause-each c = λ r h b.

@@ -10,4 +10,5 @@ unfolding request request_named
 returns-clause-step c =
     subst (λ (sought : Result Name Errno). Leads c.args.tables.now c.request_named.result c.request_named.new.tables
     (request_named c.args.tables.now c.args.client c.args.number sought c.args.dest))
-    (sym (as_sought _ _ c.sought_name-name.ensures)) (rw (to_z-of_z w32 c.args.dest c.ranges.dest) at c.request_named.ensures.step)
+    (sym (as_sought _ _ c.sought_name-name.ensures))
+    (rw (to_z-of_z w32 c.args.dest c.ranges.dest) at c.request_named.ensures.step)

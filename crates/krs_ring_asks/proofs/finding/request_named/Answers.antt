@@ -53,7 +53,8 @@ returns-in_err-serial-clause-step c =
     let s = c.args.tables.now in
     let x = c.in_ok-context.context.now in
     let l = requests_new c.in-Some.special s c.args.client c.args.number c.args.name.now c.args.dest x
-    c.in_ok-name.name.now c.requires.sound c.ranges.dest c.in_ok-context.ensures c.in_ok-name.ensures c.if-dest-eq0.false
+    c.in_ok-name.name.now c.requires.sound c.ranges.dest c.in_ok-context.ensures
+    c.in_ok-name.ensures c.if-dest-eq0.false
     c.in-Some.ensures.makes in
     let told = request_new_refused c.in-Some.special s c.args.client c.args.number c.args.name.now
     c.args.dest x c.in_ok-name.name.now c.in_err-serial.field-0.0 l c.in_err-serial.ensures in
@@ -65,7 +66,8 @@ returns-in-Some-clause-step c =
     let s = c.args.tables.now in
     let x = c.in_ok-context.context.now in
     let l = requests_new c.in-Some.special s c.args.client c.args.number c.args.name.now c.args.dest x
-    c.in_ok-name.name.now c.requires.sound c.ranges.dest c.in_ok-context.ensures c.in_ok-name.ensures c.if-dest-eq0.false
+    c.in_ok-name.name.now c.requires.sound c.ranges.dest c.in_ok-context.ensures
+    c.in_ok-name.ensures c.if-dest-eq0.false
     c.in-Some.ensures.makes in
     let same = request_new_links c.in-Some.special s c.args.client c.args.number c.args.name.now
     c.args.dest x c.in_ok-name.name.now c.in_ok-serial.serial l c.in_ok-serial.ensures in

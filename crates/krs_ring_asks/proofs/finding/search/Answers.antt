@@ -10,4 +10,6 @@ unfolding search_from search_named
 returns-clause-step c =
     subst (λ (sought : Result Name Errno). Leads c.args.tables.now c.search_named.result c.search_named.new.tables
     (search_named c.args.tables.now c.args.client c.args.number c.args.head sought c.args.dest))
-    (sym (as_sought _ _ c.sought_name-name.ensures)) (rw (to_z-of_z w32 c.args.head c.ranges.head, to_z-of_z w32 c.args.dest c.ranges.dest) at c.search_named.ensures.step)
+    (sym (as_sought _ _ c.sought_name-name.ensures))
+    (rw (to_z-of_z w32 c.args.head c.ranges.head, to_z-of_z w32 c.args.dest c.ranges.dest) at
+    c.search_named.ensures.step)

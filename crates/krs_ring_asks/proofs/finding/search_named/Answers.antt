@@ -78,7 +78,8 @@ returns-in_err-serial-clause-step c =
     c.args.dest x c.in_ok-name.name.now from c.requires.sound c.ranges.head c.ranges.dest c.in_ok-context.ensures
     c.in_ok-name.ensures
     c.in_ok-head.ensures.found c.if-dest-eq0.false c.in-Some.ensures.makes in
-    let told = search_new_refused c.in-Some.special s c.args.client c.args.number c.args.head c.args.name.now c.args.dest x c.in_ok-name.name.now from c.in_err-serial.field-0.0 l c.in_err-serial.ensures in
+    let told = search_new_refused c.in-Some.special s c.args.client c.args.number c.args.head c.args.name.now
+    c.args.dest x c.in_ok-name.name.now from c.in_err-serial.field-0.0 l c.in_err-serial.ensures in
     let answer = err_from_is_err_and c.from_residual-in_err-serial.result c.from_residual-in_err-serial.ensures.1 in
     rw (answer.1, answer.2) told
 
@@ -91,7 +92,8 @@ returns-in-Some-clause-step c =
     c.args.dest x c.in_ok-name.name.now from c.requires.sound c.ranges.head c.ranges.dest c.in_ok-context.ensures
     c.in_ok-name.ensures
     c.in_ok-head.ensures.found c.if-dest-eq0.false c.in-Some.ensures.makes in
-    let same = search_new_links c.in-Some.special s c.args.client c.args.number c.args.head c.args.name.now c.args.dest x c.in_ok-name.name.now from c.in_ok-serial.serial l c.in_ok-serial.ensures in
+    let same = search_new_links c.in-Some.special s c.args.client c.args.number c.args.head c.args.name.now c.args.dest
+    x c.in_ok-name.name.now from c.in_ok-serial.serial l c.in_ok-serial.ensures in
     subst (Leads s c.link_found_new.result c.link_found_new.new.tables) (sym same) c.link_found_new.ensures
 
 pub returns-clause-memory : goal.returns-clause-memory

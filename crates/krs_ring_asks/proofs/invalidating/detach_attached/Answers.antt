@@ -6,7 +6,8 @@ use Rattle.krs_ring_asks.proofs.invalidating.detach_attached.Goals as goal
 
 pub invariant_of-tables : goal.invariant_of-tables
 invariant_of-tables c =
-    (unattached_told c.tables.inside c.args.serial _ _ c.tables.invariant c.detach.ensures c.let_go_attached.ensures).sound
+    (unattached_told c.tables.inside c.args.serial _ _ c.tables.invariant c.detach.ensures
+    c.let_go_attached.ensures).sound
 
 pub returns : goal.returns
 returns c =

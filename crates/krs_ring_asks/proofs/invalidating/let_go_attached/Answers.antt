@@ -11,9 +11,11 @@ returns c =
     let serial = c.args.serial in
     less_attached serial _ _ _ _ _ _ _
     (c.let_go_contexts.ensures
-    ∙ ap (λ (es : Table Context). all_less (those serial (context_roots es)) c.args.holders.now) c.contexts.ensures.value)
+    ∙ ap (λ (es : Table Context). all_less (those serial (context_roots es)) c.args.holders.now)
+    c.contexts.ensures.value)
     (c.let_go_processes.ensures
     ∙ ap (λ (es : Table (Option ℕ)). all_less (those serial (process_roots es)) c.let_go_contexts.new.holders)
     c.processes.ensures)
     (c.let_go_uids.ensures
-    ∙ ap (λ (es : Table UidRings). all_less (those serial (uid_roots es)) c.let_go_processes.new.holders) c.uids.ensures)
+    ∙ ap (λ (es : Table UidRings). all_less (those serial (uid_roots es))
+    c.let_go_processes.new.holders) c.uids.ensures)

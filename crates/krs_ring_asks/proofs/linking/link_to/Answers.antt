@@ -42,7 +42,8 @@ returns-in_err-put_link c =
     let there = makes_own None s c.args.client c.args.number x c.args.ring own c.requires.there in
     let l =
     looks_up s c.args.client c.args.number c.args.key c.args.ring x into found _ c.ranges.key c.ranges.ring own
-    there c.in_ok-ring.ensures.found c.in_ok-serial.ensures.found c.in_ok-links_of.ensures c.in_ok-check_open.ensures nests in
+    there c.in_ok-ring.ensures.found c.in_ok-serial.ensures.found c.in_ok-links_of.ensures
+    c.in_ok-check_open.ensures nests in
     let puts : Puts s (Err c.in_err-put_link.field-0.0) c.put_link.new.tables into.0 (name_of found.1) found.0 =
     put_under s c.put_link.new.tables (Err c.in_err-put_link.field-0.0) into.0 found.0 found.1
     (key_looked_up s _ x _ found c.in_ok-serial.ensures.found)
@@ -65,7 +66,8 @@ returns c =
     let there = makes_own None s c.args.client c.args.number x c.args.ring own c.requires.there in
     let l =
     looks_up s c.args.client c.args.number c.args.key c.args.ring x into found _ c.ranges.key c.ranges.ring own
-    there c.in_ok-ring.ensures.found c.in_ok-serial.ensures.found c.in_ok-links_of.ensures c.in_ok-check_open.ensures nests in
+    there c.in_ok-ring.ensures.found c.in_ok-serial.ensures.found c.in_ok-links_of.ensures
+    c.in_ok-check_open.ensures nests in
     let puts : Puts s (Ok (tt {0})) c.put_link.new.tables into.0 (name_of found.1) found.0 =
     put_under s c.put_link.new.tables (Ok (tt {0})) into.0 found.0 found.1
     (key_looked_up s _ x _ found c.in_ok-serial.ensures.found)

@@ -23,7 +23,8 @@ returns-in-Some c =
     let same = move_new_is special s c.args.client c.args.number c.args.key c.args.from c.args.to c.args.flags x found
     source l new
     ∙ (ap (λ (k : ℕ). moved_new special s c.args.client c.args.number k source.0) (sym c.new-serial.ensures)
-    ∙ ap (λ (k : ℕ). moved_new special s c.args.client c.args.number c.new-serial.result k) (sym c.new-first.ensures)) in
+    ∙ ap (λ (k : ℕ). moved_new special s c.args.client c.args.number c.new-serial.result k)
+    (sym c.new-first.ensures)) in
     subst (Leads s c.move_to_new.result c.move_to_new.new.tables) (sym same) c.move_to_new.ensures
 
 pub returns-in-None : goal.returns-in-None

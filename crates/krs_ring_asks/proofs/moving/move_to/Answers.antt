@@ -57,7 +57,8 @@ returns-in_err-move_over c =
     let told = move_failed c.args.tables.now c.move_over.new.tables c.args.client c.args.number c.args.link.serial
     c.args.link.from c.args.to c.args.flags c.in_ok-context.context.now (seen c.in_ok-key.key.now)
     (seen c.in_ok-source.source.now) (c.in_ok-into.into, seen c.in_ok-into.ring.now) c.in_err-move_over.field-0.0
-    (may (goal.at.returns-in_err-move_over c).After-move_over) (rw (sym c.new-into.ensures) c.in_err-move_over.ensures) in
+    (may (goal.at.returns-in_err-move_over c).After-move_over)
+    (rw (sym c.new-into.ensures) c.in_err-move_over.ensures) in
     let answer = err_from_is_err_and c.from_residual-in_err-move_over.result
     c.from_residual-in_err-move_over.ensures.1 in
     rw (answer.1, answer.2) told

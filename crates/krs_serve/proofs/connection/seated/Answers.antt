@@ -13,7 +13,8 @@ sitting_of-requires-clause-own g c =
 pub sitting_of-requires-clause-empty : goal.sitting_of-requires-clause-empty
 sitting_of-requires-clause-empty g c =
     rw c.in-Some.is at
-    (All-pop (λ (s : Sitting). s.opening ≡ starting_at 3) _ _ c.pop.result c.pop.ensures.items c.seats.invariant.empty).1
+    (All-pop (λ (s : Sitting). s.opening ≡ starting_at 3) _ _ c.pop.result c.pop.ensures.items
+    c.seats.invariant.empty).1
 
 pub sitting_of-requires-clause-just : goal.sitting_of-requires-clause-just
 sitting_of-requires-clause-just g c =

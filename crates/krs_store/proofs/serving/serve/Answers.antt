@@ -8,8 +8,10 @@ use Rattle.krs_store.proofs.serving.serve.Goals as goal
 
 pub returns-then-not-has_watches-clause-told : goal.returns-then-not-has_watches-clause-told
 returns-then-not-has_watches-clause-told c =
-    unwatched_told c.args.tables.now c.run-then-not-has_watches.new.tables c.args.client c.args.ask.context c.args.ask.op c.run-then-not-has_watches.result
-    (sym (ap (λ (t : State). t.watches) c.tables.view_is) ∙ c.has_watches.ensures.0 c.if-not-has_watches.true) c.run-then-not-has_watches.ensures.step
+    unwatched_told c.args.tables.now c.run-then-not-has_watches.new.tables c.args.client c.args.ask.context
+    c.args.ask.op c.run-then-not-has_watches.result
+    (sym (ap (λ (t : State). t.watches) c.tables.view_is) ∙ c.has_watches.ensures.0 c.if-not-has_watches.true)
+    c.run-then-not-has_watches.ensures.step
 
 pub returns-then-not-tells-clause-told : goal.returns-then-not-tells-clause-told
 returns-then-not-tells-clause-told c =

@@ -48,7 +48,8 @@ taking-preserved c =
     let longer : vec_len after ≡ vec_len bytes + length (bytes_of r) = omega (arith, had, has, added) in
     let less : next ≡ left - length (bytes_of r) = omega (arith, longer) in
     let behind_first : c.take.new.self.waiting ≡ drop 1 rs = ap (λ (t : Ring). t.waiting) c.take.ensures.rest in
-    let size = size_goes_on left next rs c.take.new.self.waiting r bytes.items after.items taken less behind_first more in
+    let size = size_goes_on left next rs c.take.new.self.waiting r bytes.items after.items taken
+    less behind_first more in
     let grown = c.taking.invariant.grown in
     let bound = c.taking.invariant.bound in
     let within = c.taking.invariant.within in

@@ -6,4 +6,5 @@ use Rattle.krs_watch.proofs.queues.is_watched.Goals as goal
 pub loop-place-init : goal.loop-place-init
 loop-place-init c =
     watched_alike c.args.key c.into_iter-place-iterator.result c.args.watches.now.entries
-    (ap (λ (ws : List Watch). watches_at c.args.key ws) c.into_iter-place-iterator.ensures.into_iter_gives ∙ c.around-place-items.ensures)
+    (ap (λ (ws : List Watch). watches_at c.args.key ws) c.into_iter-place-iterator.ensures.into_iter_gives
+    ∙ c.around-place-items.ensures)

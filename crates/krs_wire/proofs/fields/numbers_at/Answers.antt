@@ -24,4 +24,5 @@ returns-in-Err-clause-read c =
 
 pub returns-then-bytes-count-clause-read : goal.returns-then-bytes-count-clause-read
 returns-then-bytes-count-clause-read c = λ other.
-    ap (λ o. or_bad_body o) (too_many (number w32) 4 number_long c.args.count c.args.bytes.now (omega (arith, c.if-bytes-count.true)))
+    ap (λ o. or_bad_body o) (too_many (number w32) 4 number_long c.args.count c.args.bytes.now
+    (omega (arith, c.if-bytes-count.true)))

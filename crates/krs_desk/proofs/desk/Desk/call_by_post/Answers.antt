@@ -13,5 +13,6 @@ returns-in-Some-collect-2 g c = record {
       (waits_helped c.args.self.now c.args.seat.now c.collect.new.seat c.help-helped.new.seat c.args.moment c.args.ask
       c.help-helped.result
       (waits_still c.args.self.now c.args.seat.now c.loop.seat c.collect.new.seat c.args.moment c.args.ask
-      c.loop.invariant.waits (search rules)) c.help-helped.ensures.helped) c.in-Some-collect-2.ensures.some (search rules);
+      c.loop.invariant.waits (search rules)) c.help-helped.ensures.helped)
+      c.in-Some-collect-2.ensures.some (search rules);
 }

@@ -1,5 +1,6 @@
 use Rattle.std.proofs.Common.{arith, rules, sym}
-use Rattle.krs_desk.proofs.KeptTurns.{goes_finished, may_ask, none_free, none_kept, placed, placed_on, quiet_at, turn_called}
+use Rattle.krs_desk.proofs.KeptTurns.{goes_finished, may_ask, none_free, none_kept, placed, placed_on, quiet_at}
+use Rattle.krs_desk.proofs.KeptTurns.turn_called
 use Rattle.krs_desk.proofs.{KeptTurns.unkept, Seats.missed_seated, Turns.{in_turn, turn_looked, turn_on, turn_seated}}
 use Rattle.krs_desk.proofs.desk.Desk.call_in_turn.Goals as goal
 
@@ -52,7 +53,8 @@ returns-then-may_keep-clause-called g c =
     let gone = c.serve_all-answered.ensures.gone in
     let t = turn_on (in_turn (unkept c.seat.invariant.0 c.seat.view_is c.requires.rested) had) gone in
     let f = goes_finished c.go_on-told.ensures.gone in
-    turn_called c.seat.view_is (search rules) c.requires.idle.1 t f (turn_looked c.args.self.now c.seat.view_is had gone f)
+    turn_called c.seat.view_is (search rules) c.requires.idle.1 t f
+    (turn_looked c.args.self.now c.seat.view_is had gone f)
     (search rules)
 
 pub invariant_of-seat-2 : goal.invariant_of-seat-2
@@ -71,5 +73,6 @@ returns-clause-called g c =
     let gone = c.serve_all-answered.ensures.gone in
     let t = turn_on (in_turn (unkept c.seat.invariant.0 c.seat.view_is c.requires.rested) had) gone in
     let f = c.finish.ensures.finished in
-    turn_called c.seat.view_is (search rules) c.requires.idle.1 t f (turn_looked c.args.self.now c.seat.view_is had gone f)
+    turn_called c.seat.view_is (search rules) c.requires.idle.1 t f
+    (turn_looked c.args.self.now c.seat.view_is had gone f)
     (search rules)

@@ -13,4 +13,5 @@ returns-clause-seen c =
 
 pub returns-clause-always : goal.returns-clause-always
 returns-clause-always c =
-    subst (λ (s : Sitting). GivesStreams s.opening) c.self.view_is (gives_streams _ (knows _ _ _ _ c.self.invariant.0).sound)
+    subst (λ (s : Sitting). GivesStreams s.opening) c.self.view_is
+    (gives_streams _ (knows _ _ _ _ c.self.invariant.0).sound)

@@ -10,7 +10,8 @@ use Rattle.krs_keys.proofs.placed.PlacedKeys.change.Goals as goal
 pub returns-in-Some-clause-keys : goal.returns-in-Some-clause-keys
 returns-in-Some-clause-keys c =
     in_slots_alter c.args.self.now.slots.slots c.change.new.slots.slots c.args.self.now.places.entries
-    c.in-Some.place (changed c.args.change) c.requires.places c.change.ensures c.args.serial (sym c.in-Some.ensures.value)
+    c.in-Some.place (changed c.args.change) c.requires.places c.change.ensures c.args.serial
+    (sym c.in-Some.ensures.value)
 
 pub returns-in-Some-clause-placed : goal.returns-in-Some-clause-placed
 returns-in-Some-clause-placed c = record {

@@ -9,11 +9,13 @@ returns-in-Some-least c =
     ap (λ n. Some n) c.new.ensures
     ∙ (sym c.in-Some-least.is
     ∙ joinable_is c.args.clock c.args.caller.now c.args.desc.now (by_place placed) c.loop-ring.ring-iterator
-    c.loop-ring.least (rises_in_slots placed.slots.slots placed.places.entries) c.in-None.ensures.steps.0 c.loop-ring.invariant)
+    c.loop-ring.least (rises_in_slots placed.slots.slots placed.places.entries) c.in-None.ensures.steps.0
+    c.loop-ring.invariant)
 
 pub returns-in-None-least : goal.returns-in-None-least
 returns-in-None-least c =
     let placed = c.args.self.now in
     sym c.in-None-least.is
     ∙ joinable_is c.args.clock c.args.caller.now c.args.desc.now (by_place placed) c.loop-ring.ring-iterator
-    c.loop-ring.least (rises_in_slots placed.slots.slots placed.places.entries) c.in-None.ensures.steps.0 c.loop-ring.invariant
+    c.loop-ring.least (rises_in_slots placed.slots.slots placed.places.entries) c.in-None.ensures.steps.0
+    c.loop-ring.invariant

@@ -6,4 +6,5 @@ pub returns : goal.returns
 returns c =
     let index = c.args.self.now in
     sym (no_place index.seed index.span c.args.digest c.args.name.now index.entries.entries c.len-len.ensures.unique
-    c.requires.indexed c.requires.digest (λ s below. c.loop-steps.invariant s (omega (arith, below, c.loop-steps-test.false))))
+    c.requires.indexed c.requires.digest (λ s below. c.loop-steps.invariant s
+    (omega (arith, below, c.loop-steps-test.false))))

@@ -32,7 +32,8 @@ loop-link-preserved c =
     let i = c.loop-link.link-index in
     let link = c.link-item.result in
     let same : c.as_slice-links.result.now ≡ values_of entries = c.as_slice-links.ensures ∙ c.values.ensures.rest in
-    let within : i < length (values_of entries) = subst (λ (xs : List Link). i < length xs) same c.loop-link-test.true in
+    let within : i < length (values_of entries) = subst (λ (xs : List Link). i < length xs) same
+    c.loop-link-test.true in
     let is : link ≡ get_or (values_of entries) i link =
     subst (λ (xs : List Link). link ≡ get_or xs i link) same c.link-item.is in
     let here = serial_there entries i link within is in

@@ -36,7 +36,8 @@ unfolding Step
 returns-in-Ok-clause-step g c =
     rw c.accepted.ensures.reply
     (rw (← c.self.view_is)
-    (subst (λ (s : State). Serves s c.args.client c.args.ask.context c.args.ask.op (answer_of c.in-Ok.given) c.sweep.new.self)
+    (subst (λ (s : State). Serves s c.args.client c.args.ask.context c.args.ask.op
+    (answer_of c.in-Ok.given) c.sweep.new.self)
     c.raise.ensures (serves_in_turn c.in-Ok.ensures.told c.sweep.ensures)))
 
 pub returns-in-Err-Refused-clause-memory : goal.returns-in-Err-Refused-clause-memory

@@ -9,7 +9,8 @@ use Rattle.krs_tables.proofs.tables.Tables.look_up.Goals as goal
 pub returns-in_default-clause-found : goal.returns-in_default-clause-found
 returns-in_default-clause-found c =
     looked_for c.args.self.now c.args.context.now c.args.id c.args.want c.in_ok-serial.serial
-    (ap (serial_of c.args.self.now c.args.context.now) (sym (to_z-of_z w32 c.args.id c.ranges.id)) ∙ c.in_ok-serial.ensures)
+    (ap (serial_of c.args.self.now c.args.context.now) (sym (to_z-of_z w32 c.args.id c.ranges.id))
+    ∙ c.in_ok-serial.ensures)
     (kept_nowhere c.self.inside c.args.self.now c.in_ok-serial.serial c.self.view_is
     (sym c.get.ensures ∙ ap option_copied c.in_default.is))
 

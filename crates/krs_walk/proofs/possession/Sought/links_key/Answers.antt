@@ -9,7 +9,8 @@ returns-in-Some c =
     c.is_some.ensures
     ∙ followed_links s.keys.now.keys s.clock s.context.now.caller c.args.ring s.serial c.in-Some.holder.now s.name.now
     c.link_place.result c.requires.fit (sym c.get.ensures ∙ ap option_copied c.in-Some.is)
-    (sym c.is_followed.ensures ∙ c.if-is_followed.true) c.requires.name c.link_place.ensures.there c.link_place.ensures.none
+    (sym c.is_followed.ensures ∙ c.if-is_followed.true) c.requires.name c.link_place.ensures.there
+    c.link_place.ensures.none
 
 pub returns-in_default : goal.returns-in_default
 returns-in_default c =

@@ -7,6 +7,7 @@ returns-clause-session g c =
       s.frames,
       s.events ++ s.last ∷ [],
       c.a_session_is_its_asks_and_leave.ensures c.args.seat.now c.run-ended.new.seat c.new-reader.result
-          c.run-ended.new.reader c.new-writer.result c.run-ended.new.writer (record { at = 100 }) c.run-ended.new.clock _ _
+          c.run-ended.new.reader c.new-writer.result c.run-ended.new.writer (record { at = 100 })
+          c.run-ended.new.clock _ _
           c.run-ended.result s,
     )
