@@ -23,7 +23,7 @@ use Rattle.krs_desk.proofs.Going.{SameCalls}
 use Rattle.krs_desk.proofs.{Joining.{views_cut, views_twice}, Looking.not_both}
 use Rattle.krs_desk.proofs.Making.{AreSeats, MakesSteps, out_set, reads_words, Replaced, seats_as, seats_set, steps_as}
 use Rattle.krs_desk.proofs.Running.{by_cut, by_join, now_views, seen_sits, stays_there, step_grows, was_seated}
-use Rattle.krs_desk.proofs.Running.was_there
+use Rattle.krs_desk.proofs.Running.{was_there}
 use Rattle.krs_desk.proofs.Running.{within}
 use Rattle.krs_desk.proofs.TurnSteps.{turn, view_at}
 use Rattle.krs_world.proofs.Keeping as law

@@ -23,9 +23,9 @@ use Rattle.krs_desk.proofs.Adding.{afterwards, before, last_same, named, one_ste
 use Rattle.krs_desk.proofs.Agreeing.{Agrees, agrees, free_turn, history_of, is_world, known_at, not_dealing, out_here}
 use Rattle.krs_desk.proofs.Agreeing.{out_turn, seat_there}
 use Rattle.krs_desk.proofs.Going.{cell_stays, keeps_served, last_same_of, not_longer, one_call, same_serving}
-use Rattle.krs_desk.proofs.Going.same_world
+use Rattle.krs_desk.proofs.Going.{same_world}
 use Rattle.krs_desk.proofs.{Going.SameCalls, Looking.not_both, Running.{stays_there, was_seated, within}}
-use Rattle.krs_desk.proofs.TurnSteps.turn
+use Rattle.krs_desk.proofs.TurnSteps.{turn}
 use Rattle.krs_desk.specs.Machine as machine
 use Rattle.krs_desk.specs.Moves as move
 use Rattle.krs_world.proofs.Keeping as law

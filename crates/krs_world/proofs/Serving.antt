@@ -15,7 +15,7 @@ use Rattle.krs_world.specs.declared.view.{Part.Part, Service.Service, Standing.T
 use Rattle.krs_world.proofs.Keeping.{own, seats_stay, stays, views_open}
 use Rattle.krs_world.proofs.Lanes.{celled_else, celled_here, each_set, fits_more, fits_same, held_set, other_event}
 use Rattle.krs_world.proofs.Lanes.{holds_is, known_is, one_history, others_stand, own_event, prefix_more, set_at}
-use Rattle.krs_world.proofs.Lanes.shares
+use Rattle.krs_world.proofs.Lanes.{shares}
 
 looked_fits : (p : Part) (log : List Event) (lane : ℕ) (c : Cell) (finished : Bool)
     → (finished ≡ true → (m : ℕ) × (ask : Ask) × (r : Result Answer Errno) × (c ≡ Answered m ask r)) → Fits log p c

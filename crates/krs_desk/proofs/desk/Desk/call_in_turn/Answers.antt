@@ -1,6 +1,6 @@
 use Rattle.std.proofs.Common.{arith, rules, sym}
 use Rattle.krs_desk.proofs.KeptTurns.{goes_finished, may_ask, none_free, none_kept, placed, placed_on, quiet_at}
-use Rattle.krs_desk.proofs.KeptTurns.turn_called
+use Rattle.krs_desk.proofs.KeptTurns.{turn_called}
 use Rattle.krs_desk.proofs.{KeptTurns.unkept, Seats.missed_seated, Turns.{in_turn, turn_looked, turn_on, turn_seated}}
 use Rattle.krs_desk.proofs.desk.Desk.call_in_turn.Goals as goal
 
