@@ -9,14 +9,6 @@
 #include "../../guard/listener.h"
 #include "launch.h"
 
-#include <linux/magic.h>
-#include <sys/statvfs.h>
-#include <sys/vfs.h>
-#include <sys/xattr.h>
-
-#ifndef FUSE_SUPER_MAGIC
-#define FUSE_SUPER_MAGIC 0x65735546
-#endif
 #ifndef KEYRETAIN_LIBRARY_FOLDER
 #define KEYRETAIN_LIBRARY_FOLDER "/usr/local/lib/keyretain"
 #endif
@@ -153,82 +145,31 @@ static void export_socket(const char *path) {
     set_variable("KEYRETAIN_SOCKET", path);
 }
 
-static const char *named_folder(void) {
-    const char *named = getenv("KEYRETAIN_LIBRARY_FOLDER");
-    return named && *named ? named : NULL;
-}
-
-static const char *library_folder(void) { return named_folder() ? named_folder() : KEYRETAIN_LIBRARY_FOLDER; }
-
-/* Whether a user says whose what is there is: of FUSE its program, of a disk that it may mount who has written that.
- * Such a disk is nosuid, as others may be: root alone is so careful. */
-static bool is_told_by_user(int file, const struct stat *status, const struct stat *root) {
-    struct statfs system;
-    if (fstatfs(file, &system) < 0) return true;
-    bool may_be_disk = geteuid() == 0 && system.f_flags & ST_NOSUID && system.f_type != TMPFS_MAGIC;
-    return status->st_dev != root->st_dev && (system.f_type == FUSE_SUPER_MAGIC || may_be_disk);
-}
-
-/* Ends where somebody else may change what is there. Of a folder above the library's another user may write to one such
- * as /tmp, where each may rename its own alone; and who owns / is root, which may have no number in a user namespace. A
- * group with its owner's number is the owner's own, unless a list names others: acl(5). A link is anybody's. All is
- * asked of what was opened: a server of FUSE may unmount its own before it tells whose that is. */
-static void refuse_others(const char *path, bool is_above) {
-    struct stat status, root;
-    int file = open(path, O_PATH | O_NOFOLLOW | O_CLOEXEC);
-    if (file < 0 || fstat(file, &status) < 0) fail(NO_CONNECTION, path);
-    bool is_told = stat("/", &root) == 0 && !is_told_by_user(file, &status, &root);
-    bool is_own = is_told && (status.st_uid == geteuid() || status.st_uid == 0 ||
-                              (is_above && status.st_uid == root.st_uid));
-    bool is_listed = lgetxattr(path, "system.posix_acl_access", NULL, 0) > 0;
-    mode_t writers = status.st_gid == status.st_uid && !is_listed ? S_IWOTH : S_IWGRP | S_IWOTH;
-    close(file);
-    errno = EACCES;
-    if (!is_own || (status.st_mode & writers && !(is_above && status.st_mode & S_ISVTX))) fail(NO_CONNECTION, path);
-}
-
-/* What the environment names may be another user's, as after su(1), and what is run would load it. So each folder on
- * the way is looked at, from / on, and no link is followed: what stands below one that is safe stays there. */
-static void check_folder(char *folder) {
-    for (char *end = folder; end;) {
-        end = strchr(end + 1, '/');
-        if (end) *end = '\0';
-        refuse_others(folder, end != NULL);
-        if (end) *end = '/';
-    }
-}
-
 /* Programs are to find our libkeyutils.so.1 before the system's, wherever they run. Without it they would use the
  * kernel's keys, and nothing would say so. */
 static void export_library(void) {
+    static const char library[] = KEYRETAIN_LIBRARY_FOLDER "/libkeyutils.so.1";
     const char *others = getenv("LD_LIBRARY_PATH");
-    char library[PATH_MAX + 32], *folders;
-    char *folder = realpath(library_folder(), NULL);
-    if (!folder) fail(NO_CONNECTION, library_folder());
-    snprintf(library, sizeof library, "%s/libkeyutils.so.1", folder);
-    if (named_folder()) check_folder(folder);
+    char *folders;
     if (access(library, R_OK) < 0) fail(NO_CONNECTION, library);
-    if (named_folder()) refuse_others(library, false);
     if (!others) others = "";
-    if (asprintf(&folders, "%s%s%s", folder, *others ? ":" : "", others) < 0) fail(REFUSED, "LD_LIBRARY_PATH");
+    if (asprintf(&folders, "%s%s%s", KEYRETAIN_LIBRARY_FOLDER, *others ? ":" : "", others) < 0)
+        fail(REFUSED, "LD_LIBRARY_PATH");
     set_variable("LD_LIBRARY_PATH", folders);
     free(folders);
-    free(folder);
 }
 
 /* A program that found our library would have two sessions: that of its system calls, and that of the library's. So
  * what a keyretain-session around this one has set is taken away. */
 static void hide_library(void) {
-    char *folder = realpath(library_folder(), NULL), *others = getenv("LD_LIBRARY_PATH");
-    size_t length = folder ? strlen(folder) : 0;
+    const size_t length = strlen(KEYRETAIN_LIBRARY_FOLDER);
+    const char *folders = getenv("LD_LIBRARY_PATH");
     unsetenv(KR_SESSION_VARIABLE);
-    if (folder && others && strncmp(others, folder, length) == 0) {
-        if (others[length] == ':')
-            set_variable("LD_LIBRARY_PATH", others + length + 1);
-        else if (others[length] == '\0')
-            unsetenv("LD_LIBRARY_PATH");
-    }
-    free(folder);
+    if (!folders || strncmp(folders, KEYRETAIN_LIBRARY_FOLDER, length) != 0) return;
+    if (folders[length] == ':')
+        set_variable("LD_LIBRARY_PATH", folders + length + 1);
+    else if (folders[length] == '\0')
+        unsetenv("LD_LIBRARY_PATH");
 }
 
 /* ---- Sessions ---- */

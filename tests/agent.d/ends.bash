@@ -98,7 +98,7 @@ try_held_server() {
   rm -rf "$held" "$held.held" && mkdir "$held"
   begin_agent
   unshare -m python3 -B "$lib/served.py" "$held" read "$dir/runtime" "$socket" a -- sh -c 'echo $$ >"$0.pid"
-    exec "$@"' "$held" python3 -c "$asks_by_file" "$held/libkeyutils.so.1" </dev/null >/dev/null 2>&1 &
+    exec "$@"' "$held" python3 -c "$asks_by_file" "$held/file" </dev/null >/dev/null 2>&1 &
   container=$!
   until_true is_held_or_none
   if [ -e "$held.held" ]; then

@@ -323,7 +323,6 @@ class Calls(OfDaemon):
 
     def begin(self):
         env = environment(KEYRETAIN_SOCKET=self.daemon.path,
-                          KEYRETAIN_LIBRARY_FOLDER=os.path.dirname(Programs.keyutils),
                           PYTHONPATH=os.environ.get("PYTHONPATH", ""))
         self.program = Process([*self.words(), "python3", "-B", f"{os.path.dirname(__file__)}/calls.py", self.by()],
                                env)

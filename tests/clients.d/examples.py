@@ -33,7 +33,7 @@ def programs():
 
 def run(words, session=""):
     environment = {**os.environ, "KEYRETAIN_SOCKET": path, "LD_LIBRARY_PATH": built, "KEYRETAIN_SESSION": session,
-                   "KEYRETAIN_LIBRARY_FOLDER": built, "PATH": f"{built}:{os.environ['PATH']}",
+                   "PATH": f"{built}:{os.environ['PATH']}",
                    "PYTHONPATH": os.path.join(TOP, "clients/python")}
     ended = subprocess.run(words, env=environment, stdout=subprocess.PIPE, stderr=subprocess.STDOUT, timeout=60,
                            text=True, check=False)

@@ -57,16 +57,16 @@ try_words_of_programs() {
 
 try_faults() {
   says 'no daemon' 3 'start one: systemctl --user enable --now keyretaind' env KEYRETAIN_SOCKET="$dir/none" \
-    KEYRETAIN_LIBRARY_FOLDER="$dir/keyretain" "$dir/c/keyretain-session" -- true
-  says 'no library' 3 'nowhere: No such file or directory' env KEYRETAIN_LIBRARY_FOLDER="$dir/nowhere" \
     "$dir/c/keyretain-session" -- true
+  mv "$dir/keyretain/libkeyutils.so.1" "$dir/aside"
+  says 'no library' 3 'keyretain/libkeyutils.so.1: No such file or directory' in_session -- true
+  mv "$dir/aside" "$dir/keyretain/libkeyutils.so.1"
   says 'a dot' 1 'a name begins with no dot' in_session .x -- true
   says 'a long name' 1 'a name has at most 4095 bytes' in_session "$(printf %04096d 0)" -- true
   says 'an end of line' 1 'a name has no end of line' in_session $'a\nb' -- true
   says 'a session that is gone' 1 'begin one by keyretain-session' env KEYRETAIN_SESSION=5:nobody \
-    KEYRETAIN_LIBRARY_FOLDER="$dir/keyretain" "$dir/c/keyretain-session" --join -- true
-  says 'no session' 1 'begins one' env -u KEYRETAIN_SESSION KEYRETAIN_LIBRARY_FOLDER="$dir/keyretain" \
     "$dir/c/keyretain-session" --join -- true
+  says 'no session' 1 'begins one' env -u KEYRETAIN_SESSION "$dir/c/keyretain-session" --join -- true
 }
 
 # What is closed is filled before anything is opened, and is closed for the command as before.
@@ -90,12 +90,12 @@ try_variables() {
     exec "$0" --env TOKEN=%user:null --join -- true' "$dir/c/keyretain-session"
   # shellcheck disable=SC2016 # the command's own
   says "another user's key" 1 'planted: Required key not available' env PYTHONPATH="$top/clients/python" \
-    KEYRETAIN_LIBRARY_FOLDER="$dir/keyretain" python3 -B "$parts/planted.py" "$path" "$dir/c/keyretain-session" -- \
+    python3 -B "$parts/planted.py" "$path" "$dir/c/keyretain-session" -- \
     sh -c 'keyctl link "$PLANTED" @s
     exec "$0" --env TOKEN=%user:planted --join -- true' "$dir/c/keyretain-session"
   # shellcheck disable=SC2016 # the command's own
   says "another user's keyrings, nested too deeply" 0 '' env PYTHONPATH="$top/clients/python" \
-    KEYRETAIN_LIBRARY_FOLDER="$dir/keyretain" python3 -B "$parts/planted.py" "$path" "$dir/c/keyretain-session" -- \
+    python3 -B "$parts/planted.py" "$path" "$dir/c/keyretain-session" -- \
     sh -c 'keyctl link "$PLANTED" @u && exec "$0" -- true' "$dir/c/keyretain-session"
   for key in TOKEN 1T=5 TOKEN= TOKEN=%logon:a:b TOKEN=5x TOKEN=%user:; do
     says "--env $key" 2 '--env is VARIABLE=' in_session --env "$key" -- true

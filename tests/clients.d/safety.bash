@@ -128,7 +128,7 @@ calls_of() {
   local ring=$1 count=$2
   shift 2
   for _ in 1 2 3; do
-    KEYRETAIN_SOCKET=$path KEYRETAIN_LIBRARY_FOLDER=$dir/keyretain setpriv --reuid 65534 --regid 65534 --clear-groups \
+    KEYRETAIN_SOCKET=$path setpriv --reuid 65534 --regid 65534 --clear-groups \
       "$@" strace -f -c -o "$dir/counted" "$dir/busy" read "$ring" "$count" >/dev/null 2>&1
     awk '$NF == "total" { print $4 }' "$dir/counted"
   done | sort -n | head -n 1
@@ -284,8 +284,6 @@ try_inherited() {
     'keyretain-session: there is no session to join: KEYRETAIN_SESSION names none' \
     "$(KEYRETAIN_SESSION='' in_session --join -- true 2>&1 | head -n 1)"
   is 'a name to join' 2 "$(in_session --join name 2>/dev/null; echo $?)"
-  is 'a folder of the library that is not absolute' "$dir/keyretain" "$(cd "$dir" &&
-    KEYRETAIN_LIBRARY_FOLDER=keyretain "$dir/c/keyretain-session" -- sh -c 'echo ${LD_LIBRARY_PATH%%:*}')"
   is 'a name with an end of line' EINVAL "$("$dir/acts" join $'a\nb')"
   is 'the same for a command' 1 "$(in_session $'a\nb' -- true 2>/dev/null; echo $?)"
   is 'a session that is joined while signals come' 'ok, no child' "$("$dir/acts" interrupted signals)"

@@ -351,7 +351,7 @@ def try_killed_keeper():
 
 def in_session(words, *options):
     return run([FOLDER + "/bin/keyretain-session", *options, "--", "sh", "-c", words], environment={
-        "KEYRETAIN_LIBRARY_FOLDER": FOLDER + "/library", "PATH": f"{FOLDER}/bin:{os.environ['PATH']}"})
+        "PATH": f"{FOLDER}/bin:{os.environ['PATH']}"})
 
 
 def try_session():

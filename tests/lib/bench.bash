@@ -194,4 +194,4 @@ make_installed() {
 }
 
 # in_session WORD ..: keyretain-session of these
-in_session() { KEYRETAIN_LIBRARY_FOLDER=$dir/lib/keyretain "$dir/c/keyretain-session" "$@"; }
+in_session() { "$dir/c/keyretain-session" "$@"; }

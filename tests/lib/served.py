@@ -1,7 +1,6 @@
-"""served.py FOLDER read|flush|leave COMMAND ..: runs a command while a file system of FUSE is at a folder, whose server
-says that the folder and libkeyutils.so.1 in it are root's. It doesn't answer READ, or FLUSH, and makes the file
-FOLDER.held then; or it unmounts the file system before it says that. Ends with the command's status; with 77 where
-there can be no such file system."""
+"""served.py FOLDER read|flush COMMAND ..: runs a command while a file system of FUSE is at a folder, with one file,
+`file`. Its server doesn't answer READ, or FLUSH, and makes FOLDER.held then. Ends with the command's status; with 77
+where there can be no such file system."""
 import ctypes
 import errno
 import os
@@ -10,7 +9,7 @@ import subprocess
 import sys
 
 LOOKUP, GETATTR, OPEN, INIT = 1, 3, 14, 26
-HELD = {"read": 15, "flush": 25, "leave": None}
+HELD = {"read": 15, "flush": 25}
 
 
 def answer(opcode, node, body):
@@ -21,7 +20,7 @@ def answer(opcode, node, body):
         return struct.pack("=4I2HI", 7, 31, 0, 0, 0, 0, 4096) + bytes(40)
     if opcode == OPEN:
         return bytes(16)
-    if opcode == LOOKUP and body == b"libkeyutils.so.1\0":
+    if opcode == LOOKUP and body == b"file\0":
         return struct.pack("=4Q2I", 2, 0, 0, 0, 0, 0) + attributes
     return struct.pack("=Q2I", 0, 0, 0) + attributes if opcode == GETATTR else None
 
@@ -32,8 +31,6 @@ def serve(device):
         if opcode == HELD[sys.argv[2]]:
             open(sys.argv[1] + ".held", "wb").close()
             continue
-        if opcode == GETATTR and sys.argv[2] == "leave":
-            ctypes.CDLL(None).umount2(sys.argv[1].encode(), 2)
         said = answer(opcode, node, ask[40:])
         error = 0 if said is not None else -errno.ENOENT if opcode == LOOKUP else -errno.ENOSYS
         os.write(device, struct.pack("=IiQ", 16 + len(said or b""), error, unique) + (said or b""))

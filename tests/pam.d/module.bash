@@ -174,7 +174,7 @@ try_stopped() {
 try_full() {
   local holder since=$SECONDS module=strict
   serve --lanes 1
-  KEYRETAIN_SOCKET=$path KEYRETAIN_LIBRARY_FOLDER=$dir/keyretain "$dir/keyretain-session" -- sleep 1000 &
+  KEYRETAIN_SOCKET=$path "$dir/keyretain-session" -- sleep 1000 &
   holder=$!
   until_true holds_lane
   gives 'a daemon that is full' "open success $none" one open "${show[@]}"
