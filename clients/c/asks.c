@@ -1,5 +1,44 @@
-/* asks.c: one function for each ask. What each does: keyretain-protocol(7). */
+/* asks.c: the asks, a row and a function each. What each does: keyretain-protocol(7). */
 #include "connection.h"
+
+const struct kr_ask_form kr_ask_forms[] = {
+    { KR_GET_ID, "GET_ID", KR_SERIAL, { KR_ID, KR_U8 } },
+    { KR_JOIN, "JOIN", KR_SERIAL, { KR_TEXT } },
+    { KR_UPDATE, "UPDATE", KR_NOTHING, { KR_ID, KR_BLOB } },
+    { KR_REVOKE, "REVOKE", KR_NOTHING, { KR_ID } },
+    { KR_CHOWN, "CHOWN", KR_NOTHING, { KR_ID, KR_U32, KR_U32 } },
+    { KR_SETPERM, "SETPERM", KR_NOTHING, { KR_ID, KR_U32 } },
+    { KR_DESCRIBE, "DESCRIBE", KR_BYTES, { KR_ID } },
+    { KR_CLEAR, "CLEAR", KR_NOTHING, { KR_ID } },
+    { KR_LINK, "LINK", KR_NOTHING, { KR_ID, KR_ID } },
+    { KR_UNLINK, "UNLINK", KR_NOTHING, { KR_ID, KR_ID } },
+    { KR_SEARCH, "SEARCH", KR_SERIAL, { KR_ID, KR_TEXT, KR_TEXT, KR_ID } },
+    { KR_READ, "READ", KR_BYTES, { KR_ID } },
+    { KR_SET_TIMEOUT, "SET_TIMEOUT", KR_NOTHING, { KR_ID, KR_U32 } },
+    { KR_INVALIDATE, "INVALIDATE", KR_NOTHING, { KR_ID } },
+    { KR_RESTRICT_KEYRING, "RESTRICT_KEYRING", KR_NOTHING, { KR_ID, KR_TEXT } },
+    { KR_MOVE, "MOVE", KR_NOTHING, { KR_ID, KR_ID, KR_ID, KR_U32 } },
+    { KR_WATCH, "WATCH", KR_NOTHING, { KR_ID, KR_U32, KR_I32 } },
+    { KR_HELLO, "HELLO", KR_NUMBER, { KR_U32, KR_U32, KR_GROUPS } },
+    { KR_THREAD, "THREAD", KR_NUMBER, { KR_END } },
+    { KR_FORK, "FORK", KR_NUMBER, { KR_END } },
+    { KR_EXEC, "EXEC", KR_NOTHING, { KR_END } },
+    { KR_EXIT, "EXIT", KR_NOTHING, { KR_END } },
+    { KR_LEAVE, "LEAVE", KR_NOTHING, { KR_END } },
+    { KR_ADD, "ADD", KR_SERIAL, { KR_TEXT, KR_TEXT, KR_BLOB, KR_ID } },
+    { KR_REQUEST, "REQUEST", KR_SERIAL, { KR_TEXT, KR_TEXT, KR_ID } },
+    { KR_OPEN_QUEUE, "OPEN_QUEUE", KR_NUMBER, { KR_U32 } },
+    { KR_SET_FILTER, "SET_FILTER", KR_NOTHING, { KR_U32, KR_ENTRIES } },
+    { KR_READ_QUEUE, "READ_QUEUE", KR_BYTES, { KR_U32, KR_U32 } },
+    { KR_CLOSE_QUEUE, "CLOSE_QUEUE", KR_NOTHING, { KR_U32 } },
+};
+const size_t kr_ask_form_count = sizeof kr_ask_forms / sizeof *kr_ask_forms;
+
+const struct kr_ask_form *kr_ask_form(unsigned operation) {
+    for (size_t i = 0; i < kr_ask_form_count; i++)
+        if (kr_ask_forms[i].operation == operation) return &kr_ask_forms[i];
+    return NULL;
+}
 
 static struct kr_field number(uint32_t number) { return (struct kr_field){ .number = number }; }
 static struct kr_field id(int32_t id) { return number((uint32_t)id); }

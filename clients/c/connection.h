@@ -8,10 +8,7 @@
 #include <pthread.h>
 #include <sys/un.h>
 
-/* ---- wire.c: the frames of version 2 of keyretain-protocol(7), without a socket ---- */
-
-/* The longest frames, with the four bytes of their length. */
-enum { KR_ASK_ROOM = 4 + 65536, KR_REPLY_ROOM = 4 + 262152 };
+/* ---- asks.c: the asks, a row each ---- */
 
 /* The fields of bodies. GROUPS are a count and as many numbers, ENTRIES a count and as many entries of a filter. */
 enum kr_field_form { KR_END, KR_ID, KR_U8, KR_U32, KR_I32, KR_TEXT, KR_BLOB, KR_GROUPS, KR_ENTRIES };
@@ -32,6 +29,14 @@ struct kr_ask_form {
 extern const struct kr_ask_form kr_ask_forms[];
 extern const size_t kr_ask_form_count;
 
+/* NULL for a number of no ask. */
+const struct kr_ask_form *kr_ask_form(unsigned operation);
+
+/* ---- wire.c: the frames of version 2 of keyretain-protocol(7), without a socket ---- */
+
+/* The longest frames, with the four bytes of their length. */
+enum { KR_ASK_ROOM = 4 + 65536, KR_REPLY_ROOM = 4 + 262152 };
+
 /* The error numbers of replies, and what they are called here. */
 struct kr_status {
     uint32_t number;
@@ -40,9 +45,6 @@ struct kr_status {
 };
 extern const struct kr_status kr_statuses[];
 extern const size_t kr_status_count;
-
-/* NULL for a number of no ask. */
-const struct kr_ask_form *kr_ask_form(unsigned operation);
 
 /* Puts an ask's frame at `out`, which has KR_ASK_ROOM bytes, and answers its length; 0 where it fits no frame. */
 size_t kr_encode_ask(uint8_t *out, uint64_t tag, const struct kr_ask_form *form, uint32_t context,

@@ -1,5 +1,5 @@
-/* codec: what wire.c has, for tables.py. Without words it prints the table of asks and that of statuses; else it reads
- * lines `TAG NUMBER CONTEXT FIELD ..` and prints each ask's frame. A field is a number, or a letter and then
+/* codec: the asks of the C client, for tables.py. Without words it prints the table of asks and that of statuses; else
+ * it reads lines `TAG NUMBER CONTEXT FIELD ..` and prints each ask's frame. A field is a number, or a letter and then
  * bytes in hexadecimal: t for text, b for a blob, g for groups, e for entries. */
 #include <stdio.h>
 #include <stdlib.h>
