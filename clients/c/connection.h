@@ -3,7 +3,11 @@
 #define KEYRETAIN_CONNECTION_H
 
 #include "common.h"
+
+/* What programs may call is seen outside of the library, and nothing else. */
+#pragma GCC visibility push(default)
 #include "keyretain.h"
+#pragma GCC visibility pop
 
 #include <pthread.h>
 #include <sys/un.h>

@@ -1,7 +1,10 @@
 /* keyutils.c: the functions of libkeyutils 1.6.3. */
 #include "caller.h"
-#include "keyutils.h"
 #include "session.h"
+
+#pragma GCC visibility push(default)
+#include "keyutils.h"
+#pragma GCC visibility pop
 
 #include <stdarg.h>
 

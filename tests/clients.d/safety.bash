@@ -382,6 +382,11 @@ try_built() {
     done
     is 'the name of libkeyretain' libkeyretain.so.0 "$(readelf -dW "$dir/c/libkeyretain.so.0" |
       sed -n 's/.*SONAME.*\[\(.*\)\]/\1/p')"
+    readelf --dyn-syms -W "$dir/c/libkeyretain.so.0" | awk '$7 != "UND" && $4 == "FUNC" { print $8 }' >"$dir/shown"
+    is 'libkeyretain: the functions that it shows' \
+      "$(grep -o '\bkr_[a-z_]*(' "$top/clients/c/keyretain.h" | tr -d '(' | sort)" \
+      "$(sed 's/@.*//' "$dir/shown" | sort)"
+    is 'libkeyretain: how many version 0.1 has' 36 "$(grep -c '@@KEYRETAIN_0\.1$' "$dir/shown")"
   else
     skipped 'how the objects are built: no readelf'
   fi

@@ -155,7 +155,7 @@ def try_c():
             statuses[int(number)], numbers[name] = name, int(rest[0])
     try_client("the C client", asks, statuses)
     compare_all("errors of this system", {name: number for number, name in client_statuses().items()}, numbers)
-    for place in ("clients/c/keyretain.h", "clients/c/libkeyretain.map", "man/libkeyretain.3"):
+    for place in ("clients/c/keyretain.h", "man/libkeyretain.3"):
         text = rows.text_of(place)
         for _, name, *_ in asks:
             compare(f"{place}, a function for {name}", True, f"kr_{name.lower()}" in vectors.words_in(text))
