@@ -2,15 +2,7 @@
 #include "caller.h"
 #include "session.h"
 
-#pragma GCC visibility push(default)
-#include "keyutils.h"
-#pragma GCC visibility pop
-
 #include <stdarg.h>
-
-/* Programs copy both, so that their lengths are part of the interface. */
-const char keyutils_version_string[] = "keyutils-1.6.3";
-const char keyutils_build_string[] = "2022-12-18";
 
 /* ---- Who answers ---- */
 
@@ -39,6 +31,17 @@ static long answer(int call, struct arguments arguments) {
 static unsigned long word(long number) { return (unsigned long)number; }
 static unsigned long address(const void *at) { return (unsigned long)at; }
 
+/* Each command is a function of it. */
+#define COMMAND(type, name, parameters, ...) \
+    type keyctl_##name parameters { return (type)CALL(__VA_ARGS__); }
+#pragma GCC visibility push(default)
+#include "keyutils.h"
+#pragma GCC visibility pop
+
+/* Programs copy both, so that their lengths are part of the interface. */
+const char keyutils_version_string[] = "keyutils-1.6.3";
+const char keyutils_build_string[] = "2022-12-18";
+
 /* ---- System calls: weak, as in libkeyutils, so that a C library may have them ---- */
 
 __attribute__((weak)) key_serial_t add_key(const char *type, const char *description, const void *payload,
@@ -62,47 +65,6 @@ __attribute__((weak)) long keyctl(int command, ...) {
     return answer(command, arguments);
 }
 
-/* ---- Commands: a function of each ---- */
-
-#define COMMAND(type, name, parameters, ...) \
-    type keyctl_##name parameters { return (type)CALL(__VA_ARGS__); }
-
-COMMAND(key_serial_t, get_keyring_ID, (key_serial_t id, int create), KEYCTL_GET_KEYRING_ID, word(id), word(create))
-COMMAND(key_serial_t, join_session_keyring, (const char *name), KEYCTL_JOIN_SESSION_KEYRING, address(name))
-COMMAND(long, update, (key_serial_t id, const void *payload, size_t length),
-        KEYCTL_UPDATE, word(id), address(payload), length)
-COMMAND(long, revoke, (key_serial_t id), KEYCTL_REVOKE, word(id))
-COMMAND(long, chown, (key_serial_t id, uid_t uid, gid_t gid), KEYCTL_CHOWN, word(id), uid, gid)
-COMMAND(long, setperm, (key_serial_t id, key_perm_t mask), KEYCTL_SETPERM, word(id), mask)
-COMMAND(long, describe, (key_serial_t id, char *buffer, size_t room), KEYCTL_DESCRIBE, word(id), address(buffer), room)
-COMMAND(long, clear, (key_serial_t ring), KEYCTL_CLEAR, word(ring))
-COMMAND(long, link, (key_serial_t id, key_serial_t ring), KEYCTL_LINK, word(id), word(ring))
-COMMAND(long, unlink, (key_serial_t id, key_serial_t ring), KEYCTL_UNLINK, word(id), word(ring))
-COMMAND(long, search, (key_serial_t ring, const char *type, const char *description, key_serial_t destination),
-        KEYCTL_SEARCH, word(ring), address(type), address(description), word(destination))
-COMMAND(long, read, (key_serial_t id, char *buffer, size_t room), KEYCTL_READ, word(id), address(buffer), room)
-COMMAND(long, instantiate, (key_serial_t id, const void *payload, size_t length, key_serial_t ring),
-        KEYCTL_INSTANTIATE, word(id), address(payload), length, word(ring))
-COMMAND(long, negate, (key_serial_t id, unsigned timeout, key_serial_t ring),
-        KEYCTL_NEGATE, word(id), timeout, word(ring))
-COMMAND(long, set_reqkey_keyring, (int choice), KEYCTL_SET_REQKEY_KEYRING, word(choice))
-COMMAND(long, set_timeout, (key_serial_t id, unsigned seconds), KEYCTL_SET_TIMEOUT, word(id), seconds)
-COMMAND(long, assume_authority, (key_serial_t id), KEYCTL_ASSUME_AUTHORITY, word(id))
-COMMAND(long, get_security, (key_serial_t id, char *buffer, size_t room),
-        KEYCTL_GET_SECURITY, word(id), address(buffer), room)
-COMMAND(long, session_to_parent, (void), KEYCTL_SESSION_TO_PARENT, 0)
-COMMAND(long, reject, (key_serial_t id, unsigned timeout, unsigned error, key_serial_t ring),
-        KEYCTL_REJECT, word(id), timeout, error, word(ring))
-COMMAND(long, instantiate_iov, (key_serial_t id, const struct iovec *payload, unsigned count, key_serial_t ring),
-        KEYCTL_INSTANTIATE_IOV, word(id), address(payload), count, word(ring))
-COMMAND(long, invalidate, (key_serial_t id), KEYCTL_INVALIDATE, word(id))
-COMMAND(long, get_persistent, (uid_t uid, key_serial_t id), KEYCTL_GET_PERSISTENT, uid, word(id))
-COMMAND(long, restrict_keyring, (key_serial_t ring, const char *type, const char *restriction),
-        KEYCTL_RESTRICT_KEYRING, word(ring), address(type), address(restriction))
-COMMAND(long, move, (key_serial_t id, key_serial_t from, key_serial_t to, unsigned flags),
-        KEYCTL_MOVE, word(id), word(from), word(to), flags)
-COMMAND(long, capabilities, (unsigned char *buffer, size_t room), KEYCTL_CAPABILITIES, address(buffer), room)
-COMMAND(long, watch_key, (key_serial_t id, int pipe, int watch), KEYCTL_WATCH_KEY, word(id), word(pipe), word(watch))
 
 /* ---- Commands on keys of other types, which are in the kernel alone: else EOPNOTSUPP ---- */
 
