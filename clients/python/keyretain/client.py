@@ -1,4 +1,4 @@
-"""The client: a method for each ask, and what is built on them."""
+"""The client: a row and a method for each ask, and what is built on them."""
 from __future__ import annotations
 
 import errno
@@ -8,7 +8,7 @@ from typing import Any, Optional, Sequence, Union, cast
 
 from .connection import Connection, Deadline, wipe
 from .errors import Malformed, Refused
-from .frames import LEAVE_AS_IT_IS, Answer, Bytes, Reply, Text, answer_of, decode_serials
+from .frames import LEAVE_AS_IT_IS, Answer, Bytes, Reply, Text, answer_of, decode_serials, row
 from .notes import Record, Removal, decode_notes
 from .places import Path, Peer, environment, place_of
 from .sessions import VARIABLE, enter, parse_session
@@ -100,36 +100,44 @@ class Client:
 
     # Contexts: the first three answer the number that other asks take as `context`.
 
+    @row(256, "u32 u32 groups", "number")
     def hello(self, uid: int, gid: int, groups: Sequence[int] = ()) -> int:
         """A new context of this user. The daemon believes it."""
         return self._number("HELLO", 0, uid, gid, groups)
 
+    @row(257, "", "number")
     def thread(self, context: int) -> int:
         """A context for another thread of the same process."""
         return self._number("THREAD", context)
 
+    @row(258, "", "number")
     def fork(self, context: int) -> int:
         """A context for a child process."""
         return self._number("FORK", context)
 
+    @row(259, "", "nothing")
     def exec(self, context: int) -> None:
         """As execve(2): the thread and process keyrings go."""
         self.ask("EXEC", context)
 
+    @row(260, "", "nothing")
     def exit(self, context: int) -> None:
         """Ends the context."""
         self.ask("EXIT", context)
 
+    @row(261, "", "nothing")
     def leave(self) -> None:
         """Ends all contexts and queues of this connection."""
         self.ask("LEAVE")
 
     # Keys and keyrings. `key` and `ring` are serials, or one of THREAD to USER_SESSION.
 
+    @row(0, "id u8", "serial")
     def get_id(self, context: int, key: int, create: bool = False) -> int:
         """The serial of a keyring that is named by its place."""
         return self._number("GET_ID", context, key, int(create))
 
+    @row(1, "text", "serial")
     def join(self, context: int, name: Text = "") -> int:
         """Joins the session of this name, or a new one; answers its serial."""
         return self._number("JOIN", context, name)
@@ -142,42 +150,52 @@ class Client:
         named = parse_session(environment(VARIABLE) if session is None else session)
         return named is not None and enter(self, context, named)
 
+    @row(2, "id blob", "nothing")
     def update(self, context: int, key: int, payload: Text) -> None:
         """Gives the key this payload."""
         self.ask("UPDATE", context, key, payload)
 
+    @row(3, "id", "nothing")
     def revoke(self, context: int, key: int) -> None:
         """Makes the key useless: EKEYREVOKED from here on."""
         self.ask("REVOKE", context, key)
 
+    @row(4, "id u32 u32", "nothing")
     def chown(self, context: int, key: int, uid: int = LEAVE_AS_IT_IS, gid: int = LEAVE_AS_IT_IS) -> None:
         """Changes the owner, the group or both."""
         self.ask("CHOWN", context, key, uid, gid)
 
+    @row(5, "id u32", "nothing")
     def setperm(self, context: int, key: int, mask: int) -> None:
         """Sets the permission mask of keyctl_setperm(3)."""
         self.ask("SETPERM", context, key, mask)
 
+    @row(6, "id", "bytes")
     def describe(self, context: int, key: int) -> bytes:
         """`type;uid;gid;mask;description`, as bytes: a description may be any."""
         return self._bytes("DESCRIBE", context, key)
 
+    @row(7, "id", "nothing")
     def clear(self, context: int, ring: int) -> None:
         """Unlinks all that the keyring links."""
         self.ask("CLEAR", context, ring)
 
+    @row(8, "id id", "nothing")
     def link(self, context: int, key: int, ring: int) -> None:
         """Links the key into the keyring."""
         self.ask("LINK", context, key, ring)
 
+    @row(9, "id id", "nothing")
     def unlink(self, context: int, key: int, ring: int) -> None:
         """Takes the link to the key out of the keyring."""
         self.ask("UNLINK", context, key, ring)
 
+    @row(10, "id text text id", "serial")
     def search(self, context: int, head: int, type: Text, description: Text, destination: int = 0) -> int:
         """The serial that is found below `head`; it is linked to `destination` where that isn't 0."""
         return self._number("SEARCH", context, head, type, description, destination)
 
+    @row(11, "id", "bytes")
     def read(self, context: int, key: int) -> bytes:
         """The payload of a key. Python can't wipe these bytes: read_into() gives them to whoever can."""
         return self._bytes("READ", context, key)
@@ -192,44 +210,54 @@ class Client:
         """The serials that a keyring links. Malformed where the key reads as none: it isn't a keyring."""
         return decode_serials(self.read(context, ring))
 
+    @row(15, "id u32", "nothing")
     def set_timeout(self, context: int, key: int, seconds: int) -> None:
         """The key expires so many seconds from now; 0 takes that away."""
         self.ask("SET_TIMEOUT", context, key, seconds)
 
+    @row(21, "id", "nothing")
     def invalidate(self, context: int, key: int) -> None:
         """Takes the key away from all."""
         self.ask("INVALIDATE", context, key)
 
+    @row(29, "id text", "nothing")
     def restrict_keyring(self, context: int, ring: int, type: Text = "") -> None:
         """Closes the keyring against new links."""
         self.ask("RESTRICT_KEYRING", context, ring, type)
 
+    @row(30, "id id id u32", "nothing")
     def move(self, context: int, key: int, source: int, destination: int, exclusive: bool = False) -> None:
         """Moves a link; `exclusive` refuses to displace a key of the same name."""
         self.ask("MOVE", context, key, source, destination, int(exclusive))
 
+    @row(262, "text text blob id", "serial")
     def add(self, context: int, type: Text, description: Text, payload: Text, ring: int) -> int:
         """The serial of the key that was made in the keyring, or updated there."""
         return self._number("ADD", context, type, description, payload, ring)
 
+    @row(263, "text text id", "serial")
     def request(self, context: int, type: Text, description: Text, destination: int = 0) -> int:
         """The serial that a search of the thread, process and session keyring finds."""
         return self._number("REQUEST", context, type, description, destination)
 
     # Queues of notes.
 
+    @row(264, "u32", "number")
     def open_queue(self, capacity: int) -> int:
         """The number of a queue that holds so many records."""
         return self._number("OPEN_QUEUE", 0, capacity)
 
+    @row(32, "id u32 i32", "nothing")
     def watch(self, context: int, key: int, queue: int, watch: int = 0) -> None:
         """The notes of a key go to the queue, and bear this number of 0 to 255; -1 ends that."""
         self.ask("WATCH", context, key, queue, watch)
 
+    @row(265, "u32 entries", "nothing")
     def set_filter(self, queue: int, entries: Sequence[Sequence[int]]) -> None:
         """Entries are (type, info_filter, info_mask, eight words of subtype bits)."""
         self.ask("SET_FILTER", 0, queue, entries)
 
+    @row(266, "u32 u32", "bytes")
     def read_queue(self, queue: int, room: int = 4096) -> list[Record]:
         """The records that wait, as many as have room; none where none waits."""
         try:
@@ -239,6 +267,7 @@ class Client:
                 return []
             raise
 
+    @row(267, "u32", "nothing")
     def close_queue(self, queue: int) -> None:
         """Ends the queue and its watches."""
         self.ask("CLOSE_QUEUE", 0, queue)

@@ -1,8 +1,8 @@
-"""Frames of version 2: the asks with their fields, as bytes and back. docs/FORMAT.md has each of them."""
+"""Frames of version 2: asks and replies as bytes, and back. docs/FORMAT.md has each of them."""
 from __future__ import annotations
 
 import struct
-from typing import Any, NamedTuple, Optional, Sequence, Union
+from typing import Any, Callable, NamedTuple, Optional, Sequence, TypeVar, Union
 
 from .errors import STATUSES, Malformed, Refused
 
@@ -24,37 +24,17 @@ class Ask(NamedTuple):
     answer: str
 
 
-ASKS = {
-    "GET_ID": Ask(0, "id u8", "serial"),
-    "JOIN": Ask(1, "text", "serial"),
-    "UPDATE": Ask(2, "id blob", "nothing"),
-    "REVOKE": Ask(3, "id", "nothing"),
-    "CHOWN": Ask(4, "id u32 u32", "nothing"),
-    "SETPERM": Ask(5, "id u32", "nothing"),
-    "DESCRIBE": Ask(6, "id", "bytes"),
-    "CLEAR": Ask(7, "id", "nothing"),
-    "LINK": Ask(8, "id id", "nothing"),
-    "UNLINK": Ask(9, "id id", "nothing"),
-    "SEARCH": Ask(10, "id text text id", "serial"),
-    "READ": Ask(11, "id", "bytes"),
-    "SET_TIMEOUT": Ask(15, "id u32", "nothing"),
-    "INVALIDATE": Ask(21, "id", "nothing"),
-    "RESTRICT_KEYRING": Ask(29, "id text", "nothing"),
-    "MOVE": Ask(30, "id id id u32", "nothing"),
-    "WATCH": Ask(32, "id u32 i32", "nothing"),
-    "HELLO": Ask(256, "u32 u32 groups", "number"),
-    "THREAD": Ask(257, "", "number"),
-    "FORK": Ask(258, "", "number"),
-    "EXEC": Ask(259, "", "nothing"),
-    "EXIT": Ask(260, "", "nothing"),
-    "LEAVE": Ask(261, "", "nothing"),
-    "ADD": Ask(262, "text text blob id", "serial"),
-    "REQUEST": Ask(263, "text text id", "serial"),
-    "OPEN_QUEUE": Ask(264, "u32", "number"),
-    "SET_FILTER": Ask(265, "u32 entries", "nothing"),
-    "READ_QUEUE": Ask(266, "u32 u32", "bytes"),
-    "CLOSE_QUEUE": Ask(267, "u32", "nothing"),
-}
+ASKS: dict[str, Ask] = {}  # by their names: a method of Client makes each, and has its row
+Method = TypeVar("Method", bound=Callable[..., Any])
+
+
+def row(number: int, fields: str, answer: str) -> Callable[[Method], Method]:
+    """The row of the ask that has the method's name."""
+    def put(method: Method) -> Method:
+        ASKS[method.__name__.upper()] = Ask(number, fields, answer)
+        return method
+    return put
+
 
 NUMBERS = {"id": struct.Struct("<i"), "i32": struct.Struct("<i"), "u8": struct.Struct("<B"),
            "u32": struct.Struct("<I")}
