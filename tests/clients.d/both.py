@@ -106,8 +106,6 @@ def try_notes(c, python, own, other, first, second):
     compare("what Python revoked", "EKEYREVOKED", c.read(own, second))
     compare("an end of Python's", 0, c.ask("invalidate", own, first))
     compare("what the library ended", "ENOKEY", answer(python.read, other, first))
-    compare("a keyring is closed", 0, c.ask("restrict_keyring", own, ring, None))
-    compare("what the library closed", "EPERM", answer(python.add, other, "user", "late", b"v", ring))
     python.clear(other, USER)
     for add, read, queue in ((100, c.read_queue, queues[0]), (0, python.read_queue, queues[1])):
         compare("the notes", [

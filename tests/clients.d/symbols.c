@@ -143,6 +143,8 @@ static void call_newer(void) {
     bool can_move = known[0] & KEYCTL_CAPS0_MOVE, can_restrict = known[0] & KEYCTL_CAPS0_RESTRICT_KEYRING;
     long moved = keyctl_move(key, from, to, 0);
     check("keyctl_move", can_move ? moved == 0 : refused(moved, EOPNOTSUPP));
+    check("keyctl_restrict_keyring, a type's own", refused(keyctl_restrict_keyring(to, "user", "any"),
+          can_restrict ? ENOENT : EOPNOTSUPP));
     long restricted = keyctl_restrict_keyring(to, NULL, NULL);
     check("keyctl_restrict_keyring", can_restrict ? restricted == 0 : refused(restricted, EOPNOTSUPP));
     check("their process keyring is there", keyctl_read(key, NULL, 0) == 2);

@@ -161,7 +161,7 @@ def try_c():
 
 def try_calls():
     """The calls that are asks: those of keyctl(2) by its numbers, and two by names. What no ask has stands behind: what
-    is told to an upcall, and how a keyring is restricted."""
+    is told to an upcall, and what a type says of links."""
     named, found = {"add_key": "ADD", "request_key": "REQUEST"}, {}
     words = {ask.number: ask.word for ask in ASKS if ask.number <= keyretain.ASKS["MOVE"].number}
     for line in subprocess.run([CALLS], text=True, stdout=subprocess.PIPE, check=True).stdout.splitlines():
