@@ -2,7 +2,7 @@
 use super::{expect, reply};
 use krs_store::Store;
 use krs_store_asks::{Want, add, change, hello, read};
-use krs_types::{Answer, Ask, Blob, Errno, Op, Reply, TypeName};
+use krs_types::{Answer, Ask, Blob, Errno, Op, Reply};
 use std::alloc::{AllocError, Global};
 use std::process::Abort;
 use std::test::*;
@@ -16,17 +16,13 @@ fn ask_at(alloc: Global, step: u8) -> Result<Ask, AllocError> {
         3 => add(alloc, b"user", b"k65535", b"x", -4),
         4 => Ok(moved(0)),
         5 => Ok(moved(2)),
-        6 => Ok(change(Op::RestrictKeyring {
-            ring: 5,
-            type_name: TypeName::from_slice(alloc, b"user")?,
-        })),
-        7 => add(alloc, b"user", b"k0", b"x", -4),
-        8 => Ok(change(Op::Link {
+        6 => add(alloc, b"user", b"k0", b"x", -4),
+        7 => Ok(change(Op::Link {
             key: 65_542,
             ring: 5,
         })),
-        9 => Ok(read(1, 6)),
-        10 => Ok(change(Op::Unlink { key: 5, ring: -4 })),
+        8 => Ok(read(1, 6)),
+        9 => Ok(change(Op::Unlink { key: 5, ring: -4 })),
         _ => Ok(read(1, 7)),
     }
 }
@@ -51,21 +47,20 @@ const EMPTY: [Row<'static>; 2] = [
 ];
 
 #[rattlefmt::skip]
-const FULL: [Row<'static>; 8] = [
+const FULL: [Row<'static>; 7] = [
     (2, Want::Refused(Errno::ENFILE), "one key more"),
     (3, Want::Number(65_541), "a key elsewhere"),
     (4, Want::Refused(Errno::ENFILE), "its move"),
     (5, Want::Refused(Errno::EINVAL), "a move with a flag that there isn't"),
-    (6, Want::Refused(Errno::EINVAL), "closing the keyring against all but a type"),
-    (7, Want::Number(65_542), "a key of a name that is there"),
-    (8, Want::Nothing, "its link"),
-    (9, Want::Refused(Errno::ENOKEY), "the key that was displaced"),
+    (6, Want::Number(65_542), "a key of a name that is there"),
+    (7, Want::Nothing, "its link"),
+    (8, Want::Refused(Errno::ENOKEY), "the key that was displaced"),
 ];
 
 #[rattlefmt::skip]
 const GONE: [Row<'static>; 2] = [
-    (10, Want::Nothing, "the keyring's only link"),
-    (11, Want::Refused(Errno::ENOKEY), "a key that it alone links"),
+    (9, Want::Nothing, "the keyring's only link"),
+    (10, Want::Refused(Errno::ENOKEY), "a key that it alone links"),
 ];
 
 fn check_rows(
