@@ -42,7 +42,7 @@ const SCRIPTS: [(&str, &str, u8); 12] = [
 
 /// Lines that are no command, or not the words that it takes.
 #[rattlefmt::skip]
-const FAULTS: [&str; 129] = [
+const FAULTS: [&str; 119] = [
     "prin 5", "printx 5", "Print 5", "print", "print 5 6", "print x", "print 5x", "print -1", "print +5", "print 0x5",
     "print 2147483648", "print @x", "print @", "print @us5", "print 5\r", "print\t5",
     "hello", "hello 1000", "hello 1000 x", "hello 4294967296 0", "hello 0 0 1 -2",
@@ -60,8 +60,6 @@ const FAULTS: [&str; 129] = [
     "newring", "newring a", "newring a @u 5", "newring a x", "rlist", "rlist 5 6", "rlist x", "rlist -4",
     "clear", "clear 5 6", "clear x", "Clear 5",
     "link", "link 5", "link 5 6 7", "link 5 x", "unlink", "unlink 5", "unlink x 5", "unlink 5 6 7",
-    "move", "move 5 6", "move x 6 7", "move 5 6 7 Excl", "move 5 6 7 excl 8", "move 5 6 7 8", "restrict", "restrict x",
-    "restrict 5 user", "Restrict 5",
     "thread 1", "Thread", "fork 1", "exec 1", "id", "id x", "id 5 Create", "id 5 creat", "id 5 creates",
     "id 5 create 1", "id create 5", "join a b", "search", "search 5", "search 5 user", "search x user k",
     "search 5 user k x", "search 5 user k 6 7", "request", "request user", "request user k x",

@@ -1,5 +1,5 @@
 //! Scripts of links that move and of keyrings that are closed, a line and what it prints in each row.
-use super::check_rows;
+use super::{check_rows, check_script};
 use std::test::Fail;
 
 /// A link is moved, and tells of it on both keyrings. The key that it displaces drops. A closed keyring takes no link.
@@ -214,7 +214,7 @@ const MOVED_OUT: [(&str, &str); 6] = [
 
 /// What RESTRICT_KEYRING refuses, each where all that comes later would be refused too.
 #[rattlefmt::skip]
-const RESTRICT_REFUSED: [(&str, &str); 14] = [
+const RESTRICT_REFUSED: [(&str, &str); 17] = [
     ("restrict 9", "error 3 ESRCH"),
     ("hello 1000 1000", "1"),
     ("newring a @u", "5"),
@@ -224,6 +224,10 @@ const RESTRICT_REFUSED: [(&str, &str); 14] = [
     ("restrict @t", "error 126 ENOKEY"),
     ("setperm 6 1f000000", "ok"),
     ("restrict 6", "error 13 EACCES"),
+    // Another user.
+    ("hello 1001 1001", "2"),
+    ("restrict 5", "error 13 EACCES"),
+    ("context 1", "ok"),
     ("restrict 5", "ok"),
     ("setperm 5 1f000000", "ok"),
     ("restrict 5", "error 13 EACCES"),
@@ -269,6 +273,13 @@ const SCRIPTS: [(&[(&str, &str)], u8); 11] = [
     (&RESTRICT_REFUSED, 1),
 ];
 
+/// Lines that have not the words that their command takes.
+#[rattlefmt::skip]
+const FAULTS: [&str; 10] = [
+    "move", "move 5 6", "move x 6 7", "move 5 6 7 Excl", "move 5 6 7 excl 8", "move 5 6 7 8",
+    "restrict", "restrict x", "restrict 5 user", "Restrict 5",
+];
+
 /// The scripts that are run again with each allocation refused.
 pub(in crate::tests) const GROWING: [&[(&str, &str)]; 3] = [&MOVED, &DISPLACED, &MADE];
 
@@ -278,4 +289,11 @@ fn links_move(rt: HostRuntime) -> Result<(), Fail> {
         check_rows(&rt, rt.alloc(), rows, *status)?;
     }
     Ok(())
+}
+
+#[test]
+fn words_of_moves(rt: HostRuntime) {
+    for line in &FAULTS {
+        check_script(&rt, rt.alloc(), line, "usage\n", 2);
+    }
 }

@@ -154,7 +154,7 @@ const UNREAD: [(&str, &str); 20] = [
 
 /// Nor do they change one, or drop it.
 #[rattlefmt::skip]
-const UNCHANGED: [(&str, &str); 18] = [
+const UNCHANGED: [(&str, &str); 17] = [
     ("hello 1000 1000", "1"),
     ("newring box @u", "5"),
     ("add user token s3 5", "6"),
@@ -166,7 +166,6 @@ const UNCHANGED: [(&str, &str); 18] = [
     ("invalidate 6", "error 13 EACCES"),
     ("clear 5", "error 13 EACCES"),
     ("unlink 6 5", "error 13 EACCES"),
-    ("restrict 5", "error 13 EACCES"),
     ("add user token x 5", "error 13 EACCES"),
     ("exec", "ok"),
     ("exit", "ok"),
