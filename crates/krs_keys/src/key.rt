@@ -27,7 +27,7 @@ pub struct Key {
     pub revoked: bool,
     /// JOIN made it: profile, joining by name.
     pub joined: bool,
-    /// It takes no further link: keyctl(2), KEYCTL_RESTRICT_KEYRING; profile, closed keyrings.
+    /// It takes no further link: profile, closed keyrings.
     pub closed: bool,
     pub content: Content,
 }

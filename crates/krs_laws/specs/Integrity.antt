@@ -53,7 +53,7 @@ pub record IsByRight (s : State) (client context serial : ℕ) (before after : K
   -- for good: KEYCTL_REVOKE
   pub revoked : (after.revoked ≡ before.revoked)
       ⊎ ((after.revoked ≡ true) × HasRight s client context (Either WRITE SETATTR) serial)
-  -- for good: KEYCTL_RESTRICT_KEYRING
+  -- for good: profile, closed keyrings
   pub closed : (after.closed ≡ before.closed)
       ⊎ ((after.closed ≡ true) × HasRight s client context (Granted SETATTR) serial)
 

@@ -10,7 +10,7 @@ pub data Content : Type 0 where
   Links : List ℕ → Content
 
 -- a key: its type, description, owner and mask; when its time is over, in seconds; whether it was revoked; whether
--- KEYCTL_JOIN_SESSION_KEYRING made it; whether KEYCTL_RESTRICT_KEYRING closed it; what it holds
+-- KEYCTL_JOIN_SESSION_KEYRING made it; whether it takes no further link: profile, closed keyrings; what it holds
 pub record Key : Type 0 where
   pub kind : Kind
   pub desc : List ℕ
