@@ -6,8 +6,8 @@
 #include <stdlib.h>
 #include <string.h>
 
+#include "caller.h"
 #include "fuzz.h"
-#include "keyretain.h"
 #include "server.h"
 
 enum { CALLS = 8, PATIENCE = 30000, BODIES = 1 << 16 };
@@ -48,64 +48,41 @@ static void security_alloc(int32_t id) {
 
 /* ---- The calls ---- */
 
-static void change(unsigned which, struct words *w) {
+enum { COMMANDS = 40 };
+
+/* A command by the one function for all, whose words are of the kinds that its row wants. It may have no texts. */
+static void call_command(int command, struct words *w) {
+    const struct key_row *row = key_row_of(command);
+    unsigned long at[KEY_ARGUMENTS + 1];
+    for (int i = 0; i < KEY_ARGUMENTS; i++)
+        switch (row->at[i]) {
+        case KEY_ID: at[i] = (unsigned long)(i == 0 ? w->id : i + 4); break;
+        case KEY_TYPE: at[i] = w->number & 1 ? (unsigned long)w->type : 0; break;
+        case KEY_TEXT: at[i] = w->number & 1 ? (unsigned long)w->description : 0; break;
+        case KEY_PAYLOAD:
+        case KEY_ROOM: at[i] = (unsigned long)w->buffer, at[++i] = w->room; break;
+        default: at[i] = w->number & 1;
+        }
+    keyctl(command, at[0], at[1], at[2], at[3]);
+}
+
+/* What is no command. */
+static void call_other(unsigned which, struct words *w) {
     switch (which) {
     case 0: add_key(w->type, w->description, w->buffer, w->room, w->id); break;
-    case 1: keyctl_update(w->id, w->buffer, w->room); break;
-    case 2: keyctl_revoke(w->id); break;
-    case 3: keyctl_clear(w->id); break;
-    case 4: keyctl_chown(w->id, 1, 1); break;
-    case 5: keyctl_setperm(w->id, 1); break;
-    case 6: keyctl_set_timeout(w->id, 1); break;
-    case 7: keyctl_link(w->id, 5); break;
-    case 8: keyctl_unlink(w->id, 5); break;
-    case 9: keyctl_invalidate(w->id); break;
-    default: keyctl_move(w->id, 1, 2, 1);
-    }
-}
-
-static void look(unsigned which, struct words *w) {
-    switch (which) {
-    case 0: request_key(w->type, w->description, w->description, w->id); break;
-    case 1: keyctl_get_keyring_ID(w->id, w->number & 1); break;
-    case 2: keyctl_describe(w->id, w->buffer, w->room); break;
-    case 3: keyctl_read(w->id, w->buffer, w->room); break;
-    case 4: describe_alloc(w->id); break;
-    case 5: read_alloc(w->id); break;
-    case 6: security_alloc(w->id); break;
-    case 7: keyctl_search(w->id, w->type, w->description, 1); break;
-    case 8: keyctl_capabilities((unsigned char *)w->buffer, w->room); break;
-    case 9: keyctl_get_security(w->id, w->buffer, w->room); break;
-    default: keyctl_restrict_keyring(w->id, w->number & 1 ? w->type : NULL, w->number & 1 ? w->description : NULL);
-    }
-}
-
-/* The one function for all, whose words are of the kinds that the command wants. */
-static void call_any(struct words *w) {
-    int command = w->number % 40;
-    switch (command) {
-    case KEYCTL_JOIN_SESSION_KEYRING: keyctl(command, w->type); break;
-    case KEYCTL_CAPABILITIES: keyctl(command, w->buffer, w->room); break;
-    case KEYCTL_SEARCH:
-    case KEYCTL_RESTRICT_KEYRING: keyctl(command, w->id, w->type, w->description, 1); break;
-    default: keyctl(command, w->id, w->buffer, w->room, 1);
-    }
-}
-
-static void walk(unsigned which, struct words *w) {
-    switch (which) {
-    case 0: keyctl_join_session_keyring(w->number & 1 ? w->description : NULL); break;
-    case 1: case 2: recursive_key_scan(w->id, scanner, NULL); break;
-    case 3: recursive_session_key_scan(scanner, NULL); break;
-    case 4: case 5: find_key_by_type_and_desc("user", "desc5", w->number & 1); break;
-    default: call_any(w);
+    case 1: request_key(w->type, w->description, w->description, w->id); break;
+    case 2: describe_alloc(w->id); break;
+    case 3: read_alloc(w->id); break;
+    case 4: security_alloc(w->id); break;
+    case 5: recursive_session_key_scan(scanner, NULL); break;
+    case 6: recursive_key_scan(w->id, scanner, NULL); break;
+    default: find_key_by_type_and_desc("user", "desc5", w->number & 1);
     }
 }
 
 /* Whether a function makes several calls of the system's: a walk, and what asks again as it had too little room. */
-static bool makes_several(uint8_t which) {
-    unsigned looked = (which >> 2 & 31) % 11;
-    return (which & 3) == 3 || ((which & 3) != 0 && looked >= 4 && looked <= 6);
+static bool makes_several(int chosen) {
+    return chosen < 2 * COMMANDS ? chosen % COMMANDS == KEYCTL_JOIN_SESSION_KEYRING : chosen % 8 > 1;
 }
 
 /* A call of the system's ends by its patience, and by a hundredth more. */
@@ -117,17 +94,17 @@ static void call(void) {
     int64_t begun = server_time();
     uint8_t which = server_byte();
     struct words words = { .number = server_byte() };
+    int chosen = which & 127;
     words.id = (int32_t)words.number - 10;
     words.type = text_of(words.number & 31);
     words.description = text_of(server_byte());
     words.room = which & 128 ? (size_t)words.number << 8 : words.number;
     words.buffer = buffer_of(words.room);
-    switch (which & 3) {
-    case 0: change((which >> 2 & 31) % 11, &words); break;
-    case 1: case 2: look((which >> 2 & 31) % 11, &words); break;
-    default: walk((which >> 2 & 31) % 8, &words);
-    }
-    look_at_time(begun, !makes_several(which));
+    if (chosen < 2 * COMMANDS)
+        call_command(chosen % COMMANDS, &words);
+    else
+        call_other(chosen % 8, &words);
+    look_at_time(begun, !makes_several(chosen));
     free(words.type);
     free(words.description);
     free(words.buffer);

@@ -49,65 +49,27 @@ static void look_at_bytes(int64_t length, const struct words *words) {
 
 /* ---- The asks ---- */
 
-static int64_t ask_of_context(struct kr *connection, unsigned which, struct words *w) {
-    switch (which) {
-    case 0: return kr_hello(connection, 1, 1, w->number % 40, w->groups);
-    case 1: return kr_thread(connection, w->number);
-    case 2: return kr_fork(connection, w->number);
-    case 3: return kr_exec(connection, w->number);
-    case 4: return kr_exit(connection, w->number);
-    case 5: return kr_leave(connection);
-    case 6: return kr_get_id(connection, 1, w->id, w->number);
-    default: return kr_join(connection, 1, w->type);
+/* A field of this form. The first of two texts is a type's name. */
+static struct kr_field field_of(enum kr_field_form form, bool is_second, const struct words *w) {
+    const char *text = is_second ? w->description : w->type;
+    switch (form) {
+    case KR_TEXT: return (struct kr_field){ .items = text, .count = strlen(text) };
+    case KR_BLOB: return (struct kr_field){ .items = w->buffer, .count = w->room };
+    case KR_GROUPS: return (struct kr_field){ .items = w->groups, .count = w->number % 40 };
+    case KR_ENTRIES: return (struct kr_field){ .items = w->entries, .count = w->number % 3 };
+    default: return (struct kr_field){ .number = (uint32_t)w->id };
     }
 }
 
-static int64_t ask_of_key(struct kr *connection, unsigned which, struct words *w) {
-    switch (which) {
-    case 0: return kr_update(connection, 1, w->id, w->buffer, w->room);
-    case 1: return kr_revoke(connection, 1, w->id);
-    case 2: return kr_chown(connection, 1, w->id, 1, 1);
-    case 3: return kr_setperm(connection, 1, w->id, 1);
-    case 4: return kr_set_timeout(connection, 1, w->id, 1);
-    case 5: return kr_invalidate(connection, 1, w->id);
-    case 6: return kr_add(connection, 1, w->type, w->description, w->buffer, w->room, w->id);
-    default: return kr_request(connection, 1, w->type, w->description, w->id);
-    }
-}
-
-static int64_t ask_of_keyring(struct kr *connection, unsigned which, struct words *w) {
-    switch (which) {
-    case 0: return kr_clear(connection, 1, w->id);
-    case 1: return kr_link(connection, 1, w->id, 5);
-    case 2: return kr_unlink(connection, 1, w->id, 5);
-    case 3: return kr_search(connection, 1, w->id, w->type, w->description, 0);
-    case 4: return kr_restrict_keyring(connection, 1, w->id, w->type);
-    case 5: return kr_move(connection, 1, w->id, 5, 6, 1);
-    case 6: return kr_watch(connection, 1, w->id, 1, 1);
-    default: return kr_open_queue(connection, w->number);
-    }
-}
-
-static int64_t ask_of_bytes(struct kr *connection, unsigned which, struct words *w) {
-    int64_t length;
-    switch (which) {
-    case 0: return kr_set_filter(connection, 1, w->number % 3, w->entries);
-    case 1: return kr_close_queue(connection, 1);
-    case 2: case 3: length = kr_describe(connection, 1, w->id, w->buffer, w->room); break;
-    case 4: length = kr_read_queue(connection, 1, w->buffer, w->room); break;
-    default: length = kr_read(connection, 1, w->id, w->buffer, w->room);
-    }
-    look_at_bytes(length, w);
-    return length;
-}
-
-static int64_t ask(struct kr *connection, unsigned which, struct words *words) {
-    switch (which / 8) {
-    case 0: return ask_of_context(connection, which % 8, words);
-    case 1: return ask_of_key(connection, which % 8, words);
-    case 2: return ask_of_keyring(connection, which % 8, words);
-    default: return ask_of_bytes(connection, which % 8, words);
-    }
+/* Any ask, as its function makes it. */
+static int64_t ask(struct kr *connection, const struct kr_ask_form *form, const struct words *w) {
+    struct kr_field fields[KR_FIELDS];
+    for (int i = 0; i < KR_FIELDS; i++)
+        fields[i] = field_of(form->fields[i], i > 0 && form->fields[i - 1] == KR_TEXT, w);
+    bool gives_bytes = form->answer == KR_BYTES;
+    int64_t answer = kr_ask(connection, form->operation, 1, fields, gives_bytes ? w->buffer : NULL, w->room);
+    if (gives_bytes) look_at_bytes(answer, w);
+    return answer;
 }
 
 /* ---- A connection ---- */
@@ -154,7 +116,7 @@ static int call(struct kr *connection, int patience) {
     else if ((which & 127) >= 100)
         answer = go_ahead(connection, &words);
     else
-        answer = ask(connection, which % 32, &words);
+        answer = ask(connection, &kr_ask_forms[which % kr_ask_form_count], &words);
     int error = errno;
     look_at_time(begun, patience);
     if (answer < -1) fault("an answer that is neither an error nor a number");

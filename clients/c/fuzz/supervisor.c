@@ -17,6 +17,7 @@
 #include <unistd.h>
 
 #include "caller.h"
+#include "connection.h"
 #include "serve.h"
 
 enum { PAGE = 4096, PAGES = 96, BEHIND = 65, WORDS = 5, HEAD = 2 + WORDS * 8 };
@@ -68,59 +69,14 @@ static void see_text(const char *text) {
     if (text) see(text, strlen(text));
 }
 
-#define NUMBER(function, ...)                                                                                          \
-    int function(struct kr *connection, uint32_t context, int32_t id, ##__VA_ARGS__) {                                 \
-        (void)connection, (void)context, (void)id;                                                                     \
-        return (int)answer(1);                                                                                         \
-    }
-
-NUMBER(kr_get_id, int create)
-NUMBER(kr_revoke)
-NUMBER(kr_chown, uint32_t uid, uint32_t gid)
-NUMBER(kr_setperm, uint32_t mask)
-NUMBER(kr_clear)
-NUMBER(kr_link, int32_t ring)
-NUMBER(kr_unlink, int32_t ring)
-NUMBER(kr_set_timeout, uint32_t seconds)
-NUMBER(kr_invalidate)
-NUMBER(kr_move, int32_t from, int32_t to, uint32_t flags)
-
-int kr_restrict_keyring(struct kr *connection, uint32_t context, int32_t ring, const char *type) {
-    see_text(type);
-    return kr_revoke(connection, context, ring);
-}
-
-int kr_update(struct kr *connection, uint32_t context, int32_t id, const void *payload, size_t length) {
-    see(payload, length);
-    return kr_revoke(connection, context, id);
-}
-
-int32_t kr_add(struct kr *connection, uint32_t context, const char *type, const char *description, const void *payload,
-               size_t length, int32_t ring) {
-    see_text(type), see_text(description), see(payload, length);
-    return kr_revoke(connection, context, ring);
-}
-
-int32_t kr_request(struct kr *connection, uint32_t context, const char *type, const char *description, int32_t ring) {
-    see_text(type), see_text(description);
-    return kr_revoke(connection, context, ring);
-}
-
-int32_t kr_search(struct kr *connection, uint32_t context, int32_t head, const char *type, const char *description,
-                  int32_t ring) {
-    see_text(type), see_text(description);
-    return kr_revoke(connection, context, head ^ ring);
-}
-
-int64_t kr_read(struct kr *connection, uint32_t context, int32_t id, void *buffer, size_t room) {
-    (void)connection, (void)context, (void)id;
-    long length = answer(262140);
+int64_t kr_ask(struct kr *connection, enum kr_operation operation, uint32_t context, const struct kr_field *fields,
+               void *buffer, size_t room) {
+    const struct kr_ask_form *form = kr_ask_form(operation);
+    (void)connection, (void)context;
+    for (int i = 0; form->fields[i] != KR_END; i++) see(fields[i].items, fields[i].count);
+    long length = answer(form->answer == KR_BYTES ? 262140 : 1);
     if (length > 0 && buffer) memset(buffer, 'r', (size_t)length < room ? (size_t)length : room);
     return length;
-}
-
-int64_t kr_describe(struct kr *connection, uint32_t context, int32_t id, void *buffer, size_t room) {
-    return kr_read(connection, context, id, buffer, room);
 }
 
 int32_t caller_join(struct caller *caller, const char *name) {
