@@ -1,6 +1,6 @@
 -- Changes of a key as it is kept, and as the definitions see them.
 use Rattle.std.specs.Prelude.{[], ◌∷◌, Bool, false, List, None, true, ℕ}
-use Rattle.krs_model.specs.Asks.{Linked.cleared, Restricting.restricted}
+use Rattle.krs_model.specs.Asks.Linked.{cleared, restricted}
 use Rattle.krs_keys.specs.declared.key.{Change.Change, Content.{Content, TheVariants.{Links, Payload}}, Key.Key}
 use Rattle.krs_keys.specs.declared.key.Change.TheVariants as change
 use Rattle.krs_model.specs.Asks.Changing as meant

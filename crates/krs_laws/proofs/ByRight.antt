@@ -18,8 +18,8 @@ use Rattle.krs_model.specs.Asks.{Changing.{with_expiry, with_owner, with_perm}, 
 use Rattle.krs_model.specs.Asks.{Finding.{get_id, made_where, request, search_from, sought_name}, Hello.hello}
 use Rattle.krs_model.specs.Asks.{Hello.{uid_ring, with_uid}, Invalidating.invalidate, Joining.{join, session_joined}}
 use Rattle.krs_model.specs.Asks.{Joining.session_ring, Leaving.{exit, left}, Linked.{clear, cleared_content, link}}
-use Rattle.krs_model.specs.Asks.{Linked.{linked_into, unless, unlink, without_link}, Moving.{move_link, moved}}
-use Rattle.krs_model.specs.Asks.{Reading.{describe, read}, Restricting.{restrict_keyring, restricted}}
+use Rattle.krs_model.specs.Asks.Linked.{linked_into, restrict_keyring, restricted, unless, unlink, without_link}
+use Rattle.krs_model.specs.Asks.{Moving.{move_link, moved}, Reading.{describe, read}}
 use Rattle.krs_model.specs.{Asks.Watching.{close_queue, open_queue, read_queue, set_filter, watch}, Levels.is_in}
 use Rattle.krs_model.specs.{Linking.ring_links, Lookup.{context_of, look_up}, Making.{made_for, own_ring}}
 use Rattle.krs_model.specs.{Possession.links_of_content, Search.{found, requested}, Sound.IsSound, State.Content}

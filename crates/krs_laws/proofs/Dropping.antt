@@ -17,7 +17,7 @@ use Rattle.krs_model.specs.Asks.Adding.{add, added, admitted, Made, new_key, Pla
 use Rattle.krs_model.specs.Asks.Changing.{changed, chown, paid_with, set_perm, set_timeout, update, updated}
 use Rattle.krs_model.specs.Asks.{Entering.{fork, thread}, Finding.{get_id, made_where}}
 use Rattle.krs_model.specs.Asks.Hello.{hello, with_context, with_uid}
-use Rattle.krs_model.specs.Asks.{Reading.{describe, read}, Restricting.restrict_keyring}
+use Rattle.krs_model.specs.Asks.{Linked.restrict_keyring, Reading.{describe, read}}
 use Rattle.krs_model.specs.Asks.Watching.{open_queue, read_queue, set_filter, watch}
 use Rattle.krs_model.specs.{Levels.is_in, Linking.{is_named, linked_content, with_link}, Lookup.context_of}
 use Rattle.krs_model.specs.Making.{made_for, thread_to, with_process, with_thread}

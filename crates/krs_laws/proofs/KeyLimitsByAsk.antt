@@ -22,10 +22,9 @@ use Rattle.krs_model.specs.Asks.Hello.{hello, uid_ring, with_uid}
 use Rattle.krs_model.specs.Asks.Invalidating.{invalidate}
 use Rattle.krs_model.specs.Asks.Joining.{join, session_joined, session_ring}
 use Rattle.krs_model.specs.Asks.Leaving.{exit, left}
-use Rattle.krs_model.specs.Asks.Linked.{clear, link, unless, unlink}
+use Rattle.krs_model.specs.Asks.Linked.{clear, link, restrict_keyring, unless, unlink}
 use Rattle.krs_model.specs.Asks.Moving.{move_link, moved}
 use Rattle.krs_model.specs.Asks.Reading.{describe, read}
-use Rattle.krs_model.specs.Asks.Restricting.{restrict_keyring}
 use Rattle.krs_model.specs.Asks.Watching.{close_queue, open_queue, read_queue, set_filter, watch}
 use Rattle.krs_model.specs.Lookup.{context_of, look_up}
 use Rattle.krs_model.specs.Making.{made_for, own_ring}

@@ -21,7 +21,6 @@ pub mod Changing
 pub mod Invalidating
 pub mod Linked
 pub mod Moving
-pub mod Restricting
 pub mod Reading
 pub mod Watching
 pub mod Leaving

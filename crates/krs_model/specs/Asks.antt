@@ -7,7 +7,6 @@ pub mod Reading
 pub mod Invalidating
 pub mod Linked
 pub mod Moving
-pub mod Restricting
 pub mod Finding
 pub mod Leaving
 pub mod Watching

@@ -10,8 +10,8 @@ use Rattle.krs_types.specs.declared.{errno.Errno.{Errno, TheVariants.ENOMEM}, ev
 use Rattle.krs_model.specs.Asks.Adding.{add}
 use Rattle.krs_model.specs.Asks.{Changing.{chown, revoke, set_perm, set_timeout, update}, Entering.{exec, fork, thread}}
 use Rattle.krs_model.specs.Asks.{Finding.{get_id, request, search_from}, Hello.hello, Invalidating.invalidate}
-use Rattle.krs_model.specs.Asks.{Joining.join, Leaving.{exit, left}, Linked.{clear, link, unlink}, Moving.move_link}
-use Rattle.krs_model.specs.Asks.{Reading.{describe, read}, Restricting.restrict_keyring}
+use Rattle.krs_model.specs.Asks.{Joining.join, Leaving.{exit, left}, Linked.{clear, link, restrict_keyring, unlink}}
+use Rattle.krs_model.specs.Asks.{Moving.move_link, Reading.{describe, read}}
 use Rattle.krs_model.specs.Asks.Watching.{close_queue, open_queue, read_queue, set_filter, watch}
 use Rattle.krs_model.specs.Notes.{Posting.{dropped_watches, Post, posted_in, posts}, Telling.{ended_by, notes_of}}
 use Rattle.krs_model.specs.{Outcome.Outcome, Queues.queues_of, State.{Key, raised, State}, Sweep.IsSweep, Table.Table}

@@ -1,6 +1,6 @@
 ghost use Rattle.std.specs.Prelude.{◌≡◌, ◌≢◌, Err};
 ghost use Rattle.krs_types.specs.declared.{errno.Errno.TheVariants.EEXIST, fault.Fault.TheVariants.Memory};
-ghost use Rattle.krs_model.specs.{Asks.{Linked.unless, Restricting.{no_type, restrict_keyring}}, Outcome.{Is, Leads}};
+ghost use Rattle.krs_model.specs.{Asks.Linked.{no_type, restrict_keyring, unless}, Outcome.{Is, Leads}};
 ghost use Rattle.krs_keys.specs.Keys.{seen};
 
 use crate::linking::links_of;
@@ -9,7 +9,7 @@ use krs_tables::Tables;
 use krs_types::{Answer, Errno, Fault, Rights, Serial, TypeName, Want};
 
 /// A keyring closed against further links, for good: keyctl(2), KEYCTL_RESTRICT_KEYRING. It takes no memory.
-#[tactic(auto, unfolding(krs_model::specs::Asks::Restricting::restrict_keyring))]
+#[tactic(auto, unfolding(krs_model::specs::Asks::Linked::restrict_keyring))]
 pub fn restrict_keyring(
     tables: &mut Tables,
     client: u32,

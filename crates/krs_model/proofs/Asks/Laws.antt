@@ -9,9 +9,9 @@ use Rattle.krs_model.proofs.Asks.Adding.{add_law}
 use Rattle.krs_model.proofs.Asks.Changing.{chown_law, revoke_law, set_perm_law, set_timeout_law, update_law}
 use Rattle.krs_model.proofs.Asks.{Entering.{exec_law, fork_law, thread_law}, Finding.get_id_law, Hello.hello_law}
 use Rattle.krs_model.proofs.Asks.{Invalidating.invalidate_law, Joining.join_law, Lawful.IsLawful}
-use Rattle.krs_model.proofs.Asks.{Leaving.{exit_law, leave_law}, Linked.{clear_law, link_law, unlink_law}}
+use Rattle.krs_model.proofs.Asks.{Leaving.{exit_law, leave_law}, Searching.search_law}
+use Rattle.krs_model.proofs.Asks.Linked.{clear_law, link_law, restrict_keyring_law, unlink_law}
 use Rattle.krs_model.proofs.Asks.{Moving.move_law, Reading.{describe_law, read_law}, Requesting.request_law}
-use Rattle.krs_model.proofs.Asks.{Restricting.restrict_keyring_law, Searching.search_law}
 use Rattle.krs_model.proofs.Asks.Watching.{close_queue_law, open_queue_law, read_queue_law, set_filter_law, watch_law}
 
 -- what is proved of any ask

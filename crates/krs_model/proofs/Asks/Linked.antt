@@ -1,9 +1,11 @@
--- What is proved of LINK, UNLINK and CLEAR.
-use Rattle.std.proofs.Common.{[], ◌≡◌, arith, Bool, IsSome, List, Ok, refl, subst, true, ℕ, ℤ}
+-- What is proved of LINK, UNLINK, CLEAR and RESTRICT_KEYRING.
+use Rattle.std.proofs.Common.{[], ◌≡◌, ◌∷◌, arith, Bool, IsSome, List, Ok, refl, subst, true, ℕ, ℤ}
 use Rattle.std.proofs.lemmas.Bool.Decides.{nat_tests}
-use Rattle.krs_types.specs.declared.ask.{Answer.{Answer, TheVariants.Nothing}, Op.TheVariants.{Clear, Link, Unlink}}
+use Rattle.krs_types.specs.declared.ask.Answer.{Answer, TheVariants.Nothing}
+use Rattle.krs_types.specs.declared.ask.Op.TheVariants.{Clear, Link, RestrictKeyring, Unlink}
 use Rattle.krs_types.specs.{declared.{context.Context.Context, rights.Want.TheVariants.Granted}, Rights.{LINK, WRITE}}
-use Rattle.krs_model.specs.Asks.Linked.{clear, cleared, cleared_content, link, linked, linked_into, name_of, unlink}
+use Rattle.krs_model.specs.Asks.Linked.{clear, cleared, cleared_content, link, linked, linked_into, name_of, no_type}
+use Rattle.krs_model.specs.Asks.Linked.{restrict_keyring, unlink}
 use Rattle.krs_model.specs.{Confidentiality.HasToItself, Hiding.blind_content, Linking.linking, Lookup.context_of}
 use Rattle.krs_model.specs.{Lookup.{look_up, serial_of}, Making.made_for, Notes.Telling.named}
 use Rattle.krs_model.specs.{Possession.links_of_content, Search.found, Sound.is_links, State.{Content, Key, Links}}
@@ -11,7 +13,8 @@ use Rattle.krs_model.specs.{State.{Payload, State}, Table.at}
 use Rattle.krs_model.proofs.Asks.{Fares.{fares, fares_within, linked_fares}, Later.{bind_ok, same_ok, same_state}}
 use Rattle.krs_model.proofs.Asks.{Later.within_ok, LaterByAsk.linked_into_is, Lawful.IsLawful, NewSerials.small_there}
 use Rattle.krs_model.proofs.Asks.{NotedKeys.{about_link_small, about_small}, Outcomes.{meets_after, meets_ok}}
-use Rattle.krs_model.proofs.{Asks.Plain.plains, Hiding.{Accepted.blind_done, Links.{made_blind, without_blind}}}
+use Rattle.krs_model.proofs.Asks.Plain.{IsPlain, plain_err, plain_ok, plains}
+use Rattle.krs_model.proofs.Hiding.{Accepted.blind_done, Links.{made_blind, without_blind}}
 use Rattle.krs_model.proofs.{Hiding.Seen.{is_seen, steps}, Isolation.{Keys.not_found, Links.{IsOther, made_alone}}}
 use Rattle.krs_model.proofs.{Isolation.Links.other_made, Lookups.{Laws.look_up_usable, Serials.found_serial}}
 use Rattle.krs_model.proofs.{Lookups.Serials.refused_is, MadeKeyring.Which.made_still, Sound.Changes.Lessens}
@@ -109,4 +112,19 @@ clear_law s client context id = record {
   plain = search plains depth 12;
   blind = λ hide hides. is_seen (blind_done hide) (search (steps, cleared_blind) depth 12);
   fares = search (fares, cleared_lessens) depth 12;
+}
+
+plain_no_type : (type_name : List ℕ) → IsPlain (no_type type_name)
+plain_no_type [] = plain_ok
+plain_no_type (byte ∷ bytes) = plain_err refl
+
+pub restrict_keyring_law :
+    (s : State) (client context : ℕ) (ring : ℤ) (type_name : List ℕ)
+    → IsLawful s client context (RestrictKeyring ring type_name)
+unfolding restrict_keyring
+restrict_keyring_law s client context ring type_name = record {
+  small = λ mid answer few h. tt;
+  plain = search (plains, plain_no_type) depth 12;
+  blind = λ hide hides. is_seen (blind_done hide) (search steps depth 12);
+  fares = search fares depth 12;
 }

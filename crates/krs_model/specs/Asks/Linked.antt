@@ -1,9 +1,9 @@
--- LINK, UNLINK and CLEAR: what a keyring links. keyctl(2).
-use Rattle.std.specs.Prelude.{[], ◌==◌, Bool, Err, filter, if◌then◌else◌, List, not, Ok, Result, ℕ, ℤ}
-use Rattle.krs_types.specs.Refusing.{◌>>=◌, or_refuse}
-use Rattle.krs_types.specs.{Rights.{LINK, WRITE}, declared.{ask.Answer.TheVariants.Nothing, context.Context.Context}}
-use Rattle.krs_types.specs.declared.errno.Errno.{Errno, TheVariants.{EDEADLK, ELOOP, ENOENT, ENOKEY, EPERM}}
-use Rattle.krs_types.specs.declared.{name.Name.Name, rights.Want.TheVariants.Granted}
+-- LINK, UNLINK, CLEAR and RESTRICT_KEYRING: what a keyring links, and whether it takes more. keyctl(2).
+use Rattle.std.specs.Prelude.{[], ◌==◌, ◌∷◌, Bool, Err, filter, if◌then◌else◌, List, not, Ok, Result, true, ℕ, ℤ}
+use Rattle.krs_types.specs.{Refusing.{◌>>=◌, or_refuse}, Rights.{LINK, SETATTR, WRITE}}
+use Rattle.krs_types.specs.declared.{ask.Answer.TheVariants.Nothing, context.Context.Context}
+use Rattle.krs_types.specs.declared.errno.Errno.{Errno, TheVariants.{EDEADLK, EEXIST, EINVAL, ELOOP, ENOENT, ENOKEY}}
+use Rattle.krs_types.specs.declared.{errno.Errno.TheVariants.EPERM, name.Name.Name, rights.Want.TheVariants.Granted}
 use Rattle.krs_model.specs.{Asks.Changing.changed, Levels.is_in, Linking.{has_room, link_named, linking, ring_links}}
 use Rattle.krs_model.specs.{Lookup.{context_of, look_up, serial_of}, Making.{made_for, within_serials}, Outcome.Outcome}
 use Rattle.krs_model.specs.Reach.{closes, has_chain, nesting_depth}
@@ -94,3 +94,22 @@ clear s client context id = do
   found ← look_up s c id (Granted WRITE)
   links ← ring_links found.1.content
   Ok (changed s found.0 cleared, Nothing)
+
+-- no type restricts links here: profile, closed keyrings
+abbrev pub no_type : List ℕ → Result (Unit {0}) Errno
+no_type [] = Ok tt
+no_type (byte ∷ bytes) = Err EINVAL
+
+-- the keyring takes no further link, and keeps those that it has
+abbrev pub restricted : Key → Key
+restricted ring = record ring { closed = true }
+
+-- a keyring closed, for good: KEYCTL_RESTRICT_KEYRING, "EEXIST"; profile, closed keyrings
+unfoldable pub restrict_keyring : State → ℕ → ℕ → ℤ → List ℕ → Outcome
+restrict_keyring s client context ring type_name = do
+  c ← context_of s client context
+  untyped ← no_type type_name
+  found ← look_up s c ring (Granted SETATTR)
+  links ← ring_links found.1.content
+  unclosed ← unless found.1.closed EEXIST
+  Ok (changed s found.0 restricted, Nothing)
