@@ -1,6 +1,6 @@
 -- Changes of a key as it is kept, and as the definitions see them.
 use Rattle.std.specs.Prelude.{[], ◌∷◌, Bool, false, List, None, true, ℕ}
-use Rattle.krs_model.specs.Asks.Linked.{cleared, restricted}
+use Rattle.krs_model.specs.Asks.Linked.{cleared, closed_for_good}
 use Rattle.krs_keys.specs.declared.key.{Change.Change, Content.{Content, TheVariants.{Links, Payload}}, Key.Key}
 use Rattle.krs_keys.specs.declared.key.Change.TheVariants as change
 use Rattle.krs_model.specs.Asks.Changing as meant
@@ -37,7 +37,7 @@ meant_change (change.Owner uid gid) = meant.with_owner uid gid
 meant_change (change.Expiry expiry) = meant.with_expiry expiry
 meant_change change.Revoked = meant.revoked
 meant_change change.Cleared = cleared
-meant_change change.Closed = restricted
+meant_change change.Closed = closed_for_good
 
 abbrev pub links_some : Content → Bool
 links_some (Payload bytes) = false

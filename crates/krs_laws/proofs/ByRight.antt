@@ -18,7 +18,7 @@ use Rattle.krs_model.specs.Asks.{Changing.{with_expiry, with_owner, with_perm}, 
 use Rattle.krs_model.specs.Asks.{Finding.{get_id, made_where, request, search_from, sought_name}, Hello.hello}
 use Rattle.krs_model.specs.Asks.{Hello.{uid_ring, with_uid}, Invalidating.invalidate, Joining.{join, session_joined}}
 use Rattle.krs_model.specs.Asks.{Joining.session_ring, Leaving.{exit, left}, Linked.{clear, cleared_content, link}}
-use Rattle.krs_model.specs.Asks.Linked.{linked_into, restrict_keyring, restricted, unless, unlink, without_link}
+use Rattle.krs_model.specs.Asks.Linked.{closed_for_good, linked_into, restrict_keyring, unless, unlink, without_link}
 use Rattle.krs_model.specs.Asks.{Moving.{move_link, moved}, Reading.{describe, read}}
 use Rattle.krs_model.specs.{Asks.Watching.{close_queue, open_queue, read_queue, set_filter, watch}, Levels.is_in}
 use Rattle.krs_model.specs.{Linking.ring_links, Lookup.{context_of, look_up}, Making.{made_for, own_ring}}
@@ -212,7 +212,7 @@ revoked_by_right s client context n v right = search (Emptied, inl, inr)
 
 closed_by_right :
     (s : State) (client context n : ℕ) (v : Key) → HasRight s client context (Granted SETATTR) n
-    → IsByRight s client context n v (restricted v)
+    → IsByRight s client context n v (closed_for_good v)
 closed_by_right s client context n v right = search (Kept, inl, inr)
 
 unlinked_by_right :

@@ -101,8 +101,8 @@ no_type [] = Ok tt
 no_type (byte ∷ bytes) = Err EINVAL
 
 -- the keyring takes no further link, and keeps those that it has
-abbrev pub restricted : Key → Key
-restricted ring = record ring { closed = true }
+abbrev pub closed_for_good : Key → Key
+closed_for_good ring = record ring { closed = true }
 
 -- a keyring closed, for good: KEYCTL_RESTRICT_KEYRING, "EEXIST"; profile, closed keyrings
 unfoldable pub restrict_keyring : State → ℕ → ℕ → ℤ → List ℕ → Outcome
@@ -112,4 +112,4 @@ restrict_keyring s client context ring type_name = do
   found ← look_up s c ring (Granted SETATTR)
   links ← ring_links found.1.content
   unclosed ← unless found.1.closed EEXIST
-  Ok (changed s found.0 restricted, Nothing)
+  Ok (changed s found.0 closed_for_good, Nothing)
