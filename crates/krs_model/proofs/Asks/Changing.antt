@@ -137,3 +137,5 @@ set_timeout_law s client context id seconds = record {
   blind = λ hide hides. is_seen (blind_done hide) (search steps depth 12);
   fares = search fares depth 12;
 }
+
+pub ruleset changing_laws = (update_law, revoke_law, chown_law, set_perm_law, set_timeout_law)

@@ -61,3 +61,5 @@ exec_law s client context = record {
       (λ uid private stands alone.
       execed_unattached uid private s context c (next_apart uid private s alone) alone.unattached)));
 }
+
+pub ruleset entering_laws = (thread_law, fork_law, exec_law)

@@ -1,4 +1,4 @@
--- What is proved of each ask. A further ask has a record of these facts in a file of its own, and a line in `Laws`.
+-- What is proved of each ask. A further ask has a record of these facts in the file of its subject, in a set of `Laws`.
 use Rattle.std.proofs.Common.{◌≡◌, Ok, ℕ}
 use Rattle.krs_types.specs.declared.ask.{Answer.Answer, Op.Op}
 use Rattle.krs_model.specs.Hiding.{blind, blind_ask, blind_outcome, Hides, Hiding}

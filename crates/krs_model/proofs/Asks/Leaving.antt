@@ -102,3 +102,5 @@ leave_law s client context = record {
         keeps = λ uid private stands alone other. inl (left_same private s client);
       });
 }
+
+pub ruleset leaving_laws = (exit_law, leave_law)

@@ -128,3 +128,5 @@ restrict_keyring_law s client context ring type_name = record {
   blind = λ hide hides. is_seen (blind_done hide) (search steps depth 12);
   fares = search fares depth 12;
 }
+
+pub ruleset linked_laws = (link_law, unlink_law, clear_law, restrict_keyring_law)

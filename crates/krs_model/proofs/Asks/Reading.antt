@@ -65,3 +65,5 @@ describe_law s client context id = record {
   blind = λ hide hides. found_in hide s client context id (Granted VIEW) (blind_done hide) _ _ (λ c found _ _. refl);
   fares = search fares depth 12;
 }
+
+pub ruleset reading_laws = (read_law, describe_law)

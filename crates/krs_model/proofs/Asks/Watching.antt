@@ -220,3 +220,5 @@ close_queue_law s client context queue = record {
   blind = λ hide hides. after (blind_done hide) (closed (queues_of s) client queue) _ _ (λ x _. refl);
   fares = search fares depth 12;
 }
+
+pub ruleset watching_laws = (watch_law, open_queue_law, set_filter_law, read_queue_law, close_queue_law)
