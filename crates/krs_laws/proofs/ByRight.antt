@@ -4,26 +4,19 @@ use Rattle.std.proofs.Common.{Err, false, filter, inl, inr, IsSome, length, List
 use Rattle.std.proofs.Common.{option_map, refl, Result, Some, subst, sym, true, true≢false, ℕ, ℤ}
 use Rattle.std.proofs.lemmas.Option.{none-some, same_Some}
 use Rattle.krs_types.specs.{Caller.is_of_group, declared.ask.{Answer.Answer, Op.{Op, TheVariants.{Add, Chown}}}}
-use Rattle.krs_types.specs.declared.ask.Op.TheVariants.{Clear, CloseQueue, Describe, Exec, Exit, Fork, GetId, Hello}
-use Rattle.krs_types.specs.declared.ask.Op.TheVariants.{Invalidate, Join, Leave, Link, Move, OpenQueue, Read}
-use Rattle.krs_types.specs.declared.ask.Op.TheVariants.{ReadQueue, Request, RestrictKeyring, Revoke, Search}
-use Rattle.krs_types.specs.declared.ask.Op.TheVariants.{SetFilter, SetPerm, SetTimeout, Thread, Unlink, Update, Watch}
+use Rattle.krs_types.specs.declared.ask.Op.TheVariants.{Clear, GetId, Hello, Join, Link, Move, Request, Search, SetPerm}
 use Rattle.krs_types.specs.declared.{caller.Caller.Caller, context.{Context.Context, UidRings.UidRings}}
 use Rattle.krs_types.specs.declared.{errno.Errno.{Errno, TheVariants.{EACCES, EINVAL}}, event.Event.Event}
 use Rattle.krs_types.specs.{declared.rights.Want.TheVariants.{Either, Granted}, Growth.has_destination, Perm.perm_of}
 use Rattle.krs_types.specs.Rights.{LINK, SEARCH, SETATTR, WRITE}
 use Rattle.krs_model.specs.Asks.{Adding.{add, admitted, place_of}, Changing.{chown, emptied, if_may_own, if_owner}}
-use Rattle.krs_model.specs.Asks.Changing.{may_own, or_left, revoke, revoked, set_perm, set_timeout, update}
-use Rattle.krs_model.specs.Asks.{Changing.{with_expiry, with_owner, with_perm}, Entering.{exec, fork, thread}}
-use Rattle.krs_model.specs.Asks.{Finding.{get_id, made_where, request, search_from, sought_name}, Hello.hello}
-use Rattle.krs_model.specs.Asks.{Hello.{uid_ring, with_uid}, Invalidating.invalidate, Joining.{join, session_joined}}
-use Rattle.krs_model.specs.Asks.{Joining.session_ring, Leaving.{exit, left}, Linked.{clear, cleared_content, link}}
-use Rattle.krs_model.specs.Asks.Linked.{closed_for_good, linked_into, restrict_keyring, unless, unlink, without_link}
-use Rattle.krs_model.specs.Asks.{Moving.{move_link, moved}, Reading.{describe, read}}
-use Rattle.krs_model.specs.{Asks.Watching.{close_queue, open_queue, read_queue, set_filter, watch}, Levels.is_in}
-use Rattle.krs_model.specs.{Linking.ring_links, Lookup.{context_of, look_up}, Making.{made_for, own_ring}}
+use Rattle.krs_model.specs.Asks.Changing.{may_own, or_left, revoked, set_perm, with_expiry, with_owner, with_perm}
+use Rattle.krs_model.specs.Asks.{Finding.{made_where, request, search_from, sought_name}, Hello.{uid_ring, with_uid}}
+use Rattle.krs_model.specs.Asks.{Joining.{session_joined, session_ring}, Linked.{clear, cleared_content, link}}
+use Rattle.krs_model.specs.Asks.{Linked.{closed_for_good, linked_into, unless, without_link}, Moving.{move_link, moved}}
+use Rattle.krs_model.specs.{Levels.is_in, Linking.ring_links, Lookup.{context_of, look_up}, Making.{made_for, own_ring}}
 use Rattle.krs_model.specs.{Possession.links_of_content, Search.{found, requested}, Sound.IsSound, State.Content}
-use Rattle.krs_model.specs.{State.{Key, Links, Payload, raised, State}, Step.{Ends, outcome_of, Serves, Step}}
+use Rattle.krs_model.specs.{State.{Key, Links, Payload, raised, State}, Step.{each_ask, Ends, outcome_of, Serves, Step}}
 use Rattle.krs_model.specs.{Sweep.{Attached, IsHeld, Linked, PicksHeld, roots}, Table.{at, map_values, put, Table}}
 use Rattle.krs_model.proofs.Asks.{Fares.meets_by, LaterByAsk.moved_is, Laws.law_of, Outcomes.{Meets, meets_after}}
 use Rattle.krs_model.proofs.{Asks.Outcomes.{meets_ok, meets_within}, Isolation.{Births.made_own, Keys.kept_links}}
@@ -405,13 +398,7 @@ ruleset rights = (
 )
 
 all_rightly : (s : State) (client context : ℕ) (op : Op) → Stands s → Comes s client context op
-unfolding
-    hello thread fork exec get_id join update revoke invalidate set_timeout unlink restrict_keyring read
-    describe watch open_queue set_filter read_queue close_queue exit left
-all_rightly s client context (Hello caller) stands = search rights depth 12
-all_rightly s client context Thread stands = search rights depth 12
-all_rightly s client context Fork stands = search rights depth 12
-all_rightly s client context Exec stands = search rights depth 12
+unfolding each_ask
 all_rightly s client context (GetId id create) stands = search (where_rightly, next_none, rights) depth 12
 all_rightly s client context (Join name) stands = search (joined_rightly, rights) depth 12
 all_rightly s client context (Search head type_name desc dest) stands =
@@ -420,26 +407,12 @@ all_rightly s client context (Request type_name desc dest) stands =
     request_rightly s client context type_name desc dest stands
 all_rightly s client context (Add type_name desc payload ring) stands =
     add_rightly s client context type_name desc payload ring stands
-all_rightly s client context (Update id payload) stands = search rights depth 12
-all_rightly s client context (Revoke id) stands = search rights depth 12
-all_rightly s client context (Invalidate id) stands = search rights depth 12
 all_rightly s client context (Chown id uid gid) stands = chown_rightly s client context id uid gid
 all_rightly s client context (SetPerm id mask) stands = set_perm_rightly s client context id mask
-all_rightly s client context (SetTimeout id seconds) stands = search rights depth 12
 all_rightly s client context (Link key ring) stands = link_rightly s client context key ring stands
-all_rightly s client context (Unlink key ring) stands = search rights depth 12
 all_rightly s client context (Move key from to flags) stands = move_rightly s client context key from to flags stands
 all_rightly s client context (Clear id) stands = clear_rightly s client context id
-all_rightly s client context (RestrictKeyring ring type_name) stands = search rights depth 12
-all_rightly s client context (Read id) stands = search rights depth 12
-all_rightly s client context (Describe id) stands = search rights depth 12
-all_rightly s client context (Watch id queue watch_id) stands = search rights depth 12
-all_rightly s client context (OpenQueue capacity) stands = search rights depth 12
-all_rightly s client context (SetFilter queue entries) stands = search rights depth 12
-all_rightly s client context (ReadQueue queue room) stands = search rights depth 12
-all_rightly s client context (CloseQueue queue) stands = search rights depth 12
-all_rightly s client context Exit stands = search rights depth 12
-all_rightly s client context Leave stands = search rights depth 12
+all_rightly s client context op stands = search rights depth 12
 
 -- ---- a step
 

@@ -5,26 +5,22 @@ use Rattle.std.proofs.Common.{subst, sym, true, true≢false, unwrap_or, ℕ, �
 use Rattle.std.proofs.lemmas.{Bool.Decides.nat_tests, Option.{none-some, same_Some}}
 use Rattle.krs_types.specs.{KeyId.key_id_of, Refusing.or_refuse, Rows.{names_keyrings, row_of}}
 use Rattle.krs_types.specs.Kind.{begins_with, checked, is_bad_text, kind_name, kind_named, kinds, same_kind}
-use Rattle.krs_types.specs.declared.ask.Op.{Op, TheVariants.{Add, Chown, Describe, Fork, GetId, Hello, OpenQueue, Read}}
-use Rattle.krs_types.specs.declared.ask.Op.TheVariants.{ReadQueue, RestrictKeyring, SetFilter, SetPerm, SetTimeout}
-use Rattle.krs_types.specs.declared.ask.Op.TheVariants.{Thread, Update, Watch}
+use Rattle.krs_types.specs.declared.ask.Op.{Op, TheVariants.{Add, Clear, CloseQueue, Exec, Exit, Invalidate, Join}}
+use Rattle.krs_types.specs.declared.ask.Op.TheVariants.{Leave, Link, Move, Request, Revoke, Search, Unlink}
 use Rattle.krs_types.specs.declared.{caller.Caller.Caller, context.{Context.Context, UidRings.UidRings}}
 use Rattle.krs_types.specs.declared.errno.Errno.{Errno, TheVariants.{EINVAL, ENODEV, EPERM}}
 use Rattle.krs_types.specs.declared.{event.Event.Event, key_id.KeyId.KeyId, kind.Kind.{Kind, TheVariants.Keyring}}
 use Rattle.krs_types.specs.declared.name.Name.{Name}
 use Rattle.krs_types.proofs.KindRows.{equal_kinds}
 use Rattle.krs_model.specs.Asks.Adding.{add, added, admitted, Made, new_key, Place, place_of, Updated}
-use Rattle.krs_model.specs.Asks.Changing.{changed, chown, paid_with, set_perm, set_timeout, update, updated}
-use Rattle.krs_model.specs.Asks.{Entering.{fork, thread}, Finding.{get_id, made_where}}
-use Rattle.krs_model.specs.Asks.Hello.{hello, with_context, with_uid}
-use Rattle.krs_model.specs.Asks.{Linked.restrict_keyring, Reading.{describe, read}}
-use Rattle.krs_model.specs.Asks.Watching.{open_queue, read_queue, set_filter, watch}
+use Rattle.krs_model.specs.Asks.{Changing.{changed, paid_with, updated}, Finding.made_where}
+use Rattle.krs_model.specs.Asks.Hello.{with_context, with_uid}
 use Rattle.krs_model.specs.{Levels.is_in, Linking.{is_named, linked_content, with_link}, Lookup.context_of}
 use Rattle.krs_model.specs.Making.{made_for, thread_to, with_process, with_thread}
 use Rattle.krs_model.specs.{Possession.links_of_content, Queues.{Queues, with_queues}, Reach.links_of_key_at}
 use Rattle.krs_model.specs.Sound.{is_links, IsFitting, IsSound}
 use Rattle.krs_model.specs.State.{Content, Key, Links, Payload, raised, State}
-use Rattle.krs_model.specs.{Step.{outcome_of, Step}, Table.{alter, at, put, Rises, Table}}
+use Rattle.krs_model.specs.{Step.{each_ask, outcome_of, Step}, Table.{alter, at, put, Rises, Table}}
 use Rattle.krs_model.specs.Sweep.{AllHeld, Attached, context_roots, IsHeld, Linked, links_of_key, process_roots, roots}
 use Rattle.krs_model.specs.Sweep.{uid_roots}
 use Rattle.krs_model.proofs.Asks.{Later.{bind_ok, same_ok, same_state}, Outcomes.{Meets, meets_after, meets_ok}}
@@ -413,27 +409,23 @@ ruleset spared = (
 all_spared :
     (s : State) (client context : ℕ) (op : Op) → Stands s → (row_of op).long ≡ false
     → Meets (Spares s) (outcome_of s client context op)
-unfolding
-    hello thread fork get_id update chown set_perm set_timeout restrict_keyring read describe watch open_queue
-    set_filter read_queue
-all_spared s client context (Hello caller) stands short = search spared depth 12
-all_spared s client context Thread stands short = search spared depth 12
-all_spared s client context Fork stands short = search spared depth 12
-all_spared s client context (GetId id create) stands short = search spared depth 12
+unfolding each_ask
 all_spared s client context (Add type_name desc payload ring) stands short =
     add_spared s client context type_name desc payload ring stands short
-all_spared s client context (Update id payload) stands short = search spared depth 12
-all_spared s client context (Chown id uid gid) stands short = search spared depth 12
-all_spared s client context (SetPerm id mask) stands short = search spared depth 12
-all_spared s client context (SetTimeout id seconds) stands short = search spared depth 12
-all_spared s client context (RestrictKeyring ring type_name) stands short = search spared depth 12
-all_spared s client context (Read id) stands short = search spared depth 12
-all_spared s client context (Describe id) stands short = search spared depth 12
-all_spared s client context (Watch id queue watch_id) stands short = search spared depth 12
-all_spared s client context (OpenQueue capacity) stands short = search spared depth 12
-all_spared s client context (SetFilter queue entries) stands short = search spared depth 12
-all_spared s client context (ReadQueue queue room) stands short = search spared depth 12
-all_spared s client context op stands short = absurd (true≢false short)
+all_spared s client context Exec stands short = absurd (true≢false short)
+all_spared s client context (Join name) stands short = absurd (true≢false short)
+all_spared s client context (Search head type_name desc dest) stands short = absurd (true≢false short)
+all_spared s client context (Request type_name desc dest) stands short = absurd (true≢false short)
+all_spared s client context (Revoke id) stands short = absurd (true≢false short)
+all_spared s client context (Invalidate id) stands short = absurd (true≢false short)
+all_spared s client context (Link key ring) stands short = absurd (true≢false short)
+all_spared s client context (Unlink key ring) stands short = absurd (true≢false short)
+all_spared s client context (Move key from to flags) stands short = absurd (true≢false short)
+all_spared s client context (Clear id) stands short = absurd (true≢false short)
+all_spared s client context (CloseQueue queue) stands short = absurd (true≢false short)
+all_spared s client context Exit stands short = absurd (true≢false short)
+all_spared s client context Leave stands short = absurd (true≢false short)
+all_spared s client context op stands short = search spared depth 12
 
 step_drops :
     (old new : State) (event : Event) → IsSound old → Step old event new → (row_of event.ask.op).long ≡ false

@@ -4,10 +4,7 @@ use Rattle.std.proofs.Common.{Some, true, ℕ, ℤ, ◌∷◌, ◌≡◌}
 use Rattle.krs_types.specs.Kind.{paid, row_of}
 use Rattle.krs_types.specs.Rights.{LINK, WRITE}
 use Rattle.krs_types.specs.declared.ask.Op.{Op}
-use Rattle.krs_types.specs.declared.ask.Op.TheVariants.{Add, Chown, Clear, CloseQueue, Describe, Exec, Exit, Fork}
-use Rattle.krs_types.specs.declared.ask.Op.TheVariants.{GetId, Hello, Invalidate, Join, Leave, Link, Move, OpenQueue}
-use Rattle.krs_types.specs.declared.ask.Op.TheVariants.{Read, ReadQueue, Request, RestrictKeyring, Revoke, Search}
-use Rattle.krs_types.specs.declared.ask.Op.TheVariants.{SetFilter, SetPerm, SetTimeout, Thread, Unlink, Update, Watch}
+use Rattle.krs_types.specs.declared.ask.Op.TheVariants.{Add, Link, Move, Request, Search, Update}
 use Rattle.krs_types.specs.declared.caller.Caller.{Caller}
 use Rattle.krs_types.specs.declared.context.Context.{Context}
 use Rattle.krs_types.specs.declared.context.UidRings.{UidRings}
@@ -15,22 +12,17 @@ use Rattle.krs_types.specs.declared.errno.Errno.TheVariants.{EINVAL}
 use Rattle.krs_types.specs.declared.rights.Want.{Want}
 use Rattle.krs_types.specs.declared.rights.Want.TheVariants.{Granted}
 use Rattle.krs_model.specs.Asks.Adding.{add, admitted, place_of}
-use Rattle.krs_model.specs.Asks.Changing.{chown, revoke, set_perm, set_timeout, updatable, update, updated}
-use Rattle.krs_model.specs.Asks.Entering.{exec, fork, thread}
-use Rattle.krs_model.specs.Asks.Finding.{get_id, made_where, request, search_from}
-use Rattle.krs_model.specs.Asks.Hello.{hello, uid_ring, with_uid}
-use Rattle.krs_model.specs.Asks.Invalidating.{invalidate}
-use Rattle.krs_model.specs.Asks.Joining.{join, session_joined, session_ring}
-use Rattle.krs_model.specs.Asks.Leaving.{exit, left}
-use Rattle.krs_model.specs.Asks.Linked.{clear, link, restrict_keyring, unless, unlink}
+use Rattle.krs_model.specs.Asks.Changing.{updatable, update, updated}
+use Rattle.krs_model.specs.Asks.Finding.{made_where}
+use Rattle.krs_model.specs.Asks.Hello.{uid_ring, with_uid}
+use Rattle.krs_model.specs.Asks.Joining.{session_joined, session_ring}
+use Rattle.krs_model.specs.Asks.Linked.{unless}
 use Rattle.krs_model.specs.Asks.Moving.{move_link, moved}
-use Rattle.krs_model.specs.Asks.Reading.{describe, read}
-use Rattle.krs_model.specs.Asks.Watching.{close_queue, open_queue, read_queue, set_filter, watch}
 use Rattle.krs_model.specs.Lookup.{context_of, look_up}
 use Rattle.krs_model.specs.Making.{made_for, own_ring}
 use Rattle.krs_model.specs.Search.{found}
 use Rattle.krs_model.specs.State.{Key, State}
-use Rattle.krs_model.specs.Step.{outcome_of}
+use Rattle.krs_model.specs.Step.{each_ask, outcome_of}
 use Rattle.krs_model.specs.Table.{at, put}
 use Rattle.krs_model.proofs.Asks.Fares.{meets_by}
 use Rattle.krs_model.proofs.Asks.LaterByAsk.{moved_is}
@@ -133,15 +125,7 @@ ruleset shorts = (
 )
 
 pub all_short : (s : State) (client context : ℕ) (op : Op) → Stands s → AllShort s.keys → Shortly s client context op
-unfolding
-    hello thread fork exec get_id join search_from request link revoke invalidate chown set_perm set_timeout unlink
-    clear restrict_keyring read describe watch open_queue set_filter read_queue close_queue exit left
-all_short s client context (Hello caller) stands all = search shorts depth 12
-all_short s client context Thread stands all = search shorts depth 12
-all_short s client context Fork stands all = search shorts depth 12
-all_short s client context Exec stands all = search shorts depth 12
-all_short s client context (GetId id create) stands all = search shorts depth 12
-all_short s client context (Join name) stands all = search shorts depth 12
+unfolding each_ask
 all_short s client context (Search head type_name desc dest) stands all =
     search (found_short, made_short, meets_by, shorts) depth 16
 all_short s client context (Request type_name desc dest) stands all =
@@ -149,23 +133,7 @@ all_short s client context (Request type_name desc dest) stands all =
 all_short s client context (Add type_name desc payload ring) stands all =
     add_short s client context type_name desc payload ring stands all
 all_short s client context (Update id payload) stands all = update_short s client context id payload all
-all_short s client context (Revoke id) stands all = search shorts depth 12
-all_short s client context (Invalidate id) stands all = search shorts depth 12
-all_short s client context (Chown id uid gid) stands all = search shorts depth 12
-all_short s client context (SetPerm id mask) stands all = search shorts depth 12
-all_short s client context (SetTimeout id seconds) stands all = search shorts depth 12
 all_short s client context (Link key ring) stands all =
     search (linked_short, found_there, made_short, shorts) depth 12
-all_short s client context (Unlink key ring) stands all = search shorts depth 12
 all_short s client context (Move key from to flags) stands all = move_short s client context key from to flags all
-all_short s client context (Clear id) stands all = search shorts depth 12
-all_short s client context (RestrictKeyring ring type_name) stands all = search shorts depth 12
-all_short s client context (Read id) stands all = search shorts depth 12
-all_short s client context (Describe id) stands all = search shorts depth 12
-all_short s client context (Watch id queue watch_id) stands all = search shorts depth 12
-all_short s client context (OpenQueue capacity) stands all = search shorts depth 12
-all_short s client context (SetFilter queue entries) stands all = search shorts depth 12
-all_short s client context (ReadQueue queue room) stands all = search shorts depth 12
-all_short s client context (CloseQueue queue) stands all = search shorts depth 12
-all_short s client context Exit stands all = search shorts depth 12
-all_short s client context Leave stands all = search shorts depth 12
+all_short s client context op stands all = search shorts depth 12

@@ -49,6 +49,13 @@ outcome_of s client context (CloseQueue queue) = close_queue s client queue
 outcome_of s client context Exit = exit s client context
 outcome_of s client context Leave = Ok (left s client, Nothing)
 
+-- where this unfolds, what each ask comes to does
+unfoldable pub each_ask : Type 0
+unfolding
+    hello thread fork exec get_id join search_from request add update revoke invalidate chown set_perm set_timeout link
+    unlink move_link clear restrict_keyring read describe watch open_queue set_filter read_queue close_queue exit left
+each_ask = Unit {0}
+
 -- the watches that an accepted ask leaves, before the sweep
 abbrev pub watches_left : Outcome → List queues.Watch
 watches_left (Err e) = []
