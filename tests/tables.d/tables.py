@@ -219,13 +219,23 @@ def try_foreign():
         compare_all("ASSURANCE, the C functions that the daemon reaches", reached, foreign.listed())
 
 
+def try_waiting():
+    """What waits for ever meets every contract, so nothing of what asks on a seat can: but for the desk's wait for the
+    answer to a posted call, which reaches no seat."""
+    asking = [f"{crate}/src/{name}" for crate in ("krs_desk", "krs_session")
+              for name in os.listdir(f"{rows.TOP}/crates/{crate}/src") if name.endswith(".rt")]
+    asking += ["krs_serve/src/connection.rt", "krs_serve/src/entry.rt"]
+    waiting = [it for it in asking if vectors.words_in(rows.text_of(f"crates/{it}")) & {"Wait", "forever"}]
+    compare("what waits for ever", [f"krs_desk/src/{it}.rt" for it in ("awaiting", "bells", "waiting")], sorted(waiting))
+
+
 def try_bodies():
     compare("wrong bodies that can't be applied", {}, bodies.misfits())
     compare("how a check of wrong bodies is read", bodies.WANTED, bodies.verdicts())
 
 
 for case in (try_definitions, try_format, try_lists, try_pages, try_python, try_admission, try_bench, try_types,
-             try_foreign, try_bodies):
+             try_foreign, try_waiting, try_bodies):
     case()
 if os.access(KEYRETAIN, os.X_OK):
     try_help()

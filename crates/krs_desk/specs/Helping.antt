@@ -74,6 +74,15 @@ pub record Waits (desk : TableId) (s : Sitting) (moment : ℕ) (ask : Ask) (t : 
   pub rises : ¬ (t.part.taken < s.part.taken)
   pub looked : HasLooked desk s t
 
+-- whatever call is waited for, this is its reply, and all is as after such a call
+abbrev pub AnswersWaiting : TableId → Sitting → Result Answer Errno → Sitting → Type 0
+AnswersWaiting desk t reply u =
+    (s : Sitting) (moment : ℕ) (ask : Ask) → Waits desk s moment ask t → Called desk false s moment ask reply u
+
+-- whatever call is waited for, it still is
+abbrev pub StillWaits : TableId → Sitting → Sitting → Type 0
+StillWaits desk t u = (s : Sitting) (moment : ℕ) (ask : Ask) → Waits desk s moment ask t → Waits desk s moment ask u
+
 -- Helping, step by step.
 
 -- the list that is held

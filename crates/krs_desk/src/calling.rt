@@ -4,6 +4,7 @@ ghost use Rattle.krs_model.specs.History.{event_of};
 ghost use Rattle.krs_store.specs.Told.{bytes_of, reply_of};
 ghost use Rattle.krs_desk.specs.{Helping.{Called, HasLooked}, Sitting.{Adds, IsIdleAt, KeepsTurn, missed_by}};
 
+use crate::Awaits;
 use crate::desk::Desk;
 use crate::nobody::{Nobody, reply_in};
 use crate::seat::Seat;
@@ -11,7 +12,6 @@ use crate::waiting::{FIRST_PAUSE, TRIES, TRIES_ALONE, pause};
 use crate::word::FREE;
 use krs_store::{Taker, Told};
 use krs_types::{Ask, Reply};
-use std::sync::Wait;
 
 impl Desk {
     // Asks the store where the turn is free, after it has answered each call that is posted, and keeps the turn where
@@ -45,30 +45,10 @@ impl Desk {
         Ok(self.finish(&mut seat.token, seat.lane, moment, ask, taker))
     }
 
-    // Posts a call, and helps or waits until it is answered.
-    #[inline(never)]
-    fn call_by_post<R: Wait>(&self, rt: &R, seat: &mut Seat, moment: u64, ask: Ask) -> Reply
-        requires idle { IsIdleAt self.now seat.old }
-        ensures called { Called self.now false seat.old moment ask result seat.new }
-    {
-        self.post(seat, moment, ask);
-        for _ in rt.forever() {
-            if let Some(reply) = self.collect(seat) {
-                return reply;
-            }
-            let _helped = self.help(seat);
-            if let Some(reply) = self.collect(seat) {
-                return reply;
-            }
-            self.wait(rt, seat.lane);
-        }
-        unreachable!()
-    }
-
     // Pauses and tries again to have the turn, and at last posts the call. Where more calls follow, no turn is kept
     // while it waits. Apart from `call_anew`, which moves the ask less often so, and clears no room for it.
     #[inline(never)]
-    fn call_again<R: Wait, T: Taker>(
+    fn call_again<R: Awaits, T: Taker>(
         &self,
         rt: &R,
         seat: &mut Seat,
@@ -109,7 +89,7 @@ impl Desk {
     // Asks the store in a turn that is taken for it, and keeps that where more calls follow. In `call_into` itself the
     // ask would be moved once more.
     #[inline(always)]
-    fn call_anew<R: Wait, T: Taker>(
+    fn call_anew<R: Awaits, T: Taker>(
         &self,
         rt: &R,
         seat: &mut Seat,
@@ -134,7 +114,7 @@ impl Desk {
 
     /// As `call_on`, but a taker may have the payload that a READ finds where it lies, and then no reply is made. Where
     /// the call is posted, its reply is whole.
-    pub fn call_into<R: Wait, T: Taker>(
+    pub fn call_into<R: Awaits, T: Taker>(
         &self,
         rt: &R,
         seat: &mut Seat,
@@ -161,7 +141,7 @@ impl Desk {
     /// As `call`. Where more calls of this seat follow at once, it may keep the turn for them, until a call with no
     /// more, `rest`, or another function of the seat. Nobody else is served while it has the turn, so the seat must not
     /// be left with it.
-    pub fn call_on<R: Wait>(
+    pub fn call_on<R: Awaits>(
         &self,
         rt: &R,
         seat: &mut Seat,
@@ -183,7 +163,7 @@ impl Desk {
     /// Asks the store as the last call of the turn that the seat keeps. Where it keeps none, asks in a turn of its own,
     /// after each call that is posted. Where the turn is taken again and again it posts the call, and helps or waits
     /// until it is answered.
-    pub fn call<R: Wait>(&self, rt: &R, seat: &mut Seat, moment: u64, ask: Ask) -> Reply
+    pub fn call<R: Awaits>(&self, rt: &R, seat: &mut Seat, moment: u64, ask: Ask) -> Reply
         requires table { seat.old.table ≡ self.now }
         requires idle { seat.old.part.flight ≡ None }
         ensures table { seat.new.table ≡ seat.old.table }

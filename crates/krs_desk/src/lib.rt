@@ -3,6 +3,7 @@
 //! may be posted, and is then answered in a turn of `call` or `help`. A seat may keep its turn for calls that follow.
 #![tactic(auto)]
 
+mod awaiting;
 mod bells;
 mod board;
 mod boxed;
@@ -18,6 +19,7 @@ mod laws;
 mod meeting;
 mod nobody;
 mod opening;
+mod posted;
 mod posting;
 mod seat;
 mod served_call;
@@ -27,8 +29,10 @@ mod token;
 mod waiting;
 mod word;
 
+pub use awaiting::Awaits;
 pub use closing::Stopped;
 pub use desk::Desk;
 pub use helping::Helped;
 pub use opening::{Refused, Why};
+pub use posted::Posted;
 pub use seat::Seat;

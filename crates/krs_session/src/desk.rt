@@ -2,12 +2,11 @@
 ghost use Rattle.krs_desk.specs.Sitting.{IsIdleAt};
 
 use crate::{Keeper, Replies};
-use krs_desk::{Desk, Seat};
+use krs_desk::{Awaits, Desk, Seat};
 use krs_store::Told;
 use krs_types::{Ask, Reply};
-use std::sync::Wait;
 
-impl<R: Wait> Keeper<Seat, R> for Desk {
+impl<R: Awaits> Keeper<Seat, R> for Desk {
     ghost use Rattle.std.specs.Prelude.{◌≡◌};
     ghost use Rattle.krs_session.specs.Calls.{MakesCalls, makes_both, makes_none};
 

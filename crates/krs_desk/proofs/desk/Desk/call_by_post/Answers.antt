@@ -1,18 +1,15 @@
-use Rattle.std.proofs.Common.{false, rules}
-use Rattle.krs_desk.proofs.Calls.{called_collected, waits_helped, waits_still}
+use Rattle.std.proofs.Common.{false, rules, subst}
+use Rattle.krs_desk.specs.{Helping.Called, Sitting.Sitting}
+use Rattle.krs_desk.proofs.Calls.{waits_posted}
 use Rattle.krs_desk.proofs.desk.Desk.call_by_post.Goals as goal
 
-pub returns-in-Some-collect : goal.returns-in-Some-collect
-returns-in-Some-collect g c = record {
-  called = called_collected false c.loop.invariant.waits c.in-Some-collect.ensures.some (search rules);
-}
-
-pub returns-in-Some-collect-2 : goal.returns-in-Some-collect-2
-returns-in-Some-collect-2 g c = record {
-  called = called_collected false
-      (waits_helped c.args.self.now c.args.seat.now c.collect.new.seat c.help-helped.new.seat c.args.moment c.args.ask
-      c.help-helped.result
-      (waits_still c.args.self.now c.args.seat.now c.loop.seat c.collect.new.seat c.args.moment c.args.ask
-      c.loop.invariant.waits (search rules)) c.help-helped.ensures.helped)
-      c.in-Some-collect-2.ensures.some (search rules);
-}
+-- what was waited for is the call that was posted, and the seat is the one that waited
+pub returns : goal.returns
+returns g c =
+    let seat = c.await_reply-reply.new.posted.seat.now in
+    let called = c.await_reply-reply.ensures.answered c.args.seat.now c.args.moment c.args.ask
+    (waits_posted c.args.self.now c.args.seat.now c.post.new.seat c.args.moment c.args.ask c.post.ensures) in
+    record {
+      called = subst (λ (t : Sitting). Called c.args.self.now false c.args.seat.now c.args.moment c.args.ask
+          c.await_reply-reply.result t) {x = seat} (search rules) called;
+    }
