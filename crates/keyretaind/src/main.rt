@@ -12,5 +12,5 @@ fn main(rt: HostRuntime) -> ExitCode {
         errors: Voice::new(rt.stderr()),
     };
     let paths = SystemPaths::new(&rt);
-    ExitCode::from(krs_serve::run_daemon(&rt, &paths, rt.alloc(), words, &mut voices))
+    ExitCode::from(krs_serve::run_daemon(&rt, paths, rt.alloc(), words, &mut voices))
 }

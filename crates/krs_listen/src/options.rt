@@ -1,12 +1,12 @@
-ghost use Rattle.std.specs.Prelude.{◌<◌, ◌↔◌, ◌≡◌, ◌≤◌, IfSome, IsSome};
+ghost use Rattle.std.specs.Prelude.{◌<◌, ◌↔◌, ◌≡◌, ◌≤◌, IfSome, IsSome, string_bytes};
 
 /// As many lanes as a desk may have.
 const MOST_LANES: u32 = 256;
 
-/// What the daemon is told by its words.
+/// What the daemon is told by its words. They alone make it, so that whoever has one can't think of another path.
 #[derive(Drop)]
 pub struct Options {
-    pub path: String,
+    path: String,
     pub lanes: u32,
 
     /// After how many connections it ends.
@@ -16,7 +16,7 @@ pub struct Options {
 
 impl Options {
     /// The options, where a desk may have so many lanes.
-    pub fn new(path: String, lanes: u32, accept: Option<u32>) -> Option<Options>
+    pub(crate) fn new(path: String, lanes: u32, accept: Option<u32>) -> Option<Options>
         ensures fits { IsSome result ↔ ((0 < lanes) × (lanes ≤ 256)) }
         ensures path { IfSome result (λ options. options.path ≡ path) }
         ensures lanes { IfSome result (λ options. options.lanes ≡ lanes) }
@@ -30,5 +30,11 @@ impl Options {
             lanes,
             accept,
         })
+    }
+    /// At which path clients connect.
+    pub fn path(&self) -> &str
+        ensures { result.now ≡ string_bytes self.now.path }
+    {
+        self.path.as_str()
     }
 }

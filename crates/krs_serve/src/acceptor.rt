@@ -1,12 +1,12 @@
 //! Where connections come from. What serves them is proved for all that binds and accepts, over all streams. So it
 //! knows no socket, reaches no stream, and can't go by it that a socket shows no bytes.
-ghost use Rattle.std.specs.Prelude.{◌+◌, ◌<◌, ◌≡◌, IfErr, IfOk, List, OnErr, OnOk, ℕ};
+ghost use Rattle.std.specs.Prelude.{◌+◌, ◌<◌, ◌≡◌, IfErr, IfOk, List, OnErr, OnOk, string_bytes, ℕ};
 ghost use Rattle.atomic_table.specs.Seated.{TableId};
 ghost use Rattle.krs_listen.specs.Accepting.{accepted_by, AreEndsFrom, failed_at};
 ghost use Rattle.krs_serve.specs.AtDesk.{BeginsAt};
 
 use crate::{Arrival, AtDesk};
-use krs_listen::{Accepts, AwaitsEnd, Listens, StreamAcceptor};
+use krs_listen::{Accepts, AwaitsEnd, Listens, Options, StreamAcceptor};
 use std::io;
 use std::io::{Read, Write};
 use std::sync::Wait;
@@ -84,22 +84,25 @@ impl<L: Listens<S> + Drop, S: Drop> Acceptor<S> for StreamAcceptor<L, S> {
     }
 }
 
-/// What binds paths, and takes them away.
-pub trait Paths {
+/// What binds the path of a daemon, once, and takes it away. No other path is in its reach: options are made of the
+/// daemon's words alone.
+pub trait Paths: Drop {
     type Stream: Read + Write + Drop + Send;
 
     type Acceptor: Acceptor<Self::Stream>;
 
+    /// What takes the path away again.
+    type Bound: Drop;
+
     // It accepts at this path. Of a socket that isn't known.
     ghost at: { Self.Acceptor → List ℕ → Type 0 };
 
-    /// Binds a path for those who are to sit at this desk. Nothing was accepted there yet.
-    fn bind<N: AtDesk>(&self, path: &str) -> io::Result<Self::Acceptor>
-        ensures there { IfOk result (λ acceptor. at acceptor path.now) }
-        ensures here { IfOk result (λ acceptor. BeginsAt Self.Acceptor.serves Self.Acceptor.accepted
-            Self.Acceptor.failures acceptor N.desk) };
+    /// Binds the path for those who are to sit at this desk. Nothing was accepted there yet.
+    fn bind<N: AtDesk>(self, options: &Options) -> io::Result<(Self::Acceptor, Self::Bound)>
+        ensures there { IfOk result (λ b. at b.0 (string_bytes options.now.path)) }
+        ensures here { IfOk result (λ b. BeginsAt Self.Acceptor.serves Self.Acceptor.accepted
+            Self.Acceptor.failures b.0 N.desk) };
 
-    /// Takes a path away that it bound.
-    fn remove(&self, path: &str)
-        requires { (acceptor : Self.Acceptor) × at acceptor path.now };
+    /// Takes the path away.
+    fn remove(bound: Self::Bound, options: &Options);
 }

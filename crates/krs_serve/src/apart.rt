@@ -36,13 +36,14 @@ impl Hosted {
     }
 }
 
-/// Serves a connection on its seat, by a clock of its own, and gives the seat back.
+/// Serves a connection on its seat, by a clock of its own, closes it, and gives the seat back.
 fn serve_guest<'s, 'd, N: AtDesk, R: Source + Drop, W: Sink + Drop, H: Wait + Clock>(
     hosting: &Hosting<'s, 'd, N, R, W, H>,
     guest: Guest<'d, N, R, W>,
 ) {
     let clock = SystemClock::new(hosting.rt, hosting.latest);
-    let sitting = serve_connection(hosting.rt, hosting.alloc, guest, clock);
+    let (sitting, gone) = serve_connection(hosting.rt, hosting.alloc, guest, clock);
+    drop(gone);
     hosting.free.give(hosting.rt, sitting);
 }
 

@@ -11,7 +11,7 @@ ghost use Rattle.krs_serve.specs.Sessions.{entry, KeepsAsDesk, ServesAtDesk};
 ghost use Rattle.krs_serve.specs.Visits.{HasJustItsCalls, IsNew, IsVisited};
 
 use crate::{Entry, Gone, OpenGate, serve_entry};
-use krs_desk::{Desk, Refused, Seat};
+use krs_desk::{Awaits, Desk, Refused, Seat};
 use krs_listen::Options;
 use krs_session::{Clock, Keeper, Over, Sink, Source, a_session_is_its_asks_and_leave};
 use krs_store::{Seed, Store};
@@ -177,21 +177,13 @@ impl<'d, N: AtDesk, R: Source + Drop, W: Sink + Drop> Guest<'d, N, R, W> {
             writer,
         }
     }
-
-    /// At which desk it is served.
-    pub(crate) fn desk(&self) -> &'d Desk
-        ensures { result ≡ self.now.sitting.desk }
-    {
-        self.sitting.desk
-    }
 }
 
 /// A seat of the daemon, whose connections come over such streams.
 pub type StreamSitting<'d, N, S> = Sitting<'d, N, Over<S>, Over<S>>;
 
-/// The ends of a connection that was accepted, for this desk, with what was free for it. Only `guest_of` takes them
-/// out.
-#[derive(Drop)]
+/// The ends of a connection that was accepted, for this desk, with what was free for it. It can't be let go: `guest_of`
+/// alone takes it apart.
 pub struct Arrival<N, F, S> {
     free: F,
     ends: (S, S),
@@ -225,9 +217,8 @@ pub(crate) fn guest_of<'d, N: AtDesk, S: Read + Write + Drop>(
 }
 
 /// Serves a guest to its end by a keeper that makes calls as the desk does, and gives its ends as the session left
-/// them. It knows nothing of the runtime, and so can't wait: what waits for ever meets every contract, whatever it did
-/// before.
-pub(crate) fn serve_by<
+/// them.
+fn serve_by<
     'd,
     N: AtDesk,
     H,
@@ -270,4 +261,29 @@ pub(crate) fn serve_by<
     };
     let (seat, _ended, gone) = serve_entry(rt, alloc, connection, keeper, seat, &OpenGate, TURNS);
     (sitting_of(desk, seat), gone)
+}
+
+/// Serves a connection to its end: docs/FORMAT.md, "A connection". Its asks are those of the bytes that it sent, and
+/// what was written to it is the text of their replies, and nothing behind them. The seat has gained these calls, and
+/// one LEAVE. It keeps no turn. A connection makes 16777216 reads at most, and is closed as its ends are let go. Here
+/// nothing can wait but for the answer to a posted call: what waits for ever meets every contract, whatever it did
+/// before.
+pub fn serve_connection<
+    'd,
+    N: AtDesk,
+    H: Awaits,
+    R: Source + Drop,
+    W: Sink + Drop,
+    C: Clock + Drop,
+>(rt: &H, alloc: Global, guest: Guest<'d, N, R, W>, clock: C) -> (Sitting<'d, N, R, W>, Gone<R, W>)
+    ensures desk { result.0.desk ≡ guest.entry.sitting.desk }
+    ensures session { (ended : Ended) × (s : ServesAtDesk R.Source C.Clock W.Sink 16777216
+        (entry guest.entry.reader guest.entry.writer clock) guest.entry.sitting.seat result.0.seat ended)
+        × (s.last.reader ≡ result.1.reader) × (s.last.writer ≡ result.1.writer) }
+    ensures gains { (frames : List Framed) × (calls : List Event)
+        × GainsSession guest.entry.sitting.seat frames calls result.0.seat }
+    ensures rested { result.0.seat.kept ≡ 0 }
+{
+    let desk = guest.sitting.desk;
+    serve_by(rt, alloc, desk, guest, clock)
 }

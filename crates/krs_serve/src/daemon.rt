@@ -33,7 +33,7 @@ use std::time::Clock;
 /// The daemon: from its words, the first of which is its name, and its two ends to its exit status.
 pub fn run_daemon<R: Clock + RandomSource + Threads + Wait + Sync, P: Paths, W: Write, E: Write>(
     rt: &R,
-    paths: &P,
+    paths: P,
     alloc: Global,
     words: io::Result<Args>,
     voices: &mut Voices<W, E>,
@@ -51,7 +51,7 @@ pub fn run_daemon<R: Clock + RandomSource + Threads + Wait + Sync, P: Paths, W: 
 /// What each choice prints, and the status.
 fn answer<R: Clock + RandomSource + Threads + Wait + Sync, P: Paths, W: Write, E: Write>(
     rt: &R,
-    paths: &P,
+    paths: P,
     alloc: Global,
     choice: Choice,
     voices: &mut Voices<W, E>,
@@ -95,16 +95,16 @@ fn connections_for(accept: Option<u32>) -> u64
 const LONGEST: usize = 107;
 
 /// Binds the path. An empty one the system would take for a name of its own choice, which no folder protects.
-fn bound<N: AtDesk, P: Paths>(paths: &P, path: &str) -> io::Result<P::Acceptor>
-    ensures empty { path.now ≡ [] → IsErr result }
-    ensures there { IfOk result (λ acceptor. P.at acceptor path.now) }
-    ensures here { IfOk result (λ acceptor. BeginsAt P.Acceptor.serves P.Acceptor.accepted
-        P.Acceptor.failures acceptor N.desk) }
+fn bound<N: AtDesk, P: Paths>(paths: P, options: &Options) -> io::Result<(P::Acceptor, P::Bound)>
+    ensures empty { string_bytes options.now.path ≡ [] → IsErr result }
+    ensures there { IfOk result (λ b. P.at b.0 (string_bytes options.now.path)) }
+    ensures here { IfOk result (λ b. BeginsAt P.Acceptor.serves P.Acceptor.accepted P.Acceptor.failures b.0 N.desk) }
 {
+    let path = options.path();
     if path.is_empty() || path.len() > LONGEST {
         return Err(io::Error::other("a path has 1 to 107 bytes"));
     }
-    paths.bind::<N>(path)
+    paths.bind::<N>(options)
 }
 
 /// Accepts and serves so many connections, takes the path away, and tells how that ended. It gives their counts.
@@ -118,22 +118,22 @@ fn serve_all<
     E: Write,
 >(
     hosting: &'s StreamHosting<'s, 'd, N, P::Stream, R>,
-    paths: &P,
-    acceptor: P::Acceptor,
-    path: &str,
+    at: (P::Acceptor, P::Bound),
+    options: &Options,
     connections: u64,
     lines: &Lines,
     voices: &mut Voices<W, E>,
 ) -> (u8, Accepts)
-    requires there { P.at acceptor path.now }
-    requires here { BeginsAt P.Acceptor.serves P.Acceptor.accepted P.Acceptor.failures acceptor N.desk }
+    requires there { P.at at.0 (string_bytes options.now.path) }
+    requires here { BeginsAt P.Acceptor.serves P.Acceptor.accepted P.Acceptor.failures at.0 N.desk }
     requires served { string_bytes lines.now.served ≡ served_line connections }
     ensures { SaysAsItEndsBy connections result.1.accepted result.1.failures
         (heard W.contents voices.old.output) (heard W.contents voices.new.output)
         (heard E.contents voices.old.errors) (heard E.contents voices.new.errors) result.0 }
 {
+    let (acceptor, bound) = at;
     let (accepted, counts, _seats) = accept_all(hosting, acceptor, connections, voices);
-    paths.remove(path);
+    P::remove(bound, options);
     match accepted {
         Accepted::All => {
             voices.output.say(lines.served.as_str());
@@ -147,7 +147,7 @@ fn serve_all<
 /// "DESCRIPTION" and "EXIT STATUS". The memory for its seats and its lines is had before the path is bound.
 pub fn listen<R: Clock + RandomSource + Threads + Wait + Sync, P: Paths, W: Write, E: Write>(
     rt: &R,
-    paths: &P,
+    paths: P,
     alloc: Global,
     options: &Options,
     voices: &mut Voices<W, E>,
@@ -172,7 +172,7 @@ fn listen_at<
     E: Write,
 >(
     rt: &R,
-    paths: &P,
+    paths: P,
     alloc: Global,
     options: &Options,
     desk: &Desk,
@@ -186,15 +186,15 @@ fn listen_at<
     ensures { SaysAsItServes options.now (heard W.contents voices.old.output) (heard W.contents voices.new.output)
         (heard E.contents voices.old.errors) (heard E.contents voices.new.errors) result }
 {
-    let path = options.path.as_str();
+    let path = options.path();
     let connections = connections_for(options.accept);
     let made = seated::<N, Over<P::Stream>, Over<P::Stream>>(alloc, desk, seats);
     let (Ok(sittings), Ok(lines)) = (made, Lines::new(alloc, path, connections)) else {
         voices.output.say(OUT_OF_MEMORY);
         return 1;
     };
-    let acceptor = match bound::<N, P>(paths, path) {
-        Ok(acceptor) => acceptor,
+    let at = match bound::<N, P>(paths, options) {
+        Ok(at) => at,
         Err(cause) => {
             voices.output.say(NOT_BOUND);
             tell_cause(alloc, &mut voices.errors, path, &cause);
@@ -209,7 +209,14 @@ fn listen_at<
         free: &free,
         latest: &latest,
     };
-    let (status, _counts) = serve_all(&hosting, paths, acceptor, path, connections, &lines, voices);
+    let (status, _counts) = serve_all::<N, R, P, W, E>(
+        &hosting,
+        at,
+        options,
+        connections,
+        &lines,
+        voices,
+    );
     status
 }
 

@@ -10,17 +10,15 @@ mod entry;
 mod gate;
 mod listening;
 mod meeting;
-mod serving;
 mod sessions;
 mod sockets;
 
 pub use acceptor::{Acceptor, Paths};
 pub use clock::SystemClock;
-pub use connection::{Arrival, AtDesk, Guest, Sitting, StreamSitting};
+pub use connection::{Arrival, AtDesk, Guest, Sitting, StreamSitting, serve_connection};
 pub use daemon::{listen, run_daemon};
 pub use entry::{Entry, Gone, serve_entry};
 pub use gate::OpenGate;
 pub use krs_listen::{Latest, Voice, Voices};
-pub use serving::serve_connection;
 pub use sessions::{run_sessions, serve_sessions};
 pub use sockets::SystemPaths;

@@ -1,6 +1,6 @@
 //! The system's sockets. `Files` and `Net` are asked for here alone.
 use crate::{AtDesk, Paths};
-use krs_listen::StreamAcceptor;
+use krs_listen::{Options, StreamAcceptor};
 use std::fs::Files;
 use std::net::Net;
 use std::os::unix::net::{UnixListener, UnixStream};
@@ -23,14 +23,19 @@ impl<'r, R: Files + Net> Paths for SystemPaths<'r, R> {
 
     type Acceptor = StreamAcceptor<UnixListener, UnixStream>;
 
+    type Bound = &'r R;
+
     ghost at = { λ _ _. Unit {0} };
 
-    fn bind<N: AtDesk>(&self, path: &str) -> io::Result<StreamAcceptor<UnixListener, UnixStream>> {
-        let listener = UnixListener::bind(self.rt, path)?;
-        Ok(StreamAcceptor::new(listener))
+    fn bind<N: AtDesk>(
+        self,
+        options: &Options,
+    ) -> io::Result<(StreamAcceptor<UnixListener, UnixStream>, &'r R)> {
+        let listener = UnixListener::bind(self.rt, options.path())?;
+        Ok((StreamAcceptor::new(listener), self.rt))
     }
 
-    fn remove(&self, path: &str) {
-        let _ = fs::remove_file(self.rt, path);
+    fn remove(bound: &'r R, options: &Options) {
+        let _ = fs::remove_file(bound, options.path());
     }
 }

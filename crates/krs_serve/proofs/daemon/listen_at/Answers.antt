@@ -11,7 +11,7 @@ returns-in_default g c = inl (c.say.ensures, refl, refl)
 pub returns-in-Err : goal.returns-in-Err
 returns-in-Err g c = inr (inl (
   c.say-in-Err.ensures,
-  (raw_os_error c.in-Err.cause, rw c.as_str-path.ensures.value at c.tell_cause.ensures),
+  (raw_os_error c.in-Err.cause, rw c.path-path.ensures at c.tell_cause.ensures),
   refl,
 ))
 

@@ -1,4 +1,4 @@
-use Rattle.std.proofs.{Common.{◌<◌, arith, length, rules, slice_index_or, ℕ}, lemmas.Result.IfOk-weaker}
+use Rattle.std.proofs.{Common.{◌<◌, arith, length, rules, slice_index_or}, lemmas.Result.IfOk-weaker}
 use Rattle.krs_serve.specs.Sessions.{ServesEntry}
 use Rattle.krs_serve.proofs.sessions.serve_jobs.Goals as goal
 
