@@ -142,6 +142,12 @@ static void set_signals(void) {
     sigprocmask(SIG_SETMASK, &none, NULL);
 }
 
+/* They name files whose code OpenSSL runs, and may be another user's, as after su(1). */
+static void forget_variables(void) {
+    static const char *const names[] = { "OPENSSL_CONF", "OPENSSL_CONF_INCLUDE", "OPENSSL_ENGINES", "OPENSSL_MODULES" };
+    for (size_t i = 0; i < sizeof names / sizeof *names; i++) unsetenv(names[i]);
+}
+
 int main(int count, char **words) {
     if (count == 2 && strcmp(words[1], "--version") == 0) return puts("keyretain-ssh-agent " KEYRETAIN_VERSION) < 0;
     if (count == 2 && strcmp(words[1], "--help") == 0) return fputs(usage, stdout) < 0;
@@ -153,6 +159,7 @@ int main(int count, char **words) {
     if (prctl(PR_SET_DUMPABLE, 0) < 0 || setrlimit(RLIMIT_CORE, &(struct rlimit){ 0, 0 }) < 0) err(1, "core files");
     listening = getpid();
     set_signals();
+    forget_variables();
     OPENSSL_init_crypto(OPENSSL_INIT_LOAD_CONFIG, NULL); /* which each client then has at once */
     serve(listener);
 }
