@@ -101,11 +101,17 @@ struct admitted admission_admit(const struct task *task, const struct admission_
     }
 }
 
+/* Of a process that is another uid's no more is read than its status: it may be nobody's that is served, and have a
+ * copied tag, and its user may hold it up within execve(2), where what else is read of it waits. */
+static bool may_be_of(const struct proc_status *status, const struct session *session) {
+    return maps_have_uid(status->uids.real) && maps_uid(status->uids.real) == session->begun.uids.real;
+}
+
 bool admission_keeps(pid_t id, const struct session *session) {
     struct proc_status status;
     struct admission_session told;
     struct admission_process process;
-    if (!proc_read_status(id, &status)) return false;
+    if (!proc_read_status(id, &status) || !may_be_of(&status, session)) return false;
     memset(&told, 0, sizeof told);
     tell(session, &told);
     admission_read(&process, id, &status);
