@@ -1,6 +1,8 @@
-"""hostile.py: clients that send what is wrong, too long, or too much, that don't read, or are another user's."""
+"""hostile.py: clients that send what is wrong, too long, or too much, that don't read, or are another user's; and an
+environment that is another user's."""
 import os
 import subprocess
+import tempfile
 
 from stage import (COLLECTION, FOLDER, ITEM, PATIENCE, ROOT, SESSION, SESSION_COLLECTION, Caller, bus, compare,
                    conclude, daemon, secrets)
@@ -120,7 +122,23 @@ def try_other_user():
                 (ended.returncode, ended.stderr))
 
 
+def try_variables():
+    """An environment that is another user's, as after su(1), names code to OpenSSL."""
+    with tempfile.TemporaryDirectory(prefix="keyretain.") as folder:
+        planted, settings, told = (f"{folder}/{name}" for name in ("planted.so", "planted.cnf", "has-run"))
+        code = f'#include <stdio.h>\n__attribute__((constructor)) static void run(void) {{ fopen("{told}", "w"); }}\n'
+        subprocess.run(["cc", "-shared", "-fPIC", "-x", "c", "-o", planted, "-"], check=True, input=code, text=True)
+        with open(settings, "w", encoding="ascii") as file:
+            file.write(f"openssl_conf = a\n[a]\nproviders = b\n[b]\nc = d\ndefault = e\n[d]\nmodule = {planted}\n"
+                       "activate = 1\n[e]\nactivate = 1\n")
+        begun = subprocess.run([f"{FOLDER}/bin/keyretain-secrets", "--version"], capture_output=True, check=False,
+                               env={**os.environ, "OPENSSL_CONF": settings}, timeout=PATIENCE)
+        compare("no code that variables of OpenSSL's name is run", (0, False),
+                (begun.returncode, os.path.exists(told)))
+
+
 with daemon(), bus() as broker:
+    try_variables()
     with secrets() as process:
         with Caller() as client:
             for part in (try_types, try_sizes, try_stalled, try_forged):
