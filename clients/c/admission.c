@@ -17,12 +17,16 @@ static struct admission_ids to_inside(const struct admission_ids *ids, unsigned 
     return (struct admission_ids){ map(ids->real), map(ids->effective), map(ids->saved), map(ids->files) };
 }
 
-void admission_read(struct admission_process *process, pid_t id, const struct proc_status *status) {
+static void put_status(struct admission_process *process, const struct proc_status *status) {
     memset(process, 0, sizeof *process);
     process->uids = to_inside(&status->uids, maps_uid);
     process->owner = status->owner == UINT32_MAX ? UINT32_MAX : maps_uid(status->owner);
     maps_put(process);
     process->starter = UINT32_MAX;
+}
+
+void admission_read(struct admission_process *process, pid_t id, const struct proc_status *status) {
+    put_status(process, status);
     process->has_auxv = proc_read_auxv(id, &process->is_secure, &process->starter);
 }
 
@@ -101,19 +105,18 @@ struct admitted admission_admit(const struct task *task, const struct admission_
     }
 }
 
-/* Of a process that is another uid's no more is read than its status: it may be nobody's that is served, and have a
- * copied tag, and its user may hold it up within execve(2), where what else is read of it waits. */
-static bool may_be_of(const struct proc_status *status, const struct session *session) {
-    return maps_have_uid(status->uids.real) && maps_uid(status->uids.real) == session->begun.uids.real;
-}
-
+/* Any user's process may have a copied tag, and hold up who reads its vector, as by an execve(2) that closes a file of
+ * FUSE. So that is read only where the process would keep the session if its vector said the best. */
 bool admission_keeps(pid_t id, const struct session *session) {
     struct proc_status status;
     struct admission_session told;
     struct admission_process process;
-    if (!proc_read_status(id, &status) || !may_be_of(&status, session)) return false;
+    if (!proc_read_status(id, &status)) return false;
     memset(&told, 0, sizeof told);
     tell(session, &told);
+    put_status(&process, &status);
+    process.has_auxv = true;
+    if (!krs_admission_c_keeps(&process, &told)) return false;
     admission_read(&process, id, &status);
     return krs_admission_c_keeps(&process, &told);
 }
