@@ -31,8 +31,8 @@ def programs():
     return [(page, one.replace("\\e", "\\")) for one in blocks(page, r"\.Bd -literal[^\n]*\n(#include.*?)\.Ed")]
 
 
-def run(words, session=""):
-    environment = {**os.environ, "KEYRETAIN_SOCKET": path, "LD_LIBRARY_PATH": built, "KEYRETAIN_SESSION": session,
+def run(words, session="", libraries=built):
+    environment = {**os.environ, "KEYRETAIN_SOCKET": path, "LD_LIBRARY_PATH": libraries, "KEYRETAIN_SESSION": session,
                    "PATH": f"{built}:{os.environ['PATH']}",
                    "PYTHONPATH": os.path.join(TOP, "clients/python")}
     ended = subprocess.run(words, env=environment, stdout=subprocess.PIPE, stderr=subprocess.STDOUT, timeout=60,
@@ -49,7 +49,8 @@ def try_sessions():
     for option, text in found:
         typed = [it[2:] for it in text.splitlines() if it.startswith("$ ")]
         printed = [it for it in text.splitlines() if not it.startswith("$ ")]
-        status, said = run([f"{built}/keyretain-session", *option.split(), "--", "sh", "-c", "; ".join(typed)])
+        words = [f"{built}/keyretain-session", *option.split(), "--", "sh", "-c", "; ".join(typed)]
+        status, said = run(words, libraries="")
         if option and status == 3:
             print(f"skipped: keyretain-session {option}: {said}", end="")
             continue
