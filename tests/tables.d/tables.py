@@ -220,8 +220,8 @@ def try_foreign():
 
 
 def try_waiting():
-    """What waits for ever meets every contract, so nothing of what asks on a seat can: but for the desk's wait for the
-    answer to a posted call, which reaches no seat."""
+    """What waits for ever meets every contract, so nothing of what asks on a seat can. The desk waits for the answer to
+    a posted call, where no seat is reached."""
     asking = [f"{crate}/src/{name}" for crate in ("krs_desk", "krs_session")
               for name in os.listdir(f"{rows.TOP}/crates/{crate}/src") if name.endswith(".rt")]
     asking += ["krs_serve/src/connection.rt", "krs_serve/src/entry.rt"]
