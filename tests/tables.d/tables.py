@@ -226,7 +226,8 @@ def try_waiting():
               for name in os.listdir(f"{rows.TOP}/crates/{crate}/src") if name.endswith(".rt")]
     asking += ["krs_serve/src/connection.rt", "krs_serve/src/entry.rt"]
     waiting = [it for it in asking if vectors.words_in(rows.text_of(f"crates/{it}")) & {"Wait", "forever"}]
-    compare("what waits for ever", [f"krs_desk/src/{it}.rt" for it in ("awaiting", "bells", "waiting")], sorted(waiting))
+    wanted = [f"krs_desk/src/{it}.rt" for it in ("awaiting", "bells", "waiting")]
+    compare("what waits for ever", wanted, sorted(waiting))
 
 
 def try_bodies():
