@@ -1,6 +1,7 @@
 """The rows of all asks and commands, as the definitions have them that the programs are proved by: numbers, fields,
 answers and marks of the asks (krs_types), which of them look at the context (krs_model), words of the commands
 (krs_commands), numbers of the errors (krs_types). What no proof reaches is compared with these."""
+import glob
 import os
 import re
 from typing import NamedTuple
@@ -28,6 +29,11 @@ class Command(NamedTuple):
     word: str
     usage: str
     ask: str
+
+
+def sources():
+    """The files of Rattle, by their paths."""
+    return sorted(glob.glob("crates/*/src/**/*.rt", root_dir=TOP, recursive=True))
 
 
 def text_of(path):

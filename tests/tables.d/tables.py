@@ -3,6 +3,7 @@ programs are proved by: FORMAT.md, the manual pages, `keyretain --help` where KE
 the C and the Python client, the bench and its figures. CODEC is codec.c and CALLS calls.c; without them the tables of C
 aren't compared."""
 import os
+import re
 import subprocess
 import sys
 
@@ -230,13 +231,19 @@ def try_waiting():
     compare("what waits for ever", wanted, sorted(waiting))
 
 
+def try_unsafe():
+    """What is private is refused to others by types alone, which unsafe code gets past. Symbols for C are marked so."""
+    found = [place for place in rows.sources() if re.search(r"\bunsafe\b(?!\(no_mangle\))", rows.text_of(place))]
+    compare("unsafe code", [], found)
+
+
 def try_bodies():
     compare("wrong bodies that can't be applied", {}, bodies.misfits())
     compare("how a check of wrong bodies is read", bodies.WANTED, bodies.verdicts())
 
 
 for case in (try_definitions, try_format, try_lists, try_pages, try_python, try_admission, try_bench, try_types,
-             try_foreign, try_waiting, try_bodies):
+             try_foreign, try_waiting, try_unsafe, try_bodies):
     case()
 if os.access(KEYRETAIN, os.X_OK):
     try_help()

@@ -3,7 +3,7 @@ ghost use Rattle.std.specs.Prelude.{◌<◌, ◌↔◌, ◌≡◌, ◌≤◌, If
 /// As many lanes as a desk may have.
 const MOST_LANES: u32 = 256;
 
-/// What the daemon is told by its words. They alone make it, so that whoever has one can't think of another path.
+/// What the daemon is told by its words. It is made where words are read, and nowhere else.
 #[derive(Drop)]
 pub struct Options {
     path: String,

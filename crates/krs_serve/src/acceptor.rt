@@ -84,8 +84,7 @@ impl<L: Listens<S> + Drop, S: Drop> Acceptor<S> for StreamAcceptor<L, S> {
     }
 }
 
-/// What binds the path of a daemon, once, and takes it away. No other path is in its reach: options are made of the
-/// daemon's words alone.
+/// What binds the path of a daemon, once, and takes it away. The path is one that was read of words.
 pub trait Paths: Drop {
     type Stream: Read + Write + Drop + Send;
 
