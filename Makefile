@@ -97,8 +97,9 @@ test:
 	@tools/check-toolchain
 	tests/all
 
-# What must hold before a change is merged, in hours: `make test`; then proves everything from nothing, has wrong bodies
-# refused by themselves, and tests once more what was proved. ALL=1 has each wrong body refused: before a release.
+# What must hold before a change is merged, in hours: `make test`; then every proof that this machine doesn't keep, the
+# wrong bodies of the crates that changed and of a third of the others, and the tests of what was proved. ALL=1 has each
+# wrong body refused: before a release.
 gate:
 	@tools/check-toolchain
 	tests/gate $(if $(ALL),--all)
@@ -124,7 +125,7 @@ check-man:
 # Runs the tests of keyutils, whose unpacked source is in SUITE, with the system's keyctl(1) on keyretaind; with
 # SYSCALLS=1 under keyretain-session --syscalls.
 check-keyutils:
-	@[ -n "$(SUITE)" ] || { echo 'make check-keyutils SUITE=DIR: a folder with the source of keyutils' >&2; exit 2; }
+	@[ -d "$(SUITE)" ] || { echo 'make check-keyutils SUITE=DIR: a folder with the source of keyutils' >&2; exit 2; }
 	$(MAKE) build
 	tests/keyutils-suite $(SUITE)
 
@@ -158,7 +159,7 @@ dist:
 	@mkdir -p packages
 	@version=$$(sed -n 's/^pub const VERSION: &str = "\(.*\)";$$/\1/p' crates/krs_words/src/version.rt) && \
 	  name=keyretain-$$version && cd packages && \
-	  git -C .. archive --format=tar --prefix="$$name/" HEAD | gzip -n -9 >"$$name.tar.gz" && \
+	  git -C .. archive --format=tar --prefix="$$name/" HEAD >"$$name.tar" && gzip -nf -9 "$$name.tar" && \
 	  sha256sum "$$name.tar.gz" | tee "$$name.tar.gz.sha256"
 
 # Takes away what `make install` has put there, and the links by which units were enabled for the system or for all

@@ -138,6 +138,8 @@ static void fit_descriptors(void) {
     setrlimit(RLIMIT_NOFILE, &limit);
     getrlimit(RLIMIT_NOFILE, &limit);
     if (limit.rlim_cur < wanted) refused_most = REFUSED_FEW;
+    errno = EMFILE;
+    if (limit.rlim_cur < (rlim_t)(REFUSED + refused_most)) fail("error: socket", NO_SOCKET); /* poll(2) takes no more */
     for (int i = 0; (rlim_t)i < limit.rlim_cur; i++) taken += fcntl(i, F_GETFD) >= 0;
     rlim_t places = limit.rlim_cur > taken + 2 ? (limit.rlim_cur - taken) / 2 : 1;
     if (places < options.connections) options.connections = (unsigned)places;

@@ -6,6 +6,7 @@ enum {
     CLAIMED_MAX = 32,    /* groups of a HELLO: keyretain-protocol(7) */
     UNTAKEN_MOST = 32768, /* bytes that a socket keeps for who doesn't take them; twice, with what the system adds */
     FIRST_REPLY = 5000,  /* milliseconds, after which it is told that a daemon hasn't answered */
+    UNTAKEN = 30000,     /* milliseconds, for which a client may take nothing of what it is to be given */
 };
 
 int freed = -1;
@@ -205,8 +206,9 @@ static short events_of(const struct way *read, const struct way *given) {
     return (short)((reads ? POLLIN : 0) | (given->passed > 0 ? POLLOUT : 0));
 }
 
-/* While a client is to have the word, the daemon may still end. */
-static void wait_and_move(struct link *link) {
+/* While a client is to have the word, the daemon may still end. False where the client takes nothing: before Linux 6.16
+ * its process may have ended, and its connection lie in a socket that nobody reads, sent there as a descriptor. */
+static bool wait_and_move(struct link *link) {
     const struct screen *screen = &link->screen;
     struct way *asks = &link->asks, *replies = &link->replies;
     struct pollfd client = { .fd = link->client, .events = events_of(asks, replies) };
@@ -217,14 +219,16 @@ static void wait_and_move(struct link *link) {
     struct pollfd both[] = { client, server };
     /* the daemon is to answer this client for the first time, and nobody was told yet that it doesn't */
     bool is_first = link->server >= 0 && screen->asked > 0 && screen->answered == 0 && screen->ask_left == 0;
-    int ready = poll(both, 2, is_first && !link->is_told ? FIRST_REPLY : -1);
-    if (ready == 0) tell_daemon(link, "no answer, as where it has no free lane or no memory");
-    if (ready <= 0) return;
+    bool is_given = replies->passed > 0;
+    int ready = poll(both, 2, is_given ? UNTAKEN : is_first && !link->is_told ? FIRST_REPLY : -1);
+    if (ready == 0 && !is_given) tell_daemon(link, "no answer, as where it has no free lane or no memory");
+    if (ready <= 0) return ready < 0 || !is_given;
     short of_client = both[0].revents, of_server = both[1].revents;
     if (of_server && asks->passed > 0 && give_asks(link)) pass_asks(link);
     if ((of_server & ~POLLOUT) && (server.events & ~POLLOUT)) read_replies(link);
     if (of_client && replies->passed > 0 && give_replies(link)) pass_replies(link);
     if ((of_client & ~POLLOUT) && (client.events & POLLIN)) read_asks(link);
+    return true;
 }
 
 /* The daemon is told that no more asks come; what it answers to those that it has is still passed on. */
@@ -238,8 +242,8 @@ static void move(struct link *link) {
         if (is_done(&link->asks) && !is_told) {
             is_told = true;
             shutdown(link->server, SHUT_WR);
-        } else {
-            wait_and_move(link);
+        } else if (!wait_and_move(link)) {
+            return;
         }
     }
 }

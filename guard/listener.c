@@ -33,8 +33,11 @@ static bool has_option(int socket, int option, int wanted) {
 int take_passed_listener(void) {
     const char *pid = getenv("LISTEN_PID"), *count = getenv("LISTEN_FDS");
     int listener = FIRST_PASSED_DESCRIPTOR;
+    struct peer listens;
     if (!pid || !count || atol(pid) != getpid() || strcmp(count, "1") != 0) return -1;
     if (!has_option(listener, SO_DOMAIN, AF_UNIX) || !has_option(listener, SO_TYPE, SOCK_STREAM)) return -1;
+    /* another user's, at which that user listens too, comes with that user's variables, as after su(1) */
+    if (!find_peer(listener, &listens) || (listens.uid != 0 && listens.uid != geteuid())) return -1;
     if (!has_option(listener, SO_ACCEPTCONN, 1) || fcntl(listener, F_SETFD, FD_CLOEXEC) < 0) return -1;
     return fcntl(listener, F_SETFL, fcntl(listener, F_GETFL) | O_NONBLOCK) < 0 ? -1 : listener;
 }

@@ -13,7 +13,7 @@ bool fill_standard_descriptors(void);
 /* False where the path is too long, or empty. */
 bool put_address(struct sockaddr_un *address, const char *path);
 
-/* The socket that systemd has passed (sd_listen_fds(3)), or -1. */
+/* The socket that systemd has passed (sd_listen_fds(3)), at which root or the effective user listens; or -1. */
 int take_passed_listener(void);
 
 /* Whether clients may send descriptors (SCM_RIGHTS). Those that nobody takes are closed by whoever reads or closes

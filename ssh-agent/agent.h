@@ -91,8 +91,15 @@ void put_public(struct writer *writer, const struct key *key);
 enum { SHA2_256_WANTED = 2, SHA2_512_WANTED = 4 };
 bool put_signature(struct writer *writer, const struct key *key, struct bytes data, uint32_t flags);
 
-/* answer.c: puts the answer to a message, with its length before it. `lifetime` is for keys added without one. */
-void answer(struct bytes message, uint32_t lifetime, struct writer *reply);
+/* answer.c: whether a message has a passphrase that is to unlock. */
+bool is_guess(struct bytes message);
+
+/* Puts the answer to a message, with its length before it. `lifetime` is for keys added without one. False where it was
+ * refused. */
+bool answer(struct bytes message, uint32_t lifetime, struct writer *reply);
+
+/* Takes keys whose time is over out of the daemon's memory. */
+void sweep_ring(void);
 
 /* Connects to the daemon, and has its keyring `ssh-agent`: that of the session, or of the user where there is none.
  * Answers what tells of the connection's end; -1 where there is no daemon, or the session is gone. close_ring() wipes

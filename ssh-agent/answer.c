@@ -13,7 +13,7 @@ enum { FAILURE = 5, SUCCESS, REQUEST_IDENTITIES = 11, IDENTITIES_ANSWER, SIGN_RE
        REMOVE_IDENTITY, REMOVE_ALL_IDENTITIES, LOCK = 22, UNLOCK, ADD_ID_CONSTRAINED = 25 };
 enum { CONSTRAIN_LIFETIME = 1, CONSTRAIN_CONFIRM = 2 };
 enum { PATIENCE_MILLISECONDS = 10000, PAYLOAD_MOST = 32767, ENTRIES_MOST = 1024, NAME_ROOM = 80, COMMENT_MOST = 200,
-       QUESTION_ROOM = 512, ANSWER_ROOM = 16, SALT_SIZE = 16, HASH_SIZE = 32, ROUNDS = 100000 };
+       LINKS_MOST = 65535, QUESTION_ROOM = 512, ANSWER_ROOM = 16, SALT_SIZE = 16, HASH_SIZE = 32, ROUNDS = 100000 };
 
 static const char ring_name[] = "ssh-agent", lock_name[] = "ssh-agent lock";
 
@@ -22,12 +22,22 @@ static struct kr *connection;
 static uint32_t context;
 static int32_t head, keyring;
 static unsigned char payload[PAYLOAD_MOST], made_lock[SALT_SIZE + HASH_SIZE]; /* the second is a lock */
+static int32_t entries[LINKS_MOST];
+
+/* How many links a keyring has, and which. */
+static size_t read_ring(int32_t ring) {
+    int64_t length = kr_read(connection, context, ring, entries, sizeof entries);
+    return length > 0 && length <= (int64_t)sizeof entries ? (size_t)length / sizeof *entries : 0;
+}
 
 /* 0 where its user has none there, and -1 where the daemon doesn't tell. Who possesses another user's would possess
- * private keys. */
-static int32_t find_ring(int32_t from) {
-    int32_t found = kr_find_own(connection, context, from, "keyring", ring_name);
-    return found < 0 && kr_found_none() ? 0 : found;
+ * private keys. One that isn't linked there itself is the user keyring's, which sessions link. */
+static int32_t find_ring(void) {
+    int32_t found = kr_find_own(connection, context, head, "keyring", ring_name);
+    if (found < 0) return kr_found_none() ? 0 : found;
+    for (size_t all = read_ring(head), i = 0; i < all; i++)
+        if (entries[i] == found) return found;
+    return 0;
 }
 
 int open_ring(void) {
@@ -40,8 +50,7 @@ int open_ring(void) {
     int entered = made < 0 ? -1 : kr_enter_session(connection, context, NULL);
     if (entered < 0) return -1;
     head = entered ? KEY_SPEC_SESSION_KEYRING : KEY_SPEC_USER_KEYRING;
-    keyring = find_ring(KEY_SPEC_SESSION_KEYRING);
-    if (keyring == 0) keyring = find_ring(KEY_SPEC_USER_KEYRING); /* behind one that isn't the user's */
+    keyring = find_ring();
     return keyring < 0 ? -1 : kr_descriptor(connection);
 }
 
@@ -52,12 +61,23 @@ void close_ring(void) {
     connection = NULL;
 }
 
+/* Another client may make one at the same time, in which its key is: that is taken then, and displaced by none. */
+static bool have_ring(void) {
+    if (keyring > 0) return true;
+    int32_t made = kr_add(connection, context, "keyring", ring_name, NULL, 0, KEY_SPEC_PROCESS_KEYRING);
+    if (made < 0) return false;
+    bool is_first = kr_move(connection, context, made, KEY_SPEC_PROCESS_KEYRING, head, KEYCTL_MOVE_EXCL) == 0;
+    if (!is_first && errno != EEXIST) return false;
+    keyring = is_first ? made : find_ring();
+    if (keyring == 0 && kr_link(connection, context, made, head) == 0) keyring = made; /* another user's was there */
+    return keyring > 0;
+}
+
 /* In the place of an entry of this name; for so many seconds, or for 0 as long as the ring. The ring has it once it has
  * its timeout; till then it is this connection's alone. */
 static bool put_entry(const char *name, struct bytes bytes, uint32_t seconds) {
-    if (keyring <= 0) keyring = kr_add(connection, context, "keyring", ring_name, NULL, 0, head);
     int32_t entry = kr_add(connection, context, "user", name, bytes.at, bytes.length, KEY_SPEC_PROCESS_KEYRING);
-    return keyring > 0 && entry > 0 && kr_set_timeout(connection, context, entry, seconds) == 0
+    return have_ring() && entry > 0 && kr_set_timeout(connection, context, entry, seconds) == 0
            && kr_link(connection, context, entry, keyring) == 0;
 }
 
@@ -77,6 +97,20 @@ static bool drop_entry(int32_t entry) { return entry > 0 && kr_invalidate(connec
 
 /* A lock that can't be read locks, too. */
 static bool is_locked(void) { return find_entry(lock_name) > 0 || errno != ENOKEY; }
+
+/* Takes out those whose time is over, which the daemon would keep in memory. How many are left. */
+static size_t sweep(void) {
+    size_t all = keyring > 0 ? read_ring(keyring) : 0, left = all;
+    for (size_t i = 0; i < all; i++)
+        if (kr_read(connection, context, entries[i], NULL, 0) < 0 && errno == EKEYEXPIRED)
+            left -= kr_unlink(connection, context, entries[i], keyring) == 0;
+    return left;
+}
+
+void sweep_ring(void) {
+    if (open_ring() >= 0 && !is_locked()) sweep();
+    close_ring();
+}
 
 /* ---- Keys: an entry is the message that has added it ---- */
 
@@ -103,24 +137,30 @@ static bool read_added(struct bytes message, struct key *key) {
     return message.at && !message.length;
 }
 
-static bool put_identities(struct writer *reply) {
-    static int32_t entries[ENTRIES_MOST];
-    int64_t length = keyring > 0 && !is_locked() ? kr_read(connection, context, keyring, entries, sizeof entries) : 0;
-    size_t all = length > 0 ? (size_t)length / sizeof *entries : 0, count = 0, counted = reply->length + BYTE;
+static struct bytes shown(struct bytes comment) {
+    return take(&comment, comment.length < COMMENT_MOST ? comment.length : COMMENT_MOST);
+}
+
+/* As many as there is room for, so that nobody's keys hide all. */
+static void put_identities(struct writer *reply) {
+    size_t all = keyring > 0 && !is_locked() ? read_ring(keyring) : 0, count = 0, counted = reply->length + BYTE;
     struct key key;
     put_number(reply, IDENTITIES_ANSWER, BYTE);
     put_number(reply, 0, NUMBER);
-    for (size_t i = 0; i < all && all <= ENTRIES_MOST; i++) {
+    for (size_t i = 0; i < all; i++) {
         if (!read_added(read_entry(entries[i]), &key)) continue;
         size_t begin = reply->length;
         put_number(reply, 0, NUMBER);
         put_public(reply, &key);
         set_number(reply, begin, reply->length - begin - NUMBER);
-        put_string(reply, key.comment);
+        put_string(reply, shown(key.comment));
+        if (reply->is_bad) {
+            *reply = (struct writer){ .at = reply->at, .length = begin, .room = reply->room };
+            break;
+        }
         count++;
     }
     set_number(reply, counted, count);
-    return all <= ENTRIES_MOST;
 }
 
 static bool find_key(struct bytes public_key, struct key *key) {
@@ -130,8 +170,9 @@ static bool find_key(struct bytes public_key, struct key *key) {
 /* Whether the program of SSH_ASKPASS says yes, or nothing. Meanwhile neither a key nor a connection is held. */
 static bool is_allowed(struct bytes public_key, struct bytes comment) {
     char question[QUESTION_ROOM], said[ANSWER_ROOM] = "";
-    int length = comment.length < COMMENT_MOST ? (int)comment.length : COMMENT_MOST;
-    snprintf(question, sizeof question, "Allow use of key %.*s?\n%s", length, comment.at, name_of(public_key));
+    comment = shown(comment);
+    snprintf(question, sizeof question, "Allow use of key %.*s?\n%s", (int)comment.length, comment.at,
+             name_of(public_key));
     close_ring();
     setenv("SSH_ASKPASS_PROMPT", "confirm", 1);
     setenv("KEYRETAIN_QUESTION", question, 1);
@@ -161,7 +202,9 @@ static bool add(struct bytes message, uint32_t lifetime, struct writer *reply) {
     put_public(reply, &key);
     struct bytes public_key = { reply->at + begin, reply->length - begin };
     reply->length = begin;
-    return !reply->is_bad && put_entry(name_of(public_key), message, key.lifetime ? key.lifetime : lifetime);
+    bool has_room = sweep() < ENTRIES_MOST || find_entry(name_of(public_key)) > 0;
+    return has_room && !reply->is_bad &&
+           put_entry(name_of(public_key), message, key.lifetime ? key.lifetime : lifetime);
 }
 
 /* Locks, or unlocks by the same passphrase. The lock is a salt, and the passphrase's hash. */
@@ -182,7 +225,7 @@ static bool carry_out(struct bytes message, uint32_t lifetime, struct writer *re
     struct bytes asked = message;
     uint32_t kind = take_number(&asked, BYTE);
     if (kind == UNLOCK) return turn_lock(true, take_string(&asked));
-    if (kind == REQUEST_IDENTITIES) return put_identities(reply);
+    if (kind == REQUEST_IDENTITIES) return put_identities(reply), true;
     if (is_locked()) return false;
     if (kind == SIGN_REQUEST) return sign(asked, reply);
     if (kind == ADD_IDENTITY || kind == ADD_ID_CONSTRAINED) return add(message, lifetime, reply);
@@ -191,11 +234,14 @@ static bool carry_out(struct bytes message, uint32_t lifetime, struct writer *re
     return kind == LOCK && turn_lock(false, take_string(&asked));
 }
 
-void answer(struct bytes message, uint32_t lifetime, struct writer *reply) {
+bool is_guess(struct bytes message) { return take_number(&message, BYTE) == UNLOCK; }
+
+bool answer(struct bytes message, uint32_t lifetime, struct writer *reply) {
     put_number(reply, 0, NUMBER);
     bool is_done = open_ring() >= 0 && carry_out(message, lifetime, reply) && !reply->is_bad;
     close_ring();
     if (!is_done) *reply = (struct writer){ .at = reply->at, .length = NUMBER, .room = reply->room };
     if (reply->length == NUMBER) put_number(reply, is_done ? SUCCESS : FAILURE, BYTE);
     set_number(reply, 0, reply->length - NUMBER);
+    return is_done;
 }

@@ -10,17 +10,21 @@
 #include <signal.h>
 #include <stdio.h>
 #include <stdlib.h>
+#include <sys/mman.h>
 #include <sys/prctl.h>
 #include <sys/resource.h>
 #include <sys/socket.h>
 #include <sys/wait.h>
+#include <time.h>
 #include <unistd.h>
 
 #include "../guard/listener.h"
 #include "agent.h"
 
 /* A client may say nothing for as long as a server gives a login (LoginGraceTime in sshd_config(5)). */
-enum { CLIENTS_MOST = 256, IDLE_SECONDS = 120, STALL_SECONDS = 10, MILLISECONDS = 1000, USAGE = 2, DECIMAL = 10 };
+enum { CLIENTS_MOST = 256, IDLE_SECONDS = 120, STALL_SECONDS = 10, SWEEP_SECONDS = 60, MILLISECONDS = 1000,
+       TURN_MILLISECONDS = 100 };
+enum { USAGE = 2, DECIMAL = 10 };
 enum { NOT_HELD = -1, NEVER_HELD = -2 };
 
 static const char usage[] = "usage: keyretain-ssh-agent [-Ds] [-a SOCKET] [-t LIFETIME]\n"
@@ -29,8 +33,23 @@ static char *path, folder[] = "/tmp/ssh-XXXXXX";
 static bool stays, has_folder;
 static uint32_t lifetime;
 static pid_t listening;
+static int turns; /* a file, locked by the client whose turn it is */
 
 /* ---- One client: SIGALRM ends the process of one that takes too long ---- */
+
+static bool take_turn(short type) {
+    struct flock turn = { .l_type = type }; /* a process's, as fcntl(2) has it */
+    return fcntl(turns, F_SETLK, &turn) == 0;
+}
+
+/* The passphrases of all clients are judged one after another, and a wrong one takes a second. Where a client has gone
+ * meanwhile, its own isn't judged. */
+static bool wait_in_turn(int client) {
+    struct pollfd gone = { .fd = client };
+    while (!take_turn(F_WRLCK))
+        if (poll(&gone, 1, TURN_MILLISECONDS) != 0) return false;
+    return poll(&gone, 1, 0) == 0;
+}
 
 static bool serve_message(int client) {
     static unsigned char message[MESSAGE_MOST], replied[NUMBER + MESSAGE_MOST];
@@ -44,8 +63,13 @@ static bool serve_message(int client) {
     if (length == 0 || length > sizeof message) return false;
     if (recv(client, message, length, MSG_WAITALL) != (ssize_t)length) return false;
     alarm(0);
-    answer((struct bytes){ message, length }, lifetime, &reply);
+    struct bytes asked = { message, length };
+    bool is_a_guess = is_guess(asked);
+    if (is_a_guess && !wait_in_turn(client)) return false;
+    bool is_done = answer(asked, lifetime, &reply);
     OPENSSL_cleanse(message, length);
+    if (is_a_guess && !is_done) sleep(1);
+    if (is_a_guess) take_turn(F_UNLCK);
     alarm(STALL_SECONDS);
     return send(client, replied, reply.length, MSG_NOSIGNAL) == (ssize_t)reply.length;
 }
@@ -57,6 +81,14 @@ static void end(int number) {
     _exit(0);
 }
 
+static bool is_time_to_sweep(void) {
+    static time_t next;
+    time_t now = time(NULL);
+    bool is_time = next != 0 && now >= next;
+    if (next == 0 || is_time) next = now + SWEEP_SECONDS;
+    return is_time;
+}
+
 /* With CLIENTS_MOST clients the next ones wait. Where there is no session, a connection holds the user keyring. */
 static _Noreturn void serve(int listener) {
     const char *session = getenv("KEYRETAIN_SESSION");
@@ -65,15 +97,17 @@ static _Noreturn void serve(int listener) {
         while (waitpid(-1, NULL, WNOHANG) > 0) clients--;
         if (held == NOT_HELD) held = open_ring();
         struct pollfd awaited[] = { { clients < CLIENTS_MOST ? listener : -1, POLLIN, 0 }, { held, 0, 0 } };
-        int ready = poll(awaited, 2, clients || held == NOT_HELD ? MILLISECONDS : -1);
+        int ready = poll(awaited, 2, MILLISECONDS * (clients || held == NOT_HELD ? 1 : SWEEP_SECONDS));
         if (ready > 0 && awaited[1].revents) held = NOT_HELD;
         int client = ready > 0 && awaited[0].revents ? accept4(listener, NULL, NULL, SOCK_CLOEXEC) : -1;
-        pid_t forked = client >= 0 && is_own_peer(client) ? fork() : -1;
+        bool sweeps = client < 0 && is_time_to_sweep(); /* by a process of its own, too */
+        pid_t forked = sweeps || (client >= 0 && is_own_peer(client)) ? fork() : -1;
         if (forked == 0) {
             close(listener);
             close_ring();
             bool is_served = prctl(PR_SET_PDEATHSIG, SIGTERM) == 0 && getppid() == listening;
-            while (is_served && serve_message(client)) continue;
+            if (is_served && sweeps) sweep_ring();
+            while (is_served && !sweeps && serve_message(client)) continue;
             _exit(!is_served);
         }
         if (forked > 0) clients++;
@@ -151,12 +185,14 @@ static void forget_variables(void) {
 int main(int count, char **words) {
     if (count == 2 && strcmp(words[1], "--version") == 0) return puts("keyretain-ssh-agent " KEYRETAIN_VERSION) < 0;
     if (count == 2 && strcmp(words[1], "--help") == 0) return fputs(usage, stdout) < 0;
-    if (!fill_standard_descriptors() || close_range(STDERR_FILENO + 1, ~0U, CLOSE_RANGE_CLOEXEC) < 0) err(1, "files");
+    if (!fill_standard_descriptors()) err(1, "files");
     read_options(count, words);
     int listener = take_passed_listener();
+    closefrom(listener >= 0 ? listener + 1 : STDERR_FILENO + 1); /* others' locks, and what holds a session */
     if (listener >= 0) path = NULL, refuse_descriptors(listener);
     else listener = begin_listening();
     if (prctl(PR_SET_DUMPABLE, 0) < 0 || setrlimit(RLIMIT_CORE, &(struct rlimit){ 0, 0 }) < 0) err(1, "core files");
+    if ((turns = memfd_create("turns", MFD_CLOEXEC)) < 0) err(1, "turns");
     listening = getpid();
     set_signals();
     forget_variables();

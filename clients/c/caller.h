@@ -88,8 +88,8 @@ void serials_add(struct serials *serials, int32_t serial);
 /* Whether a serial is an earlier daemon's alone. */
 bool serials_is_stale(const struct serials *serials, int32_t serial);
 
-/* From here on another daemon answers. -1 with ENOMEM. */
-int serials_begin_anew(struct serials *serials);
+/* From here on another daemon answers. To others the one before has told serials up to this one. -1 with ENOMEM. */
+int serials_begin_anew(struct serials *serials, int32_t told);
 
 /* Forgets all. */
 void serials_clear(struct serials *serials);

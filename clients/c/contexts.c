@@ -13,6 +13,9 @@ enum { CALL_MILLISECONDS = 30000, OPENING_MILLISECONDS = 10000 };
  * processes that ask. All wait while a further connection is opened, so one that fails isn't tried again at once. */
 enum { IDENTITIES = 24, LASTING = 60, SPARE = 8, FURTHER_MILLISECONDS = 1000, PAUSE_MILLISECONDS = 10000 };
 
+/* Identities that no process has take this many connections at most, of those that others could have. */
+enum { LINES_OF_ABSENT = 4 };
+
 struct line {
     struct kr *connection;
     unsigned age, replaces; /* the age of the one in whose place it is, or 0 */
@@ -179,14 +182,23 @@ static int hello_where_room_is(struct context *made, const struct kr_identity *i
     return take(made, line, number, true);
 }
 
+static int count_in_use(void) {
+    int count = 0;
+    for (const struct line *line = all.lines; line; line = line->next) count += line->count > 0;
+    return count;
+}
+
+bool contexts_are_many(void) { return count_in_use() > LINES_OF_ABSENT; }
+
 int context_hello(struct context *made, const struct kr_identity *identity) {
     if (!all.lines) return fail_as(ENOSYS);
-    do {
+    for (;;) {
         if (hello_where_room_is(made, identity) == 0) return 0;
         if (errno != EDQUOT) return -1;
+        if (count_in_use() >= LINES_OF_ABSENT && all.give_up_keys()) continue;
         if (hello_on_further(made, identity) == 0) return 0;
-    } while (all.give_up_keys());
-    return fail_as(EDQUOT);
+        if (!all.give_up_keys()) return fail_as(EDQUOT);
+    }
 }
 
 static int derive(struct context *made, const struct context *from, int64_t (*ask)(struct kr *, uint32_t), bool lasts) {

@@ -130,12 +130,6 @@ void process_asks(struct process *process) {
 struct process *entries_oldest(void) { return TAILQ_FIRST(&all.order); }
 struct process *entries_next(const struct process *process) { return TAILQ_NEXT(process, order); }
 
-bool entries_have_uid(uint32_t uid) {
-    for (const struct process *process = entries_oldest(); process; process = entries_next(process))
-        if (process->uid == uid) return true;
-    return false;
-}
-
 /* A process that has ended while it asked may have left its number to another one, of whatever user. */
 void set_session(struct task *task, struct session *session) {
     const struct process *process = task->process;

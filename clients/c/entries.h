@@ -78,7 +78,6 @@ struct process {
     uint64_t image;     /* what it executed when it last asked: others may have its memory too */
     bool has_threads;   /* some call has named a thread keyring: each thread has a context of its own */
     bool may_have_keyrings; /* some call has named a thread or process keyring */
-    uint32_t uid;           /* as which it last asked */
     struct task *tasks;
     struct task *first; /* thread: the last of them */
     struct process *next;
@@ -122,7 +121,6 @@ void end_process(struct process *process);
 /* The process that asked longest ago; and the next. */
 struct process *entries_oldest(void);
 struct process *entries_next(const struct process *process);
-bool entries_have_uid(uint32_t uid);
 
 /* Whether descriptors run short. */
 bool entries_are_many(void);
@@ -149,10 +147,11 @@ struct admitted {
     bool is_lost;
 };
 
-/* Who asks: what is judged of the process, and whether it is in another user namespace than the one that is served. */
+/* Who asks: what is judged of the process, whether it is in another user namespace than the one that is served, and
+ * whether it revokes the session that it has joined itself. */
 struct asker {
     struct admission_process process;
-    bool is_elsewhere;
+    bool is_elsewhere, revokes;
 };
 
 /* The one under this identity that was made for this process as it is now, or NULL. */
@@ -242,6 +241,10 @@ unsigned maps_gid(unsigned gid);
 
 /* Says what stands for ids that have no number there; and how many uids have one, or 0 where that isn't known. */
 void maps_put(struct admission_process *process);
+
+/* Whether a process is known to be in no PID namespace of the container, nor in one within that: then it is another
+ * container's, of the same id. */
+bool maps_are_outside(pid_t process);
 
 /* Whether a thread is in another user namespace: its user keyrings are others. */
 bool maps_are_others(pid_t thread);

@@ -84,7 +84,10 @@ static _Noreturn void become_daemon(const struct container *container, pid_t par
     if (drop_capabilities() && end_with(parent) && limit_memory(all.settings.memory) &&
         dup2(answers, STDOUT_FILENO) >= 0) {
         execveat(COPY, "", words, environment, AT_EMPTY_PATH);
-        execve(all.settings.daemon, words, environment); /* no copy may be executed, or it is no program by itself */
+        /* without a copy just what others of its uid may not read, or they could look into what executes it */
+        bool is_readable = open(all.settings.daemon, O_RDONLY | O_CLOEXEC) >= 0 || errno != EACCES;
+        if (!is_readable) execve(all.settings.daemon, words, environment);
+        errno = EACCES;
     }
     fail(container, all.settings.daemon);
 }

@@ -51,11 +51,17 @@ static const char *advice(int status, int error, const char *what) {
     bool is_socket = status == NO_CONNECTION &&
                      (strcmp(what, socket_path) == 0 || (exported && strcmp(what, exported) == 0));
     if (is_socket && (error == ENOENT || error == ECONNREFUSED))
-        return "no daemon is there; start one: systemctl --user enable --now keyretaind";
+        return strncmp(what, "/run/keyretain/", strlen("/run/keyretain/")) == 0
+                   ? "the system's daemon doesn't listen: systemctl status 'keyretain*' tells, and who administers it"
+                   : "no daemon is there; start one: systemctl --user enable --now keyretaind";
     if (is_socket && error == EACCES)
-        return "only the group keyretain reaches the system's daemon, and no other user may listen for you";
+        return "the modes of the path and its folder say who may connect: ls -ld. Whoever is in the group keyretain "
+               "has the keys of all users, and behind keyretain-guard nobody needs it";
     if (status == NO_CONNECTION && error == ETIMEDOUT)
-        return "all lanes may be held: keyretain-status tells, and keyretaind --lanes gives more";
+        return "all lanes may be held: keyretain-status tells root, and keyretaind --lanes, or keyretain-guard "
+               "--connections, gives more";
+    if (status == NO_CONNECTION && error == ECONNRESET)
+        return "the daemon, or the one behind keyretain-guard, may have ended: its journal tells";
     if (status == NO_CONNECTION && error == EPERM)
         return "another filter refuses the key calls, as that of a container does: its profile must allow them";
     if (status == REFUSED && error == EDQUOT)

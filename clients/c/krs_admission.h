@@ -91,7 +91,7 @@ bool krs_admission_c_may_be_given(const struct admission_parent *parent, const s
 uint32_t krs_admission_c_asks_as(const struct admission_ids *ids, bool is_of_user);
 
 /* Whether a process that has joined a session itself, as a user with this uid, is in it still: while that is its real
- * uid. */
-bool krs_admission_c_stays(const struct admission_process *process, uint32_t uid);
+ * uid; where it revokes that session also while that is the uid of the file system. */
+bool krs_admission_c_stays(const struct admission_process *process, uint32_t uid, bool revokes);
 
 #endif

@@ -155,7 +155,11 @@ static void wait_for_command(pid_t supervisor, int reports, const char *path, co
         handle_signals();
     }
     TEMP_FAILURE_RETRY(waitpid(supervisor, &status, 0));
-    if (command_process > 0 && TEMP_FAILURE_RETRY(waitpid(command_process, &status, 0)) > 0) end_as(status);
+    /* its children are this one's then, and so is what they leave */
+    for (pid_t ended = 1; command_process > 0 && ended > 0;) {
+        ended = TEMP_FAILURE_RETRY(waitpid(-1, &status, 0));
+        if (ended == command_process) end_as(status);
+    }
     exit(NO_CONNECTION);
 }
 

@@ -10,14 +10,19 @@ enum { RANGE_LETTERS = 34 };
 static struct {
     struct map uids, gids;
     unsigned unknown, length;
-    struct stat namespace;
+    struct stat namespace, processes; /* of users, and of the PIDs of a container */
+    bool has_processes;
 } all;
 
 /* 0, or -1 where it may not be looked at. */
-static int find_namespace(pid_t process, struct stat *namespace) {
+static int find_namespace_of(pid_t process, const char *kind, struct stat *namespace) {
     char path[64];
-    snprintf(path, sizeof path, "/proc/%d/ns/user", (int)process);
+    snprintf(path, sizeof path, "/proc/%d/ns/%s", (int)process, kind);
     return stat(path, namespace);
+}
+
+static int find_namespace(pid_t process, struct stat *namespace) {
+    return find_namespace_of(process, "user", namespace);
 }
 
 static bool is_same(const struct stat *one, const struct stat *other) {
@@ -83,6 +88,7 @@ static bool read_maps_of(int namespace, pid_t first) {
 
 void maps_begin(pid_t first) {
     static const struct map ours = { .count = 1, .ranges = { { 0, 0, UINT32_MAX } } }; /* ids are as they are read */
+    all.has_processes = first > 0 && find_namespace_of(first, "pid", &all.processes) == 0;
     all.unknown = kr_unknown_uid();
     all.length = read_map(getpid(), "uid_map", &all.uids) ? length_of(&all.uids) : 0;
     if (find_namespace(getpid(), &all.namespace) < 0) return;
@@ -115,6 +121,19 @@ unsigned maps_gid(unsigned gid) { return map_to_inside(&all.gids, gid, all.unkno
 void maps_put(struct admission_process *process) {
     process->unknown = all.unknown;
     process->mapped = all.length;
+}
+
+bool maps_are_outside(pid_t process) {
+    struct stat namespace;
+    int next = all.has_processes ? proc_open_file(process, "ns/pid", O_RDONLY) : -1;
+    bool is_known = next >= 0, is_within = false;
+    while (next >= 0) {
+        is_within = fstat(next, &namespace) == 0 && is_same(&namespace, &all.processes);
+        int around = is_within ? -1 : ioctl(next, NS_GET_PARENT);
+        close(next);
+        next = around;
+    }
+    return is_known && !is_within;
 }
 
 bool maps_are_others(pid_t thread) {

@@ -77,6 +77,23 @@ bool proc_read_status(pid_t thread, struct proc_status *status) {
     return true;
 }
 
+DIR *proc_begin(void) {
+    DIR *processes = opendir("/proc");
+    int spare = processes ? fcntl(dirfd(processes), F_DUPFD_CLOEXEC, 0) : -1;
+    if (spare >= 0) close(spare);
+    if (spare >= 0 || !processes) return processes;
+    closedir(processes);
+    return NULL;
+}
+
+pid_t proc_next(DIR *processes) {
+    for (const struct dirent *entry; (entry = readdir(processes)) != NULL;) {
+        pid_t process = (pid_t)strtol(entry->d_name, NULL, DECIMAL); /* or 0 */
+        if (process > 0) return process;
+    }
+    return 0;
+}
+
 /* NStgid has the numbers of a process in the namespace of /proc and in those within it, down to its own. A kernel
  * without PID namespaces doesn't say it. */
 bool proc_is_ours(void) {

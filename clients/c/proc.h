@@ -5,6 +5,8 @@
 #include "session.h"
 #include "krs_admission.h"
 
+#include <dirent.h>
+
 /* For tests: 1 does without what came after Linux 5.9, as WAIT_KILLABLE_RECV, PROCMAP_QUERY and PIDFD_THREAD. */
 #ifndef KEYRETAIN_OLD_KERNEL
 #define KEYRETAIN_OLD_KERNEL 0
@@ -30,6 +32,11 @@ bool proc_read(pid_t id, const char *name, char *text, size_t room);
 
 /* False where there is no such thread, or it may not be looked at. */
 bool proc_read_status(pid_t thread, struct proc_status *status);
+
+/* The processes of /proc, for closedir(3); NULL where no descriptor is left for what is read of them, as then all would
+ * look as if they were gone. The next one, 0 behind the last. */
+DIR *proc_begin(void);
+pid_t proc_next(DIR *processes);
 
 /* 0 where it is outside of this PID namespace, -1 where it can't be looked at. */
 pid_t proc_parent(pid_t process);

@@ -305,7 +305,7 @@ struct kr *seats_prepare(struct seat *seat) {
 
 int seats_begin_serials(struct seat *seat) {
     LOCKED;
-    return serials_begin_anew(&seat->serials);
+    return serials_begin_anew(&seat->serials, 0);
 }
 
 void seats_drop(struct seat *seat, bool is_same_place) {

@@ -15,8 +15,9 @@ bool serials_is_stale(const struct serials *serials, int32_t serial) {
     return serial > told_apart(serials->stale) || !(serials->again[serial / 8] >> serial % 8 & 1);
 }
 
-int serials_begin_anew(struct serials *serials) {
-    int32_t stale = serials->highest > serials->stale ? serials->highest : serials->stale;
+int serials_begin_anew(struct serials *serials, int32_t told) {
+    int32_t known = serials->highest > told ? serials->highest : told;
+    int32_t stale = known > serials->stale ? known : serials->stale;
     uint8_t *again = calloc((size_t)told_apart(stale) / 8 + 1, 1), *before = serials->again;
     if (!again) return -1;
     *serials = (struct serials){ .stale = stale, .again = again };

@@ -1,7 +1,6 @@
 /* sessions.c: the sessions of what a supervisor serves. */
 #include "sessions.h"
 
-#include <dirent.h>
 #include <sys/random.h>
 
 #include "proc.h"
@@ -157,25 +156,21 @@ static unsigned count_unused(void) {
 
 bool sessions_want_sweep(void) { return count_unused() > 0; }
 
-static bool see_tags(bool (*keeps)(pid_t, const struct session *)) {
-    DIR *processes = opendir("/proc");
-    struct dirent *entry;
+static void see_tags(DIR *processes, bool (*keeps)(pid_t, const struct session *)) {
     uint64_t soft;
-    if (!processes) return false;
-    while ((entry = readdir(processes)) != NULL) {
-        pid_t process = (pid_t)strtol(entry->d_name, NULL, DECIMAL); /* or 0 */
-        struct session *session = process > 0 && proc_read_locks(process, &soft) ? session_of_tag(soft) : NULL;
+    for (pid_t process; (process = proc_next(processes)) > 0;) {
+        struct session *session = proc_read_locks(process, &soft) ? session_of_tag(soft) : NULL;
         if (session && session->uses == 0 && keeps(process, session)) session->absent = 0;
     }
     closedir(processes);
-    return true;
 }
 
 /* A process that is forked by one which ends may be missed once. */
 void sessions_sweep(bool (*keeps)(pid_t, const struct session *)) {
-    if (!sessions_want_sweep()) return;
+    DIR *processes = sessions_want_sweep() ? proc_begin() : NULL;
+    if (!processes) return;
     for (struct session *session = all.sessions; session; session = session->next) session->absent++;
-    if (!see_tags(keeps)) return;
+    see_tags(processes, keeps);
     for (struct session *session = all.sessions, *next; session; session = next) {
         next = session->next;
         if (session->uses > 0 || session->absent < ABSENT_SWEEPS) continue;

@@ -7,6 +7,7 @@
 #ifndef KEYRETAIN_SESSIONS_H
 #define KEYRETAIN_SESSIONS_H
 
+#include "caller.h"
 #include "session.h"
 #include "krs_admission.h"
 
@@ -36,6 +37,9 @@ int contexts_begin_call(void);
 
 /* The same for what is done between calls, which opens none. */
 void contexts_set_deadline(void);
+
+/* Whether there are more connections with contexts than identities take that no process has. */
+bool contexts_are_many(void);
 
 /* Closes connections without a context, but one. */
 void contexts_tidy(void);
@@ -79,7 +83,15 @@ bool context_has_keyring(const struct context *context, int32_t id);
  * Each that asks has a context, from which others are forked, and which keeps its user keyrings.
  *
  * The context of an identity that nothing uses any more is given up, unless its user keyrings would lose keys with it.
- * It is given up then too, where no further connection is to be had for another, and no process of its uid is known. */
+ * It is given up then too, where there are many connections, or no further one is to be had, and no process has its
+ * uid. */
+
+/* What daemons have told a uid: its identities have it in common. */
+struct told {
+    struct serials serials;
+    unsigned before; /* how many daemons there were before the one that told last */
+    unsigned uses;
+};
 
 struct user {
     struct kr_identity identity;
@@ -87,6 +99,8 @@ struct user {
     unsigned uses;   /* how many seats and sessions have it */
     unsigned absent; /* how many sweeps have found none */
     bool has_keys;   /* when it was last looked at */
+    bool is_away;    /* no process had its uid then */
+    struct told *told;
     struct user *next;
 };
 
@@ -100,10 +114,10 @@ void user_let_go(struct user *user);
 bool users_want_sweep(void);
 void users_sweep(void);
 
-/* Gives up one that loses nothing, on the connection of this age, or of any for 0; or one whose uid has no process, as
- * `is_here` tells, and with it keys. False where there is none. */
+/* Gives up one that loses nothing, on the connection of this age, or of any for 0; or one whose uid no process has, and
+ * with it keys. False where there is none. */
 bool users_make_room(unsigned age);
-bool users_give_up_keys(bool (*is_here)(uint32_t uid));
+bool users_give_up_keys(void);
 
 /* Makes contexts anew that are on an old connection. */
 void users_renew(void);

@@ -207,12 +207,13 @@ int kr_flush(struct kr *connection) {
         if (prepare_to_wait(connection, IN_SEND, &flags) < 0) return kr_break_off(connection, ECONNRESET);
         ssize_t sent = send(connection->socket.descriptor, out + connection->out_start,
                             connection->out_end - connection->out_start, MSG_NOSIGNAL | flags);
-        if (sent >= 0)
-            connection->out_start += (size_t)sent;
-        else if (after_failure(connection) < 0)
-            return -1;
+        if (sent < 0) {
+            if (after_failure(connection) < 0) return -1;
+            continue;
+        }
+        explicit_bzero(out + connection->out_start, (size_t)sent); /* it may have been a payload */
+        connection->out_start += (size_t)sent;
     }
-    explicit_bzero(out, connection->out_end); /* it may have been a payload */
     connection->out_start = connection->out_end = 0;
     return 0;
 }

@@ -163,7 +163,8 @@ static void know_links(struct caller *caller, values at, long length) {
 
 /* What this daemon has told, and what it was asked about and knew. */
 static void know_serials(struct caller *caller, const struct key_row *row, values at, long result) {
-    if (result < 0) return;
+    bool is_asked = row->call != KEYCTL_CHOWN || (uint32_t)at[1] != UINT32_MAX || (uint32_t)at[2] != UINT32_MAX;
+    if (result < 0 || !is_asked) return;
     if (row->answers_serial) serials_add(caller->serials, (int32_t)result);
     if (row->call == KEYCTL_READ) know_links(caller, at, result);
     for (int i = 0; i < KEY_ARGUMENTS; i++)

@@ -21,7 +21,7 @@ struct seat *find_seat(struct task *task, const struct user *user, const struct 
     for (unsigned i = task->count; i > 0; i--)
         if (!context_connection(&task->seats[i - 1].context)) drop_seat(task, i - 1);
     const struct admission_process *now = &asker->process;
-    bool stays = krs_admission_c_stays(now, user->identity.uid);
+    bool stays = krs_admission_c_stays(now, user->identity.uid, asker->revokes);
     return FIND_SEAT(task, seat, seat->user == user &&
                                      (seat->has_joined ? stays
                                                        : seat->is_elsewhere == asker->is_elsewhere &&

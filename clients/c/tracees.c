@@ -2,7 +2,10 @@
 #include "serve.h"
 
 static struct entered all;
-static struct serials serials;
+/* What is told again counts for who was told alone: another user could have a number told, and what it names is that
+ * user's then. */
+static int32_t highest, stale; /* of all users: the highest serial that was told, also by the daemons before */
+static unsigned before;         /* how many daemons there were before this one */
 
 const struct entered *tracees_entered(void) { return &all; }
 
@@ -31,6 +34,7 @@ static bool look_at(pid_t thread, struct arrival *arrival) {
     arrival->has_executed = arrival->process && has_executed(arrival->process, arrival->image);
     if (arrival->process && !arrival->has_executed) arrival->task = find_task(arrival->process, thread);
     if (!arrival->process && (arrival->process_descriptor = proc_open(status->process)) < 0) return false;
+    if (!arrival->process && maps_are_outside(status->process)) return false;
     bool is_first = thread == status->process;
     return arrival->task || is_first || (arrival->thread_descriptor = proc_open_thread(thread)) >= 0;
 }
@@ -65,13 +69,13 @@ static struct task *have_entry(pid_t thread) {
 }
 
 /* The user keyrings are the real uid's, and so is a session that is begun. Whoever has joined one itself is asked as
- * then where it names that, by a number too. */
+ * then where it names that, by a number too, while it has that real uid. */
 static bool is_of_user(struct task *task, const struct key_row *row, const unsigned long *given) {
     if (row->is_of_user || key_row_names(row, given, KEY_SPEC_USER_KEYRING) ||
         key_row_names(row, given, KEY_SPEC_USER_SESSION_KEYRING))
         return true;
-    return task->has_joined && (key_row_names(row, given, KEY_SPEC_SESSION_KEYRING) ||
-                                key_row_names(row, given, task->session->serial));
+    return task->has_joined && krs_admission_c_stays(&all.asker.process, task->session->user->identity.uid, false) &&
+           (key_row_names(row, given, KEY_SPEC_SESSION_KEYRING) || key_row_names(row, given, task->session->serial));
 }
 
 bool tracees_enter(pid_t thread, const struct key_row *row, const unsigned long given[KEY_ARGUMENTS],
@@ -84,9 +88,10 @@ bool tracees_enter(pid_t thread, const struct key_row *row, const unsigned long 
         return false;
     }
     bool names_thread = key_row_names(row, given, KEY_SPEC_THREAD_KEYRING);
+    all.asker.revokes =
+        row->call == KEYCTL_REVOKE && task->has_joined && key_row_names(row, given, task->session->serial);
     admission_put_identity(&all.identity, &all.status, is_of_user(task, row, given));
     all.task = task;
-    task->process->uid = all.identity.uid;
     process_asks(task->process);
     task->process->has_threads |= names_thread || row->call == KEYCTL_JOIN_SESSION_KEYRING;
     if (names_thread || key_row_names(row, given, KEY_SPEC_PROCESS_KEYRING)) sweep_from_now_on(task->process);
@@ -108,7 +113,7 @@ static struct task *seated(struct task *task) { return task->process->has_thread
 static bool is_in_joined(const struct task *task, const struct user *user) {
     uint32_t uid = user->identity.uid;
     return task->has_joined && task->session->user->identity.uid == uid && !session_is_lost(task->session) &&
-           krs_admission_c_stays(&all.asker.process, uid);
+           krs_admission_c_stays(&all.asker.process, uid, all.asker.revokes);
 }
 
 /* What is read by number is the notified thread's where the notification still waits afterwards. What it has begun for
@@ -146,7 +151,8 @@ static int have_connection(void) {
     static unsigned last; /* the daemon is the one met since then */
     if (contexts_begin_call() < 0) return -1;
     bool is_other = last != 0 && contexts_beginnings() != last;
-    if (is_other && serials_begin_anew(&serials) < 0) return -1;
+    if (is_other) stale = highest;
+    before += is_other;
     last = contexts_beginnings();
     if (contexts_are_worn() && contexts_renew() == 0) {
         users_renew();
@@ -158,16 +164,23 @@ static int have_connection(void) {
 
 /* ---- What caller.h wants, for the thread that has entered ---- */
 
+static bool begin_told(struct told *told) {
+    if (told->before != before && serials_begin_anew(&told->serials, stale) < 0) return false;
+    told->before = before;
+    return true;
+}
+
 bool caller_enter(struct caller *caller) {
     struct seat *seat = have_connection() < 0 ? NULL : have_context();
-    if (!seat) return false;
+    if (!seat || !begin_told(seat->user->told)) return false;
     *caller = (struct caller){ .connection = context_connection(&seat->context), .context = seat->context.number,
-                               .lost_session = seat->is_lost, .seat = seat, .serials = &serials };
+                               .lost_session = seat->is_lost, .seat = seat, .serials = &seat->user->told->serials };
     return true;
 }
 
 /* A context that the daemon doesn't know is no error of the program's: the next call begins anew. */
 void caller_leave(struct caller *caller, long result) {
+    if (caller->serials->highest > highest) highest = caller->serials->highest;
     if (result < 0 && errno == ESRCH) context_forget(&caller->seat->context);
 }
 
@@ -228,7 +241,6 @@ long tracees_session_to_parent(void) {
 
 /* ---- Room, and the sweep ---- */
 
-static bool give_up_keys(void) { return users_give_up_keys(entries_have_uid); }
 bool tracees_make_room(unsigned age) { return seats_make_room(age, all.task, admission_keeps); }
 bool tracees_want_sweep(void) { return entries_want_sweep() || sessions_want_sweep() || users_want_sweep(); }
 
@@ -258,7 +270,7 @@ int tracees_begin(const struct tracees_settings *settings, int epoll) {
     struct kr_identity identity = settings->identity;
     if (settings->is_container) admission_put_first(&identity);
     admission_set(&begun, identity.uid);
-    if (contexts_begin(settings->socket, tracees_make_room, give_up_keys) < 0) return -1;
+    if (contexts_begin(settings->socket, tracees_make_room, users_give_up_keys) < 0) return -1;
     if (sessions_begin(&identity, &begun, settings->name, settings->is_container) < 0) return -1;
     return settings->child > 0 ? begin_child(settings->child) : 0;
 }

@@ -80,10 +80,7 @@ int32_t kr_find_own(struct kr *connection, uint32_t context, int32_t ring, const
 int32_t kr_add(struct kr *connection, uint32_t context, const char *type, const char *name, const void *payload,
                size_t length, int32_t ring) {
     check(connection, context);
-    if (strcmp(type, "keyring") == 0) {
-        has_ring = true;
-        return RING;
-    }
+    if (strcmp(type, "keyring") == 0) return RING;
     if (ring != KEY_SPEC_PROCESS_KEYRING || strlen(name) >= NAME_ROOM) abort();
     if (length > PAYLOAD_MOST) return -1;
     let_go(&made);
@@ -92,6 +89,13 @@ int32_t kr_add(struct kr *connection, uint32_t context, const char *type, const 
     made.length = length;
     memcpy(made.payload, payload, length);
     return FIRST + ENTRIES;
+}
+
+int kr_move(struct kr *connection, uint32_t context, int32_t id, int32_t from, int32_t to, uint32_t flags) {
+    check(connection, context);
+    if (id != RING || from != KEY_SPEC_PROCESS_KEYRING || to >= 0 || flags != KEYCTL_MOVE_EXCL || has_ring) abort();
+    has_ring = true;
+    return 0;
 }
 
 int kr_set_timeout(struct kr *connection, uint32_t context, int32_t id, uint32_t seconds) {
@@ -116,14 +120,23 @@ int kr_link(struct kr *connection, uint32_t context, int32_t id, int32_t ring) {
 
 int64_t kr_read(struct kr *connection, uint32_t context, int32_t id, void *buffer, size_t room) {
     check(connection, context);
+    if (id < 0 && has_ring) *(int32_t *)buffer = RING;
+    if (id < 0) return has_ring ? (int64_t)sizeof(int32_t) : 0;
     if (id == RING) {
         for (int i = 0; i < ENTRIES; i++) ((int32_t *)buffer)[i] = FIRST + i;
         return ENTRIES * (int64_t)sizeof(int32_t);
     }
     struct entry *entry = entry_of(id);
+    if (!entry->payload) errno = id & 1 ? EKEYEXPIRED : ENOKEY;
     if (!entry->payload) return -1;
-    if (entry->length <= room) memcpy(buffer, entry->payload, entry->length);
+    if (buffer && entry->length <= room) memcpy(buffer, entry->payload, entry->length);
     return (int64_t)entry->length;
+}
+
+int kr_unlink(struct kr *connection, uint32_t context, int32_t id, int32_t ring) {
+    check(connection, context);
+    if (ring != RING || entry_of(id)->payload) abort();
+    return 0;
 }
 
 int kr_invalidate(struct kr *connection, uint32_t context, int32_t id) {

@@ -51,6 +51,19 @@ has_no_containers() { [ -z "$(ls "$folder")" ]; }
 
 has_one_container() { [ "$(find "$folder" -type s | wc -l)" = 1 ]; }
 
+# What a runtime executes in another container of the same id, as after a restart of the agent.
+try_other_namespace() {
+  local apart first
+  unshare --pid --fork --kill-child sleep 100 &
+  apart=$!
+  until_true pgrep -P "$apart" >"$dir/pids"
+  first=$(pgrep -P "$apart")
+  says 'a process that is not in its PID namespace' 'ENOSYS ' contain c --pid "$first" -- "$dir/calls" add k v @s
+  says 'one that is' 'ok v ' contain c --pid "$first" -- nsenter -t "$first" -p "$dir/calls" add k v @s print k
+  kill "$apart"
+  finish "$apart"
+}
+
 # session_of COMMAND ..: what the command says of a session, without its mask
 session_of() { "$@" describe @s | sed 's/;[0-9a-f]*;_ses/; _ses/'; }
 
@@ -95,6 +108,7 @@ try_sending() {
   local four='["x","y","z","seccompFd"]'
   says 'a process id of 0' 'ok v ' contain b --pid 0 -- "$dir/calls" add k v @s print k
   says 'a process id of no process' 'ok v ' contain b --pid 2147483647 -- "$dir/calls" add k v @s print k
+  ! is_root || try_other_namespace
   says 'a state in pieces' 'ok v ' contain b --pieces -- "$dir/calls" add k v @s print k
   says 'a connection that stays open' 'ok v ' contain b --open -- "$dir/calls" add k v @s print k
   says 'four descriptors' 'ok v ' contain b --count 4 --names "$four" -- "$dir/calls" add k v @s print k

@@ -237,6 +237,11 @@ class FramesOfBoth(Frames):
     guarded = True
 
 
+def takes_context(name):
+    """Whether the clients' functions for an ask take a context, as the Python client's method says."""
+    return "context" in getattr(keyretain.Client, name.lower()).__annotations__
+
+
 class Python(OneByOne):
     """The Python client's methods."""
 
@@ -246,14 +251,13 @@ class Python(OneByOne):
         self.client = keyretain.Client(self.daemon.path, timeout=PATIENCE)
 
     def ask(self, name, context, values):
-        takes_context = name not in ("HELLO", "LEAVE", "OPEN_QUEUE", "SET_FILTER", "READ_QUEUE", "CLOSE_QUEUE")
         try:
             if name == "READ_QUEUE":  # its method gives records
                 return self.client.ask(name, 0, *values)
             method = getattr(self.client, name.lower())
             if method.__defaults__ and not method.__defaults__[-1] and not values[-1]:
                 values = values[:-1]  # its method has that where it isn't given
-            answer = method(context, *values) if takes_context else method(*values)
+            answer = method(context, *values) if takes_context(name) else method(*values)
             return answer.encode() if name == "DESCRIBE" and isinstance(answer, str) else answer
         except keyretain.Refused as refused:
             return refused.name
@@ -272,7 +276,7 @@ class Library(OneByOne):
     """The functions of libkeyretain."""
 
     name = "the C library"
-    LONG = ("HELLO", "THREAD", "FORK", "READ", "DESCRIBE", "OPEN_QUEUE", "READ_QUEUE")
+    LONG = [name for name, ask in keyretain.ASKS.items() if ask.answer in ("number", "bytes")]
     ROOM = 1 << 18
 
     def connect(self):
@@ -284,21 +288,19 @@ class Library(OneByOne):
         self.room = ctypes.create_string_buffer(self.ROOM)
 
     def ask(self, name, context, values):
-        takes_context = name not in ("HELLO", "LEAVE", "OPEN_QUEUE", "SET_FILTER", "READ_QUEUE", "CLOSE_QUEUE")
-        words = [ctypes.c_uint32(context)] if takes_context else []
+        words, form = [ctypes.c_uint32(context)] if takes_context(name) else [], keyretain.ASKS[name].answer
         for value in values:
             words += self._words(name, value)
         if name == "ADD":  # the payload's length comes behind it
             words.insert(4, ctypes.c_size_t(len(values[2])))
         if name == "UPDATE":
             words.append(ctypes.c_size_t(len(values[1])))
-        if name in ("READ", "DESCRIBE", "READ_QUEUE"):
+        if form == "bytes":
             room = values[1] if name == "READ_QUEUE" else self.ROOM
             words = words[:1 if name == "READ_QUEUE" else None] + [self.room, ctypes.c_size_t(room)]
         answer = getattr(self.library, f"kr_{name.lower()}")(self.connection, *words)
         if answer == -1:
             return name_of_error()
-        form = keyretain.ASKS[name].answer
         return self.room.raw[:answer] if form == "bytes" else None if form == "nothing" else answer
 
     @staticmethod

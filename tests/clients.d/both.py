@@ -27,8 +27,8 @@ class Library:
     def __init__(self):
         self.library = ctypes.CDLL(sys.argv[2], use_errno=True)
         self.library.kr_open.restype = ctypes.c_void_p
-        for name in ("kr_hello", "kr_read", "kr_describe", "kr_open_queue", "kr_read_queue"):
-            getattr(self.library, name).restype = ctypes.c_int64
+        for name in (it for it, ask in keyretain.ASKS.items() if ask.answer in ("number", "bytes")):
+            getattr(self.library, f"kr_{name.lower()}").restype = ctypes.c_int64
         self.connection = ctypes.c_void_p(self.library.kr_open(sys.argv[1].encode()))
 
     def ask(self, name, *words):

@@ -23,10 +23,10 @@ void __wrap_free(void *at) {
 static void see_fewer(void) {
     struct serials fewer = { 0 };
     serials_add(&fewer, 192);
-    check("a daemon after one of 192 serials", serials_begin_anew(&fewer) == 0);
+    check("a daemon after one of 192 serials", serials_begin_anew(&fewer, 0) == 0);
     check("the memory that 192 take", malloc_usable_size(fewer.again) > 192 / 8);
     serials_add(&fewer, 100);
-    check("one that told fewer is gone too", serials_begin_anew(&fewer) == 0);
+    check("one that told fewer is gone too", serials_begin_anew(&fewer, 0) == 0);
     check("serials of both before", serials_is_stale(&fewer, 100) && serials_is_stale(&fewer, 192));
     serials_clear(&fewer);
     check("what is cleared knows none", !serials_is_stale(&fewer, 100));
@@ -36,14 +36,14 @@ int main(void) {
     mallopt(M_PERTURB, 0x55); /* memory that is had anew isn't zero by chance */
     for (int32_t highest = 10; highest < 1000000; highest *= 10) {
         serials_add(&serials, highest);
-        check("another daemon", serials_begin_anew(&serials) == 0);
+        check("another daemon", serials_begin_anew(&serials, 0) == 0);
         check("serials of the one before",
               serials_is_stale(&serials, highest) && !serials_is_stale(&serials, highest + 1));
         serials_add(&serials, 7);
         check("one that this one has told", !serials_is_stale(&serials, 7));
     }
     serials_add(&serials, INT32_MAX);
-    check("a daemon that says the highest serial", serials_begin_anew(&serials) == 0);
+    check("a daemon that says the highest serial", serials_begin_anew(&serials, 0) == 0);
     check("the memory that this takes", malloc_usable_size(serials.again) < 17 * 1024 * 1024);
     for (int32_t told = 1; told > 0; told = told < INT32_MAX / 2 ? told * 2 : 0) serials_add(&serials, told);
     check("what is told apart", !serials_is_stale(&serials, SERIALS_TOLD_APART) && serials_is_stale(&serials, 3));

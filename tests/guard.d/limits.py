@@ -4,14 +4,15 @@ import os
 import random
 import re
 import resource
+import select
 import signal
 import termios
 import time
 
 from daemons import PATIENCE
 from stage import (
-    EDQUOT, EPERM, GID, GROUP_A, HELLO, NOBODY, ROOT, UID, USER_A, USER_B, WHO, Running, add, alive, ask, check,
-    check_soon, connect_as, descriptors, hello, is_alive, read_key, skipped, ticks, wait_for_replies)
+    EDQUOT, EPERM, GID, GROUP_A, HELLO, IS_SANITIZED, NOBODY, ROOT, UID, USER_A, USER_B, WHO, Running, add, alive, ask,
+    check, check_soon, connect_as, descriptors, hello, is_alive, read_key, skipped, ticks, wait_for_replies)
 
 
 def try_limit_of_one():
@@ -78,6 +79,10 @@ def try_untaken():
     wait_for_replies(client)
     fcntl.ioctl(client.sock, termios.FIONREAD, there)
     check('bytes that are kept', int.from_bytes(there, 'little') < 100000, True)
+    if not IS_SANITIZED:  # which runs long as it is
+        ended = select.poll()
+        ended.register(client.sock, select.POLLRDHUP)
+        check_soon('who takes nothing of it is ended', lambda: bool(ended.poll(0)), True)
     run.end()
 
 

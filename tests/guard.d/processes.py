@@ -78,7 +78,10 @@ def try_few_threads():
     ended = subprocess.run(words, capture_output=True, timeout=PATIENCE, preexec_fn=lambda:
                            resource.setrlimit(resource.RLIMIT_AS, (64 << 20, 64 << 20)))
     check('few threads', (ended.returncode, ended.stdout), (3, b'error: threads\n'))
-    check('few threads: no path', os.path.exists(f'{TMP}/few'), False)
+    ended = subprocess.run(words, capture_output=True, timeout=PATIENCE, preexec_fn=lambda:
+                           resource.setrlimit(resource.RLIMIT_NOFILE, (12, 12)))
+    check('few files', (ended.returncode, ended.stdout), (3, b'error: socket\n'))
+    check('few threads, few files: no path', os.path.exists(f'{TMP}/few'), False)
 
 
 def try_usage():

@@ -39,6 +39,14 @@ clean() {
   rm -rf "$dir"
 } 2>/dev/null
 
+# a check whose name is mistyped would be none; a command that is only looked for has its errors thrown away
+command_not_found_handle() {
+  [ /dev/stderr -ef /dev/null ] && return 127
+  echo "fails: there is no command $1"
+  : >"${dir-/dev/null}/lacks"
+  return 127
+}
+
 # within a group of its own a command wouldn't see a signal that ends these tests
 timeout() { command timeout --foreground "$@"; }
 
@@ -87,6 +95,7 @@ are_there() {
 }
 
 conclude() {
+  [ ! -e "${dir-}/lacks" ] || failed=$((failed + 1))
   printf '%s: %d passed, %d failed\n' "$tried" "$passed" "$failed"
   exit $((failed > 0))
 }

@@ -147,6 +147,8 @@ with daemon(), bus() as broker:
         with open(f"/proc/{process.pid}/limits", encoding="ascii") as limits:
             cores = [line.split()[4:6] for line in limits if "core file" in line]
         compare("no core file", [["0", "0"]], cores)
+        with open(f"/proc/{process.pid}/comm", encoding="ascii") as comm:
+            compare("its name", "keyretain-secre\n", comm.read())
         compare("its memory is root's", 0, os.stat(f"/proc/{process.pid}/mem").st_uid)
         second = subprocess.run([f"{FOLDER}/bin/keyretain-secrets"], capture_output=True, check=False, timeout=PATIENCE)
         compare("a second one", (1, b"keyretain-secrets: org.freedesktop.secrets is another program's on this bus\n"),

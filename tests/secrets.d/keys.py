@@ -3,6 +3,7 @@ import os
 
 from stage import ITEM, PATIENCE, RING, SESSION_COLLECTION, Caller, bus, compare, conclude, daemon, secrets, until
 import keyretain
+from keyretain.credentials import secret_items as items
 
 
 def key_of(client, context, item):
@@ -20,6 +21,12 @@ def try_taken(caller):
             getattr(client, way)(context, key_of(client, context, item))
             compare(f"{way}: gone at once", "NoSuchObject", caller.secret(item, session))
             compare(f"{way}: not found", ([], []), caller.search({"w": way}))
+        item = caller.create(session, {"w": "meanwhile"}, b"s3cret")
+        read = items.load()[item.rpartition("/")[2]]
+        client.revoke(context, key_of(client, context, item))
+        compare("what is revoked while it is changed", False, items.keep(read, 0, False))
+        compare("isn't put there again", ("NoSuchObject", ([], [])),
+                (caller.secret(item, session), caller.search({"w": "meanwhile"})))
         item = caller.create(session, {"w": "timeout"}, b"s3cret")
         client.set_timeout(context, key_of(client, context, item), 1)
         compare("it expires", True, until(lambda: caller.secret(item, session) == "NoSuchObject"))

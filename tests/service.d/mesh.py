@@ -21,6 +21,13 @@ class Client(keyretain.Client):
     def keyring(self, name, ring):
         return self.add(self.context, "keyring", name, b"", ring)
 
+    def link_all(self, links):
+        for begin in range(0, len(links), AHEAD):
+            for link in links[begin:begin + AHEAD]:
+                self.send("LINK", self.context, *link)
+            for _ in links[begin:begin + AHEAD]:
+                self.receive()
+
     def says(self, name, *values):
         """What an ask is refused with, or `ok`."""
         try:
@@ -35,12 +42,7 @@ def nest(client):
     levels, above = [], [keyretain.THREAD]
     for level in range(LEVELS):
         rings = [client.keyring(f"{level}.{place}", above[0]) for place in range(WIDTH)]
-        links = [(ring, other) for other in above[1:] for ring in rings]
-        for begin in range(0, len(links), AHEAD):
-            for link in links[begin:begin + AHEAD]:
-                client.send("LINK", client.context, *link)
-            for _ in links[begin:begin + AHEAD]:
-                client.receive()
+        client.link_all([(ring, other) for other in above[1:] for ring in rings])
         levels.append(rings)
         above = rings
     return levels
@@ -51,12 +53,16 @@ def walk():
     client, other = Client(1000), Client(2000)
     key = other.add(other.context, "user", "secret", b"s3", keyretain.USER)
     levels = nest(client)
+    below = client.add(client.context, "user", "below", b"s4", levels[-1][0])
+    client.link_all([(below, ring) for ring in levels[-1][1:]])
+    nest(other)
     # both before the first walk: a further keyring has the daemon take room for a walk anew, and what a walk takes it
     # gives back
     rings = [client.keyring(name, keyretain.USER) for name in ("beside", "beside again")]
     said = []
     for ring in rings:
         said += [("EACCES", client.says("READ", key)),
+                 ("EACCES", other.says("READ", below)),
                  ("ENOKEY", client.says("SEARCH", keyretain.THREAD, b"user", b"none", 0)),
                  ("ENOKEY", client.says("REQUEST", b"user", b"none", 0)),
                  ("EDEADLK", client.says("LINK", levels[0][0], levels[-1][0])),

@@ -25,8 +25,8 @@ static int print_read(long serial) {
 }
 
 /* As pam_keyinit(8) does in a login: with the user's real ids and root's effective ones. A child becomes the user; then
- * the session is revoked. */
-static int init_keyrings(void) {
+ * the session is revoked, with root's real ids and the user's effective ones, or in the old way as it was begun. */
+static int init_keyrings(bool is_old) {
     unsigned owner, mask;
     long key = add_key("user", "of root", "x", 1, KEY_SPEC_USER_KEYRING);
     if (key < 0 || setregid(NOBODY, (gid_t)-1) < 0 || setreuid(NOBODY, (uid_t)-1) < 0) return 2;
@@ -50,7 +50,9 @@ static int init_keyrings(void) {
         _exit(0);
     }
     status_of(child);
-    if (setregid(NOBODY, (gid_t)-1) < 0 || setreuid(NOBODY, (uid_t)-1) < 0) return 2;
+    if (is_old ? setregid(NOBODY, (gid_t)-1) < 0 || setreuid(NOBODY, (uid_t)-1) < 0
+               : setregid((gid_t)-1, NOBODY) < 0 || setresuid((uid_t)-1, NOBODY, 0) < 0)
+        return 2;
     return puts(keyctl(KEYCTL_REVOKE, (unsigned long)joined, 0, 0, 0) == 0 ? "revoked" : error_name()) < 0;
 }
 
@@ -326,7 +328,7 @@ int logins_modes(const char *mode, int many, int count, char **words) {
     if (strcmp(mode, "joins-in-vain") == 0 && count == 3) return join_in_vain(words[2]);
     if (strcmp(mode, "putting") == 0 && count == 3) return put_for_user(words[2]);
     if (strcmp(mode, "read") == 0) return print_read(many);
-    if (strcmp(mode, "keyinit") == 0) return init_keyrings();
+    if (strcmp(mode, "keyinit") == 0) return init_keyrings(count == 3);
     if (strcmp(mode, "leaves-joined") == 0 && count == 3) return leave_joined(words[2]);
     if (strcmp(mode, "deputy") == 0 && count > 2) return have_deputy(words[2], count > 3);
     if (strcmp(mode, "joined-deputy") == 0 && count == 3) return have_joined_deputy(words[2]);

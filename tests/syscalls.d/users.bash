@@ -88,8 +88,11 @@ try_sshd() {
 
 # What pam_keyinit(8) does, without the program around it: so also where other users' limits can't be set.
 try_keyinit() {
-  is "$built: what pam_keyinit does" 'joined, linked, _ses 4105, the user keyring 4105, EACCES, revoked' \
-    "$(supervised -- "$dir/tree" keyinit 2>&1 | sed 's/[.][0-9a-f]*//')"
+  local how
+  for how in '' old; do
+    is "$built: what pam_keyinit does $how" 'joined, linked, _ses 4105, the user keyring 4105, EACCES, revoked' \
+      "$(supervised -- "$dir/tree" keyinit $how 2>&1 | sed 's/[.][0-9a-f]*//')"
+  done
 }
 
 # A user's program, executed set-uid, that asks and becomes its user again; below a session of root's.
@@ -114,18 +117,20 @@ try_deputies() {
 # Tags of a program that its user may not trace. Of so many files, or one more, a supervisor has one left at some time.
 try_copies() {
   local who='who has a copied tag of a program that its user may not trace' many
-  is "$who" 'kept out' "$(untraceable 1024)"
+  is "$who" 'kept out' "$(with_files 1024 untraceable)"
   for many in 100 101; do
     is "$who, below a supervisor that may open $many files, of which few are left" 'kept out' \
-      "$(untraceable "$many" crowd)"
+      "$(with_files "$many" untraceable crowd)"
+    is "a session of a process below a supervisor that may open $many files, of which none are left for a while" kept \
+      "$(with_files "$many" outlast)"
   done
-  is "$who, where none were left before" 'kept out' "$(untraceable 100 later)"
+  is "$who, where none were left before" 'kept out' "$(with_files 100 untraceable later)"
 }
 
-# untraceable FILES WORD: what tree says of it, below a supervisor that may open so many files
-untraceable() {
+# with_files FILES WORD ..: what tree says, below a supervisor that may open so many files
+with_files() {
   ulimit -n "$1"
-  "${in_room[@]}" timeout "$limit" "$dir/now/keyretain-session" --syscalls -- "$dir/tree" untraceable "${@:2}" 2>&1
+  "${in_room[@]}" timeout "$limit" "$dir/now/keyretain-session" --syscalls -- "$dir/tree" "${@:2}" 2>&1
 }
 
 # A set-uid program of root's that a user executes, and that executes keyretain-session: set-uid it looks for the
@@ -204,6 +209,40 @@ try_given_up() {
     "$([ "$descriptors" -le 20 ] && echo 'as few as before' || echo "$descriptors")"
   touch "$dir/go"
   finish "$waits"
+}
+
+# More identities than the daemon has room for, which end: neither who is there loses a key, nor who else asks a lane.
+try_flood() {
+  [ "$(id -u)" = 0 ] || { skipped 'a flood of identities: not root'; return; }
+  serve --lanes 8
+  prints "a user's key beside 250 identities that leave one each, and another client" $'kept\nserved' \
+    sh -c '"$0" flood 250; timeout 5 "$1" --syscalls -- echo served' "$dir/tree" "$dir/$built/keyretain-session"
+  prints 'the same of 250 that all live until the last has asked' $'kept\nserved' \
+    sh -c '"$0" flood 250 stays; for i in 1 2 3 4; do timeout 5 "$1" --syscalls -- echo served && break; done' \
+    "$dir/tree" "$dir/$built/keyretain-session"
+  prints 'a key in the place of the user keyring' kept "$dir/tree" kept-in-session
+  kill_daemon TERM
+}
+
+# Another daemon at the path gives the numbers of the last one again, to whom it will.
+try_kept_serial() {
+  local waits
+  [ "$(id -u)" = 0 ] || { skipped 'a serial that is told to another user: not root'; return; }
+  serve --lanes 8
+  mkfifo -m 666 "$dir/kept.ready" "$dir/kept.go"
+  supervised -- "$dir/tree" kept-serial "$dir/kept.ready" "$dir/kept.go" >"$dir/kept.text" 2>&1 &
+  waits=$!
+  for _ in first second; do
+    read -r _ <"$dir/kept.ready"
+    kill -KILL "$daemon"
+    finish "$daemon"
+    rm -f "$path" "$log"
+    start_on "$path" --lanes 8
+    : >"$dir/kept.go"
+  done
+  finish "$waits"
+  is 'a serial of the daemon before, told again to another user' EKEYREVOKED "$(<"$dir/kept.text")"
+  kill_daemon TERM
 }
 
 has_few_descriptors() { [ "$(find "/proc/$supervisor/fd" -mindepth 1 | wc -l)" -le 20 ]; }

@@ -46,15 +46,15 @@ def format_section(number, name):
     return fields, said.get("Answer", "nothing").removesuffix(".")
 
 
-def listed_without_memory(text):
-    """The asks that a sentence lists as taking no memory: their names, those of which it is so only at times too."""
+def listed_asks(text):
+    """The names of the asks that a sentence lists, those too of which it says something only at times."""
     return set(re.findall(r"\b[A-Z]{3,}(?:_[A-Z]+)*\b", text)) - {"ENOMEM"}
 
 
 def format_without_memory():
     """Those that never take memory, by the table of asks, and those that sometimes don't."""
     always = {name[1] for _, name, _, _, grows in format_table() if grows == "no"}
-    return always, listed_without_memory(section("### Asks that take no memory").partition("nor do ")[2])
+    return always, listed_asks(section("### Asks that take no memory").partition("nor do ")[2])
 
 
 def format_statuses():
@@ -80,14 +80,14 @@ def protocol_statuses():
 
 def protocol_without_context():
     sentence = re.search(r"^\.Pp\n([A-Z_, \nand]+)do not look at\nthe context", PROTOCOL, re.M)[1]
-    return listed_without_memory(sentence)
+    return listed_asks(sentence)
 
 
 def protocol_without_memory():
     """The names of those that take none, and of those that sometimes don't."""
     text = PROTOCOL.split(".Sh CAVEATS")[1].split("\nother reason.\n")[1]
     always, _, sometimes = text.partition(", WATCH with")
-    return listed_without_memory(always), listed_without_memory("WATCH with" + sometimes)
+    return listed_asks(always), listed_asks("WATCH with" + sometimes)
 
 
 def protocol_frames():

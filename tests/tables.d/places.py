@@ -9,6 +9,7 @@ FILES = {"FORMAT": "docs/FORMAT.md", "vector": "docs/FORMAT.md", "keyretain-prot
          "keyretain(1)": "man/keyretain.1", "the asks of the code": "crates/krs_types/src/ask.rt",
          "the row of the code": "crates/krs_types/src/ask.rt", "the commands": "crates/krs_commands/src/command.rt",
          "keyretain --help": "crates/krs_commands/src/command.rt", "completion": "contrib/bash-completion/keyretain",
+         "the Python client, errors": "clients/python/keyretain/errors.py", "the C client, errors": "clients/c/wire.c",
          "the Python client": "clients/python/keyretain/client.py", "the C client": "clients/c/asks.c",
          "rows.c": "clients/c/rows.c", "krs_admission.h": "clients/c/krs_admission.h",
          "bench/results": "bench/results/0.1.0.txt", "COSTS": "docs/COSTS.md", "ASSURANCE": "docs/ASSURANCE.md"}

@@ -76,6 +76,10 @@ def try_lists():
     for page, got in (("FORMAT", documents.format_without_memory()),
                       ("keyretain-protocol(7)", documents.protocol_without_memory())):
         compare(f"{page}, asks that take no memory", wanted, tuple(map(words_of, got)))
+    keeping = documents.section("### ENOSPC and ENOMEM").partition("They are ")[2]
+    compare("FORMAT, asks that keep memory: those that take some, but for answers and filters",
+            sorted(ask.word for ask in ASKS if ask.grows != "no" and ask.answer != "bytes" and ask.word != "SETFILTER"),
+            words_of(documents.listed_asks(keeping)))
     compare("keyretain-protocol(7), asks that don't look at the context",
             sorted(ask.word for ask in ASKS if ask.looks == "no"), words_of(documents.protocol_without_context()))
 
@@ -203,10 +207,13 @@ def try_bench():
 
 
 def try_types():
-    """What is told of an unknown type, and where a page counts the types up."""
-    listed = f"types are {', '.join(TYPES[:-1])} and {TYPES[-1]}"
-    for place in ("crates/krs_ctl/src/advice.rt", "man/keyretain-keyutils.7", "man/keyretain-syscalls.7"):
-        compare(f"{place}, the types", True, listed in rows.text_of(place))
+    """What is told of an unknown type, and how often a page counts the types up."""
+    listed = re.compile(f"{', '.join(TYPES[:-1])} (?:and|or) {TYPES[-1]}")
+    for place, times in {"crates/krs_ctl/src/advice.rt": 1, "docs/FORMAT.md": 2, "docs/PROFILE.md": 2, "README.md": 1,
+                         "man/keyretain.1": 1, "man/keyretaind.8": 1, "man/keyretain-protocol.7": 1,
+                         "man/keyretain-keyutils.7": 1, "man/keyretain-syscalls.7": 1}.items():
+        plain = " ".join(re.sub(r"^\.Sq |`", "", rows.text_of(place), flags=re.M).split()).replace(" ,", ",")
+        compare(f"{place}, the types", times, len(listed.findall(plain)))
 
 
 # ---- What the proofs rest on
@@ -235,6 +242,14 @@ def try_unsafe():
     """What is private is refused to others by types alone, which unsafe code gets past. Symbols for C are marked so."""
     found = [place for place in rows.sources() if re.search(r"\bunsafe\b(?!\(no_mangle\))", rows.text_of(place))]
     compare("unsafe code", [], found)
+    lines = [it.partition(":") for it in rows.text_of("crates.txt").splitlines() if not it.startswith("#")]
+    own = {it[0].split()[0] for it in lines}
+    compare("the toolchain's crates that are used: none takes the number of a descriptor, as libc and os do",
+            ["anyhow", "atomic_table", "bitflags", "byteorder", "circular_buffer", "clap", "hex", "indexmap", "slab"],
+            sorted({name for it in lines for name in it[2].split()} - own))
+    ends = [re.findall(r"^impl\b.* Drop for (\w+)", rows.text_of(place), re.M) for place in rows.sources()]
+    compare("what does something as it is let go", ["Blob", "Body", "Desk", "Feed", "Place", "Seat", "Store"],
+            sorted(sum(ends, [])))
 
 
 def try_bodies():

@@ -196,7 +196,8 @@ static void answer(const struct ask *ask) {
     if (status != 0 && !(how & 16)) length = 0;
     put_reply(tag, status, body, length);
     server.has_answered = tag == ask->tag;
-    if ((how & 31) == 16) server.has_sent_noise = true;
+    /* of more than the ask, or of a later one but for the mark of what makes a context */
+    if ((how & 30) == 16 || tag << 1 > ask->tag << 1) server.has_sent_noise = true;
     if ((how & 31) == 16) put_number(server_word(), 4); /* and more than was asked for */
     if ((how & 31) == 17) put_reply(tag + 1, 0, body, 4);
 }

@@ -114,6 +114,8 @@ def _connect(end: socket.socket, place: Place, deadline: Deadline) -> None:
             deadline.sleep(pause)
             pause = min(2 * pause, LONGEST_PAUSE)
         except OSError as error:
+            if error.errno is None:  # Python's own, before it asks the system
+                raise OSError(errno.ENAMETOOLONG, os.strerror(errno.ENAMETOOLONG), place.path) from error
             error.filename = place.path
             raise
 

@@ -2,15 +2,13 @@
 #![tactic(auto)]
 
 use krs_serve::{SystemPaths, Voice, Voices};
-use std::env;
 use std::process::ExitCode;
 
 fn main(rt: HostRuntime) -> ExitCode {
-    let words = env::args(&rt);
     let mut voices = Voices {
         output: Voice::new(rt.stdout()),
         errors: Voice::new(rt.stderr()),
     };
     let paths = SystemPaths::new(&rt);
-    ExitCode::from(krs_serve::run_daemon(&rt, paths, rt.alloc(), words, &mut voices))
+    ExitCode::from(krs_serve::run_daemon(&rt, paths, rt.alloc(), &mut voices))
 }

@@ -82,6 +82,10 @@ may_be_given p uids gids s =
 abbrev pub asks_as : Ids → Bool → ℕ
 asks_as i is_of_user = if is_of_user then i.real else i.files
 
+-- it is in the session still that it has joined itself as this uid; to revoke that, while this uid counts for access
+abbrev pub stays : Process → ℕ → Bool → Bool
+stays p uid revokes = p.uids.real == uid || (revokes && p.uids.files == uid)
+
 -- as C has it
 abbrev pub number_of : Place → ℕ
 number_of Lost = 0

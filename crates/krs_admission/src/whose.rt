@@ -1,5 +1,5 @@
 ghost use Rattle.std.specs.Prelude.{◌&&◌, ◌==◌, ◌||◌, ◌≡◌};
-ghost use Rattle.krs_admission.specs.Rule.{are_all, asks_as, is_of, is_one, is_open, is_shared, is_told};
+ghost use Rattle.krs_admission.specs.Rule.{are_all, asks_as, is_of, is_one, is_open, is_shared, is_told, stays};
 
 use crate::facts::{Ids, Process, Session};
 
@@ -63,9 +63,9 @@ pub fn asks_as(ids: &Ids, is_of_user: bool) -> u32
 }
 
 /// Whether a process that has joined a session itself, as a user with this uid, is in it still. It may be of further
-/// uids, as a login is.
-pub fn stays(process: &Process, uid: u32) -> bool
-    ensures { result ≡ (process.now.uids.real == uid) }
+/// uids, as a login is, which revokes the session of who logs out with the user's effective uid alone: pam_keyinit(8).
+pub fn stays(process: &Process, uid: u32, revokes: bool) -> bool
+    ensures { result ≡ stays process.now uid revokes }
 {
-    process.uids.real == uid
+    process.uids.real == uid || (revokes && process.uids.files == uid)
 }

@@ -1,9 +1,9 @@
 //! krs_admission for C: `clients/c/krs_admission.h` declares it. No call requires anything of its arguments.
 #![tactic(auto)]
 
-ghost use Rattle.std.specs.Prelude.{◌==◌, ◌≡◌, true};
+ghost use Rattle.std.specs.Prelude.{◌≡◌, true};
 ghost use Rattle.krs_admission.specs.Law.{ComesLawfully, IsShared, MayHave};
-ghost use Rattle.krs_admission.specs.Rule.{asks_as, knows_again, may_be_given, may_enter, number_of, place_of};
+ghost use Rattle.krs_admission.specs.Rule.{asks_as, knows_again, may_be_given, may_enter, number_of, place_of, stays};
 
 use krs_admission::{Arrival, Ids, Parent, Process, Session};
 
@@ -59,10 +59,10 @@ pub extern "C" fn krs_admission_c_asks_as(ids: &Ids, is_of_user: bool) -> u32
 }
 
 /// Whether a process that has joined a session itself, as a user with this uid, is in it still: while that is its real
-/// uid.
+/// uid; where it revokes that session also while that is the uid of the file system.
 #[unsafe(no_mangle)]
-pub extern "C" fn krs_admission_c_stays(process: &Process, uid: u32) -> bool
-    ensures { result ≡ (process.now.uids.real == uid) }
+pub extern "C" fn krs_admission_c_stays(process: &Process, uid: u32, revokes: bool) -> bool
+    ensures { result ≡ stays process.now uid revokes }
 {
-    krs_admission::stays(process, uid)
+    krs_admission::stays(process, uid, revokes)
 }

@@ -1,7 +1,8 @@
 -- That what may happen to a table (specs/Running.antt) is what atomic_table makes of the steps of `src/board.rt`. The
 -- tables that a step, a split and a join lead to have here the forms that its specs/Table.antt has: `stepped` in
 -- `Allows`, and the records in `Splits` and `Joins`. Each step on a word tells `Moves` (`moved_told`, `stored_told`).
--- That threads make such steps alone, one at a time, is atomic_table's own (its README.md, "What is proved").
+-- That threads make such steps alone, one at a time, is atomic_table's own (its README.md, "The parts" and
+-- "What is proved").
 use Rattle.std.specs.Prelude.{[], ◌++◌, ◌<◌, ◌==◌, ◌∷◌, ◌≡◌, ◌⊎◌, length, None, slice_index, slice_set, Some, ℕ}
 use Rattle.atomic_table.specs.Table.{Act, carried_after, step, stepped}
 use lib.ListN.{get_elem?}

@@ -139,8 +139,8 @@ impl Desk {
     }
 
     /// As `call`. Where more calls of this seat follow at once, it may keep the turn for them, until a call with no
-    /// more, `rest`, or another function of the seat. Nobody else is served while it has the turn, so the seat must not
-    /// be left with it.
+    /// more, `rest`, or another function of the seat. While it has the turn, others are served within this seat's own
+    /// calls alone, so the seat must not be left with it.
     pub fn call_on<R: Awaits>(
         &self,
         rt: &R,

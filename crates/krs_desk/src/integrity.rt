@@ -3,6 +3,7 @@ ghost use Rattle.krs_laws.specs.Belonging.{ContextsAreTheirClients, LeavesNothin
 ghost use Rattle.krs_laws.specs.Belonging.{ReadersHaveNamedThemselves};
 ghost use Rattle.krs_laws.specs.{Emptied.{AreEmptiedByLeaving, AreEmptiedInTheEnd}, Expired.ExpiredStaysUnread};
 ghost use Rattle.krs_laws.specs.{Integrity.AllChangesAreByRight, Limits.{IsWithinLimits, StaysWithinLimits}};
+ghost use Rattle.krs_laws.specs.Marks.{QuietAsksHaveNoNote, ShortAsksDropOneAtMost};
 ghost use Rattle.krs_laws.specs.Noting.{AllNotesAreByRight, AllNotesAreCalledFor, AllWatchesAreByRight};
 ghost use Rattle.krs_laws.specs.{Noting.QueuesAreTheirOwners, Overwritten.{AddsForget, UpdatesForget}};
 
@@ -11,9 +12,12 @@ use crate::seat::Seat;
 impl Seat {
     /// In every history of the desk a key changes only by an ask of a context that has the right to change it then, a
     /// new key is its maker's, LINK is wanted of each key that is linked anew, and a key that goes was held by nothing
-    /// any more. keyrings(7), "Access rights".
+    /// any more. An ask that isn't long drops one key at most, and one that doesn't tell has no note. keyrings(7),
+    /// "Access rights".
     pub fn each_change_is_by_right(&self)
-        ensures { AllChangesAreByRight self.now.opening }
+        ensures right { AllChangesAreByRight self.now.opening }
+        ensures short { ShortAsksDropOneAtMost self.now.opening }
+        ensures quiet { QuietAsksHaveNoNote }
     {
         let _token = &self.token;
     }

@@ -4,7 +4,8 @@ use Rattle.std.proofs.Common.{Err, false, filter, inl, inr, IsSome, length, List
 use Rattle.std.proofs.Common.{option_map, refl, Result, Some, subst, sym, true, true≢false, ℕ, ℤ}
 use Rattle.std.proofs.lemmas.Option.{none-some, same_Some}
 use Rattle.krs_types.specs.{Caller.is_of_group, declared.ask.{Answer.Answer, Op.{Op, TheVariants.{Add, Chown}}}}
-use Rattle.krs_types.specs.declared.ask.Op.TheVariants.{Clear, GetId, Hello, Join, Link, Move, Request, Search, SetPerm}
+use Rattle.krs_types.specs.declared.ask.Op.TheVariants.{Clear, GetId, Hello, Invalidate, Join, Link, Move, Request}
+use Rattle.krs_types.specs.declared.ask.Op.TheVariants.{Search, SetPerm}
 use Rattle.krs_types.specs.declared.{caller.Caller.Caller, context.{Context.Context, UidRings.UidRings}}
 use Rattle.krs_types.specs.declared.{errno.Errno.{Errno, TheVariants.{EACCES, EINVAL}}, event.Event.Event}
 use Rattle.krs_types.specs.{declared.rights.Want.TheVariants.{Either, Granted}, Growth.has_destination, Perm.perm_of}
@@ -12,6 +13,7 @@ use Rattle.krs_types.specs.Rights.{LINK, SEARCH, SETATTR, WRITE}
 use Rattle.krs_model.specs.Asks.{Adding.{add, admitted, place_of}, Changing.{chown, emptied, if_may_own, if_owner}}
 use Rattle.krs_model.specs.Asks.Changing.{may_own, or_left, revoked, set_perm, with_expiry, with_owner, with_perm}
 use Rattle.krs_model.specs.Asks.{Finding.{made_where, request, search_from, sought_name}, Hello.{uid_ring, with_uid}}
+use Rattle.krs_model.specs.{Asks.Invalidating.invalidate, Revocation.Names}
 use Rattle.krs_model.specs.Asks.{Joining.{session_joined, session_ring}, Linked.{clear, cleared_content, link}}
 use Rattle.krs_model.specs.Asks.{Linked.{closed_for_good, linked_into, unless, without_link}, Moving.{move_link, moved}}
 use Rattle.krs_model.specs.{Levels.is_in, Linking.ring_links, Lookup.{context_of, look_up}, Making.{made_for, own_ring}}
@@ -20,7 +22,8 @@ use Rattle.krs_model.specs.{State.{Key, Links, Payload, raised, State}, Step.{ea
 use Rattle.krs_model.specs.{Sweep.{Attached, IsHeld, Linked, PicksHeld, roots}, Table.{at, map_values, put, Table}}
 use Rattle.krs_model.proofs.Asks.{Fares.meets_by, LaterByAsk.moved_is, Laws.law_of, Outcomes.{Meets, meets_after}}
 use Rattle.krs_model.proofs.{Asks.Outcomes.{meets_ok, meets_within}, Isolation.{Births.made_own, Keys.kept_links}}
-use Rattle.krs_model.proofs.{Lookups.{Laws.look_up_usable, Serials.own_there}, MadeKeyring.State.HasMadeFor}
+use Rattle.krs_model.proofs.{Lookups.{Laws.look_up_usable, Serials.{found_serial, own_there}}}
+use Rattle.krs_model.proofs.{MadeKeyring.State.HasMadeFor}
 use Rattle.krs_model.proofs.{MadeKeyring.State.{made_for_has, MadeNone, MadeOne}, Reach.Levels.{equal_is, only_in}}
 use Rattle.krs_model.proofs.{Reach.Levels.true_or, Sound.Changes.{LinksTo, not_there, Stands}}
 use Rattle.krs_model.proofs.Sound.{KeyChanges.unlinked_lessens, NewContexts.{own_process_there, session_ring_empty}}
@@ -177,41 +180,44 @@ GivenSo s client context n gid v =
     × ((given.whose.caller.uid ≡ 0) ⊎ (is_of_group given.whose.caller (or_left gid v.gid) ≡ true)))
 
 given_by_right :
-    (s : State) (client context : ℕ) (n uid gid : ℕ) (v : Key) (right : HasRight s client context (Granted SETATTR) n)
-    → OwnsSo right.whose.caller uid gid v → IsByRight s client context n v (with_owner uid gid v)
-given_by_right s client context n uid gid v right (inl root) =
+    (s : State) (client context : ℕ) (op : Op) (n uid gid : ℕ) (v : Key)
+    (right : HasRight s client context (Granted SETATTR) n)
+    → OwnsSo right.whose.caller uid gid v → IsByRight s client context op n v (with_owner uid gid v)
+given_by_right s client context op n uid gid v right (inl root) =
     let so : GivenSo s client context n gid v = inr (right, inl root) in search (Kept, inl, inr)
-given_by_right s client context n uid gid v right (inr kept) =
+given_by_right s client context op n uid gid v right (inr kept) =
     let so : GivenSo s client context n gid v =
     ⊎_elim (λ (e : or_left gid v.gid ≡ v.gid). inl e)
     (λ (member : is_of_group right.whose.caller (or_left gid v.gid) ≡ true). inr (right, inr member)) kept.1 in
     search (Kept, inl, inr)
 
 masked_by_right :
-    (s : State) (client context n perm : ℕ) (v : Key) (right : HasRight s client context (Granted SETATTR) n)
+    (s : State) (client context : ℕ) (op : Op) (n perm : ℕ) (v : Key)
+    (right : HasRight s client context (Granted SETATTR) n)
     → (right.whose.caller.uid ≡ 0) ⊎ (right.whose.caller.uid ≡ v.uid)
-    → IsByRight s client context n v (with_perm perm v)
-masked_by_right s client context n perm v right own = search (Kept, inl, inr)
+    → IsByRight s client context op n v (with_perm perm v)
+masked_by_right s client context op n perm v right own = search (Kept, inl, inr)
 
 timed_by_right :
-    (s : State) (client context n : ℕ) (expiry : Option ℕ) (v : Key) → HasRight s client context (Granted SETATTR) n
-    → IsByRight s client context n v (with_expiry expiry v)
-timed_by_right s client context n expiry v right = search (Kept, inl, inr)
+    (s : State) (client context : ℕ) (op : Op) (n : ℕ) (expiry : Option ℕ) (v : Key)
+    → HasRight s client context (Granted SETATTR) n → IsByRight s client context op n v (with_expiry expiry v)
+timed_by_right s client context op n expiry v right = search (Kept, inl, inr)
 
 revoked_by_right :
-    (s : State) (client context n : ℕ) (v : Key) → HasRight s client context (Either WRITE SETATTR) n
-    → IsByRight s client context n v (revoked v)
-revoked_by_right s client context n v right = search (Emptied, inl, inr)
+    (s : State) (client context : ℕ) (op : Op) (n : ℕ) (v : Key) → HasRight s client context (Either WRITE SETATTR) n
+    → IsByRight s client context op n v (revoked v)
+revoked_by_right s client context op n v right = search (Emptied, inl, inr)
 
 closed_by_right :
-    (s : State) (client context n : ℕ) (v : Key) → HasRight s client context (Granted SETATTR) n
-    → IsByRight s client context n v (closed_for_good v)
-closed_by_right s client context n v right = search (Kept, inl, inr)
+    (s : State) (client context : ℕ) (op : Op) (n : ℕ) (v : Key) → HasRight s client context (Granted SETATTR) n
+    → IsByRight s client context op n v (closed_for_good v)
+closed_by_right s client context op n v right = search (Kept, inl, inr)
 
 unlinked_by_right :
-    (s : State) (client context n gone : ℕ) (v : Key) → HasRight s client context (Granted SEARCH) gone
-    → IsByRight s client context n v (without_link gone v)
-unlinked_by_right s client context n gone v right = search (Unlinked, inl)
+    (s : State) (client context : ℕ) (id : ℤ) (n gone : ℕ) (v : Key) → Names s client context id gone
+    → HasRight s client context (Granted SEARCH) gone
+    → IsByRight s client context (Invalidate id) n v (without_link gone v)
+unlinked_by_right s client context id n gone v names right = search (Unlinked, inl)
 
 mapped_none : (f : Key → Key) (o : Option Key) (key : Key) → o ≡ None → option_map f o ≡ Some key → ⊥
 mapped_none f None key none h = none-some key h
@@ -223,14 +229,15 @@ mapped_links gone (Some v) j i = part_in _ _ j ((unlinked_lessens gone).links v)
 
 -- a key goes out of all links
 detached_rightly :
-    (s : State) (client context : ℕ) (op : Op) (gone : ℕ) → HasRight s client context (Granted SEARCH) gone
-    → Rightly s client context op (map_values (without_link gone) s.keys)
-detached_rightly s client context op gone right = record {
+    (s : State) (client context : ℕ) (id : ℤ) (gone : ℕ) → Names s client context id gone
+    → HasRight s client context (Granted SEARCH) gone
+    → Rightly s client context (Invalidate id) (map_values (without_link gone) s.keys)
+detached_rightly s client context id gone names right = record {
   changed = λ k before after there is.
       let w = mapped_is (without_link gone) (at s.keys k) after (sym (at_map (without_link gone) s.keys k) ∙ is) in
       let one : w.0 ≡ before = same_Some w.0 before (sym w.1 ∙ there) in
-      subst (IsByRight s client context k before) (ap (without_link gone) (sym one) ∙ w.2)
-      (unlinked_by_right s client context k gone before right);
+      subst (IsByRight s client context (Invalidate id) k before) (ap (without_link gone) (sym one) ∙ w.2)
+      (unlinked_by_right s client context id k gone before names right);
   made = λ k key none is.
       absurd (mapped_none (without_link gone) (at s.keys k) key none (sym (at_map (without_link gone) s.keys k) ∙ is));
   linked = λ j k i. inl (mapped_links gone (at s.keys j) k (subst (LinksTo k) (at_map (without_link gone) s.keys j) i));
@@ -247,7 +254,7 @@ chown_rightly s client context id uid gid =
     meets_after (look_up s c id (Granted SETATTR)) _ (λ there is.
     meets_after (if_may_own c.caller uid gid there.1) _ (λ x allowed.
     meets_ok (rightly_changed s client context _ there.0 (with_owner uid gid)
-    (λ v here. given_by_right s client context there.0 uid gid v
+    (λ v here. given_by_right s client context _ there.0 uid gid v
     (right_found s client context c id (Granted SETATTR) there own is)
     (subst (OwnsSo c.caller uid gid)
     (same_Some there.1 v (sym (look_up_usable s c id (Granted SETATTR) there is).there ∙ here))
@@ -262,7 +269,7 @@ set_perm_rightly s client context id mask =
     meets_after (perm_of mask) _ (λ perm _.
     meets_after (if_owner c.caller there.1) _ (λ x allowed.
     meets_ok (rightly_changed s client context _ there.0 (with_perm perm)
-    (λ v here. masked_by_right s client context there.0 perm v
+    (λ v here. masked_by_right s client context _ there.0 perm v
     (right_found s client context c id (Granted SETATTR) there own is)
     (subst (λ (z : Key). (c.caller.uid ≡ 0) ⊎ (c.caller.uid ≡ z.uid))
     (same_Some there.1 v (sym (look_up_usable s c id (Granted SETATTR) there is).there ∙ here))
@@ -278,6 +285,19 @@ clear_rightly s client context id =
     meets_ok (rightly_written s client context _ s.keys there.0 cleared_content
     (λ old _. right_found s client context c id (Granted WRITE) there own is)
     (λ k v i. inl (cleared_links v.content k i)) (rightly_same s client context _)))))
+
+invalidate_rightly : (s : State) (client context : ℕ) (id : ℤ) → Comes s client context (Invalidate id)
+unfolding invalidate
+invalidate_rightly s client context id =
+    meets_after (context_of s client context) _ (λ c own.
+    meets_after (look_up s c id (Granted SEARCH)) _ (λ there is.
+    let names : Names s client context id there.0 = record {
+      whose = c;
+      own = own;
+      named = found_serial s c id (Granted SEARCH) there is;
+    } in
+    meets_ok (detached_rightly s client context id there.0 names
+    (right_found s client context c id (Granted SEARCH) there own is))))
 
 link_rightly : (s : State) (client context : ℕ) (key ring : ℤ) → Stands s → Comes s client context (Link key ring)
 unfolding link
@@ -388,7 +408,6 @@ ruleset rights = (
   uid_rightly,
   updated_then,
   unlinked_rightly,
-  detached_rightly,
   rightly_changed,
   right_found,
   revoked_by_right,
@@ -412,6 +431,7 @@ all_rightly s client context (SetPerm id mask) stands = set_perm_rightly s clien
 all_rightly s client context (Link key ring) stands = link_rightly s client context key ring stands
 all_rightly s client context (Move key from to flags) stands = move_rightly s client context key from to flags stands
 all_rightly s client context (Clear id) stands = clear_rightly s client context id
+all_rightly s client context (Invalidate id) stands = invalidate_rightly s client context id
 all_rightly s client context op stands = search rights depth 12
 
 -- ---- a step

@@ -19,14 +19,15 @@ LinkedByRight s client context k = (at s.keys k ≡ None) ⊎ MayLink s client c
 -- the keys that an ask leaves, before the sweep
 pub record Rightly (s : State) (client context : ℕ) (op : Op) (keys : Table Key) : Type 0 where
   pub changed : (k : ℕ) (before after : Key) → at s.keys k ≡ Some before → at keys k ≡ Some after
-      → IsByRight s client context k before after
+      → IsByRight s client context op k before after
   pub made : (k : ℕ) (key : Key) → at s.keys k ≡ None → at keys k ≡ Some key → IsMadeBy s client context op key
   pub linked : (j k : ℕ) → is_in k (links_of_key_at keys j) ≡ true
       → (is_in k (links_of_key_at s.keys j) ≡ true) ⊎ LinkedByRight s client context k
 
 -- a key as it was
-pub unchanged : (s : State) (client context k : ℕ) (key : Key) → IsByRight s client context k key key
-unchanged s client context k key = record {
+pub unchanged :
+    (s : State) (client context : ℕ) (op : Op) (k : ℕ) (key : Key) → IsByRight s client context op k key key
+unchanged s client context op k key = record {
   kind = refl;
   desc = refl;
   joined = refl;
@@ -42,8 +43,8 @@ unchanged s client context k key = record {
 pub rightly_same : (s : State) (client context : ℕ) (op : Op) → Rightly s client context op s.keys
 rightly_same s client context op = record {
   changed = λ k before after was is.
-      subst (IsByRight s client context k before) (same_Some before after (sym was ∙ is))
-      (unchanged s client context k before);
+      subst (IsByRight s client context op k before) (same_Some before after (sym was ∙ is))
+      (unchanged s client context op k before);
   made = λ k key none is. absurd (none-some key (sym none ∙ is));
   linked = λ j k i. inl i;
 }
@@ -80,7 +81,7 @@ links_mapped f P (Some v) k more i = more v i
 pub rightly_then :
     (s : State) (client context : ℕ) (op : Op) (keys : Table Key) (n : ℕ) (f : Key → Key)
     → ((before after : Key) → at s.keys n ≡ Some before → at keys n ≡ Some after
-    → IsByRight s client context n before after → IsByRight s client context n before (f after))
+    → IsByRight s client context op n before after → IsByRight s client context op n before (f after))
     → ((key : Key) → at s.keys n ≡ None → at keys n ≡ Some key → IsMadeBy s client context op key
     → IsMadeBy s client context op (f key))
     → ((k : ℕ) (v : Key) → is_in k (links_of_content (f v).content) ≡ true
@@ -92,9 +93,10 @@ rightly_then s client context op keys n f right mine links was = record {
       let w = mapped_is f (at keys k) after (sym r.1 ∙ is) in
       let here = subst (λ (z : ℕ). at s.keys z ≡ Some before) r.0 there in
       let now = subst (λ (z : ℕ). at keys z ≡ Some w.0) r.0 w.1 in
-      let once = subst (λ (z : ℕ). IsByRight s client context z before w.0) r.0 (was.changed k before w.0 there w.1) in
-      subst (IsByRight s client context k before) w.2
-      (subst (λ (z : ℕ). IsByRight s client context z before (f w.0)) (sym r.0) (right before w.0 here now once)))
+      let once = subst (λ (z : ℕ). IsByRight s client context op z before w.0) r.0
+      (was.changed k before w.0 there w.1) in
+      subst (IsByRight s client context op k before) w.2
+      (subst (λ (z : ℕ). IsByRight s client context op z before (f w.0)) (sym r.0) (right before w.0 here now once)))
       (λ e. was.changed k before after there (sym e ∙ is)) (at_change keys n k f);
   made = λ k key none is.
       ⊎_elim (λ (r : IsChanged keys n f k).
@@ -129,13 +131,13 @@ rightly_written s client context op keys n f right links was =
 -- a part of one key is changed
 pub rightly_changed :
     (s : State) (client context : ℕ) (op : Op) (n : ℕ) (f : Key → Key)
-    → ((v : Key) → at s.keys n ≡ Some v → IsByRight s client context n v (f v))
+    → ((v : Key) → at s.keys n ≡ Some v → IsByRight s client context op n v (f v))
     → ((j : ℕ) (v : Key) → is_in j (links_of_content (f v).content) ≡ true
     → is_in j (links_of_content v.content) ≡ true)
     → Rightly s client context op (alter s.keys n f)
 rightly_changed s client context op n f right less =
     rightly_then s client context op s.keys n f
-    (λ before after was is _. subst (λ (z : Key). IsByRight s client context n before (f z))
+    (λ before after was is _. subst (λ (z : Key). IsByRight s client context op n before (f z))
     (same_Some before after (sym was ∙ is)) (right before was))
     (λ key none is _. absurd (none-some key (sym none ∙ is))) (λ k v i. inl (less k v i))
     (rightly_same s client context op)

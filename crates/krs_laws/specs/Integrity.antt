@@ -1,12 +1,13 @@
 -- Each change of a key is by right: keyrings(7), "Access rights"; keyctl(2), "ERRORS", EACCES. The form is this
 -- project's own.
-use Rattle.std.specs.Prelude.{◌≡◌, ◌⊎◌, List, None, Ok, Some, true, ℕ}
+use Rattle.std.specs.Prelude.{◌≡◌, ◌⊎◌, List, None, Ok, Some, true, ℕ, ℤ}
 use Rattle.krs_types.specs.{Caller.is_of_group, Rights.{LINK, SEARCH, SETATTR, WRITE}, declared.ask.Answer.Answer}
-use Rattle.krs_types.specs.declared.{ask.Op.{Op, TheVariants.Hello}, caller.Caller.Caller, context.Context.Context}
-use Rattle.krs_types.specs.declared.{event.Event.Event, rights.Want.{Want, TheVariants.{Either, Granted}}}
+use Rattle.krs_types.specs.declared.{ask.Op.{Op, TheVariants.{Hello, Invalidate}}, caller.Caller.Caller}
+use Rattle.krs_types.specs.declared.{context.Context.Context, event.Event.Event}
+use Rattle.krs_types.specs.declared.rights.Want.{Want, TheVariants.{Either, Granted}}
 use Rattle.krs_model.specs.Asks.{Changing.emptied, Linked.unlinked_content}
 use Rattle.krs_model.specs.{Confidentiality.is_own, History.IsLegal, Levels.is_in, Lookup.context_of}
-use Rattle.krs_model.specs.{Reach.links_of_key_at, Secrecy.Grants, State.{Content, Key, raised, State}}
+use Rattle.krs_model.specs.{Reach.links_of_key_at, Revocation.Names, Secrecy.Grants, State.{Key, raised, State}}
 use Rattle.krs_model.specs.{Step.{outcome_of, Step}, Sweep.{IsHeld, roots}, Table.at, Usable.IsUsable}
 
 -- the context that asks has this right on the key: it grants it, and is neither revoked nor expired
@@ -17,25 +18,26 @@ pub record HasRight (s : State) (client context : ℕ) (want : Want) (serial : �
   pub usable : IsUsable s whose want (serial, key)
 
 -- What a key holds stays as it was; or it is written, by WRITE; or it is emptied as the key is revoked, by WRITE or
--- SETATTR; or another key goes out of its links, which is invalidated, by SEARCH on that one
-pub data HoldsByRight (s : State) (client context serial : ℕ) (before after : Content) : Type 0 where
-  Kept : after ≡ before → HoldsByRight s client context serial before after
-  Written : HasRight s client context (Granted WRITE) serial → HoldsByRight s client context serial before after
+-- SETATTR; or another key goes out of its links, which the ask invalidates, by SEARCH on that one
+pub data HoldsByRight (s : State) (client context : ℕ) (op : Op) (serial : ℕ) (before after : Key) : Type 0 where
+  Kept : after.content ≡ before.content → HoldsByRight s client context op serial before after
+  Written : HasRight s client context (Granted WRITE) serial → HoldsByRight s client context op serial before after
   Emptied :
-      HasRight s client context (Either WRITE SETATTR) serial → after ≡ emptied before
-      → HoldsByRight s client context serial before after
+      HasRight s client context (Either WRITE SETATTR) serial → after.revoked ≡ true
+      → after.content ≡ emptied before.content → HoldsByRight s client context op serial before after
   Unlinked :
-      (gone : ℕ) → HasRight s client context (Granted SEARCH) gone → after ≡ unlinked_content gone before
-      → HoldsByRight s client context serial before after
+      (id : ℤ) (gone : ℕ) → op ≡ Invalidate id → Names s client context id gone
+      → HasRight s client context (Granted SEARCH) gone → after.content ≡ unlinked_content gone before.content
+      → HoldsByRight s client context op serial before after
 
 -- a key before an ask of this context and after it: what is changed of it the context had the right to change
-pub record IsByRight (s : State) (client context serial : ℕ) (before after : Key) : Type 0 where
+pub record IsByRight (s : State) (client context : ℕ) (op : Op) (serial : ℕ) (before after : Key) : Type 0 where
   -- type and description stay, and whether JOIN made it
   pub kind : after.kind ≡ before.kind
   pub desc : after.desc ≡ before.desc
   pub joined : after.joined ≡ before.joined
   -- payload and links
-  pub content : HoldsByRight s client context serial before.content after.content
+  pub content : HoldsByRight s client context op serial before after
   -- uid 0 alone gives a key to another owner: KEYCTL_CHOWN, "EACCES"
   pub uid : (after.uid ≡ before.uid)
       ⊎ ((right : HasRight s client context (Granted SETATTR) serial) × (right.whose.caller.uid ≡ 0))
@@ -89,7 +91,7 @@ pub record IsLetGo (s : State) (event : Event) (serial : ℕ) : Type 0 where
 pub record ChangesByRight (s : State) (event : Event) (new : State) : Type 0 where
   -- of a key that stays each part is as it was, or the context may change it
   pub changed : (serial : ℕ) (before after : Key) → at s.keys serial ≡ Some before → at new.keys serial ≡ Some after
-      → IsByRight s event.lane event.ask.context serial before after
+      → IsByRight s event.lane event.ask.context event.ask.op serial before after
   -- a key that comes is its maker's
   pub made : (serial : ℕ) (key : Key) → at s.keys serial ≡ None → at new.keys serial ≡ Some key
       → IsMadeBy s event.lane event.ask.context event.ask.op key

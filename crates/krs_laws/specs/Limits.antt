@@ -17,7 +17,7 @@ pub record IsWithinLimits (s : State) : Type 0 where
   pub contexts : (client : ℕ) → context_count client s.contexts ≤ 64
   -- 256 queues are open at most: profile, queue numbers
   pub queues : length s.queues ≤ 256
-  -- and each holds at most as many records as it was asked for with, and none more than 4096; losses take no room:
+  -- and each holds at most as many records as its capacity, and none more than 4096; losses take no room:
   -- profile, exact rings; profile, loss records take no room
   pub waiting : (number : ℕ) (queue : Queue) → at s.queues number ≡ Some queue
       → (total_room queue.waiting ≤ queue.capacity) × (queue.capacity ≤ 4096)

@@ -4,16 +4,15 @@ use Rattle.std.proofs.Common.{flat_map, length, length-append, List, None, refl,
 use Rattle.std.specs.List.{AllZip}
 use Rattle.std.proofs.lemmas.List.Concat.{flat_map-append}
 use Rattle.std.proofs.lemmas.List.Elements.{All-cons, All-head, All-nil, All-push, All-tail, AllZip-push}
-use Rattle.atomic_table.specs.Seated.{TableId}
 use Rattle.krs_types.specs.declared.event.Event.{Event}
 use Rattle.krs_model.specs.{History.IsLegal, Lists.Begins, State.{starting_at, State}}
 use Rattle.krs_model.proofs.History.Legal.{legal_none}
 use Rattle.krs_world.specs.{Knowing.events_of, declared.view.Part.Part}
 use Rattle.krs_world.proofs.Keeping.{events_prefix, prefix_both, prefix_self, prefix_trans}
 use Rattle.krs_desk.specs.{Seen.IsOneHistory, Sitting.{Meets, Sitting}}
-use Rattle.krs_session.specs.{Events.AllOfLane, declared.ended.Ended.Ended}
+use Rattle.krs_session.specs.declared.ended.Ended.{Ended}
 use Rattle.krs_serve.specs.OneDesk.{HasMet, HaveOneHistory, MeetsEach, SeesMore, ServeInOneHistory, StandsIn}
-use Rattle.krs_serve.specs.Sessions.{KeepsAsDesk, ServesAtDesk, ServesEntry}
+use Rattle.krs_serve.specs.Sessions.{ServesAtDesk}
 use Rattle.krs_serve.specs.{Visits.{HasJustItsCalls, IsNew, IsVisited, Visit}, declared.entry.Entry.Entry}
 use Rattle.krs_session.specs.declared.clock.Clock as clocks
 use Rattle.krs_session.specs.declared.source_and_sink.Sink as sinks
@@ -254,45 +253,6 @@ not_none (y ∷ ys) x = λ e. absurd (cc)
 -- a new seat has no calls, and has seen none
 pub just_none : (s : Sitting) → IsNew s → HasJustItsCalls s
 just_none s new = ap (events_of s.part.lane) new.1 ∙ sym new.0
-
--- what was served by a keeper that makes calls as a desk does was served at that desk
-pub served_at_desk : {R C W : Type 0} (source : sources.Ghosts R) (timer : clocks.Ghosts C) (sink : sinks.Ghosts W)
-    (turns : ℕ) → {table : TableId} {ready : Sitting → Type 0} {leads : Sitting → List Event → Sitting → Type 0}
-    {lane_of : Sitting → ℕ} {rested : Sitting → Type 0} {connection : Entry R W C} {seat left : Sitting} {ended : Ended}
-    → KeepsAsDesk table ready leads lane_of rested
-    → ServesEntry source timer sink leads lane_of turns connection seat left ended
-    → ServesAtDesk source timer sink turns connection seat left ended
-served_at_desk source timer sink turns {seat = seat} {left = left} keeps e =
-    let s = e.session in record {
-      last = e.last;
-      session = record {
-        bytes = s.bytes;
-        frames = s.frames;
-        events = s.events;
-        last = s.last;
-        read = s.read;
-        size = s.size;
-        asked = keeps.called seat left (s.events ++ s.last ∷ []) s.asked;
-        moments = s.moments;
-        lanes = subst (λ (k : ℕ). AllOfLane k (s.events ++ s.last ∷ [])) (keeps.lane seat) s.lanes;
-        order = s.order;
-        leave = s.leave;
-        served = s.served;
-      };
-      count = e.count;
-      bounded = e.bounded;
-      not_wire = e.not_wire;
-    }
-
--- and the same is left of its ends
-pub same_ends : {R C W : Type 0} (source : sources.Ghosts R) (timer : clocks.Ghosts C) (sink : sinks.Ghosts W)
-    (turns : ℕ) → {table : TableId} {ready : Sitting → Type 0} {leads : Sitting → List Event → Sitting → Type 0}
-    {lane_of : Sitting → ℕ} {rested : Sitting → Type 0} {connection : Entry R W C} {seat left : Sitting} {ended : Ended}
-    → (keeps : KeepsAsDesk table ready leads lane_of rested)
-    → (e : ServesEntry source timer sink leads lane_of turns connection seat left ended)
-    → (served_at_desk source timer sink turns keeps e).last ≡ e.last
-unfolding served_at_desk
-same_ends source timer sink turns keeps e = refl
 
 module _ {R W : Type 0} (source : sources.Ghosts R) (sink : sinks.Ghosts W) (turns : ℕ) where
   -- of a new seat

@@ -2,3 +2,4 @@ pub mod Sessions
 pub mod Visits
 pub mod OneDesk
 pub mod AtDesk
+pub mod Told

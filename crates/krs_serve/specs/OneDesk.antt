@@ -1,5 +1,5 @@
--- That all connections of a desk stand in one history, from bytes to bytes. The claim is `ServeInOneHistory`; the other
--- definitions say how seats that meet come to know of it. The form is this project's own.
+-- That the connections of a desk's seats stand in one history, from bytes to bytes. The claim is `ServeInOneHistory`;
+-- the other definitions say how seats that meet come to know of it. The form is this project's own.
 use Rattle.std.specs.{Prelude.{◌≡◌, All, List, ℕ}, List.AllZip}
 use Rattle.krs_types.specs.declared.event.Event.{Event}
 use Rattle.krs_model.specs.{History.IsLegal, Lists.Begins, State.{starting_at, State}}
@@ -10,7 +10,8 @@ use Rattle.krs_session.specs.declared.source_and_sink.Sink as sinks
 use Rattle.krs_session.specs.declared.source_and_sink.Source as sources
 
 -- There is one legal history from the empty store. Of each of these seats it has just the calls, in order, and those
--- are the calls of one connection after another, each from the bytes that it sent to those that it was told.
+-- are the calls of one connection after another, each from the bytes of some reader to those that some writer took. It
+-- may have calls of other lanes, too; that there are none follows from `accept_all` (`seats`) and `opened` (`wide`).
 pub record ServeInOneHistory {R W : Type 0} (source : sources.Ghosts R) (sink : sinks.Ghosts W) (turns : ℕ)
     (seats : List Sitting) : Type 0 where
   pub log : List Event

@@ -1,8 +1,7 @@
 -- What many sessions at once did, each on a seat of its own.
-use Rattle.std.specs.Prelude.{◌+◌, ◌-◌, ◌≡◌, ◌≢◌, ◌≤◌, List, ℕ}
-use Rattle.atomic_table.specs.Seated.{TableId}
+use Rattle.std.specs.Prelude.{◌+◌, ◌-◌, ◌≢◌, ◌≤◌, List, ℕ}
 use Rattle.krs_types.specs.declared.event.Event.{Event}
-use Rattle.krs_desk.specs.Sitting.{IsIdleAt, Sitting}
+use Rattle.krs_desk.specs.Sitting.{Sitting}
 use Rattle.krs_wire.specs.declared.fault.WireFault.TheVariants.{Memory}
 use Rattle.krs_session.specs.{Calls.MakesCalls, Session.{Counts, counts_of, EndsBy, Session}}
 use Rattle.krs_session.specs.declared.ended.Ended.{Ended, TheVariants.Wire}
@@ -42,12 +41,3 @@ abbrev pub ServesAtDesk : {R C W : Type 0} → sources.Ghosts R → clocks.Ghost
     → Sitting → Sitting → Ended → Type 0
 ServesAtDesk source timer sink turns connection seat last_seat ended =
     ServesEntry source timer sink MakesCalls (λ s. s.part.lane) turns connection seat last_seat ended
-
--- A keeper that makes calls as this desk does: it serves the seats that are idle there, and each event is a call.
-pub record KeepsAsDesk (table : TableId) (ready : Sitting → Type 0) (leads : Sitting → List Event → Sitting → Type 0)
-    (lane_of : Sitting → ℕ) (rested : Sitting → Type 0) : Type 0 where
-  pub serves : (s : Sitting) → IsIdleAt table s → ready s
-  pub left : (s : Sitting) → ready s → IsIdleAt table s
-  pub called : (s t : Sitting) (calls : List Event) → leads s calls t → MakesCalls s calls t
-  pub lane : (s : Sitting) → lane_of s ≡ s.part.lane
-  pub rests : (s : Sitting) → rested s → s.kept ≡ 0

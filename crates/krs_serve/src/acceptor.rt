@@ -1,14 +1,12 @@
-//! Where connections come from. What serves them is proved for all that binds and accepts, over all streams. So it
-//! knows no socket, reaches no stream, and can't go by it that a socket shows no bytes.
-ghost use Rattle.std.specs.Prelude.{◌+◌, ◌<◌, ◌≡◌, IfErr, IfOk, List, OnErr, OnOk, string_bytes, ℕ};
+//! Where connections come from. What serves them is proved for all that accepts, over all streams. So it knows no
+//! socket, reaches no stream, and can't make use of a socket's showing no bytes.
+ghost use Rattle.std.specs.Prelude.{◌+◌, ◌<◌, ◌≡◌, IfErr, IfOk, OnErr, OnOk, ℕ};
 ghost use Rattle.atomic_table.specs.Seated.{TableId};
 ghost use Rattle.krs_listen.specs.Accepting.{accepted_by, AreEndsFrom, failed_at};
-ghost use Rattle.krs_serve.specs.AtDesk.{BeginsAt};
 
 use crate::{Arrival, AtDesk};
-use krs_listen::{Accepts, AwaitsEnd, Listens, Options, StreamAcceptor};
+use krs_listen::{Accepts, AwaitsEnd, Listens, StreamAcceptor};
 use std::io;
-use std::io::{Read, Write};
 use std::sync::Wait;
 use std::time::Clock;
 
@@ -82,26 +80,4 @@ impl<L: Listens<S> + Drop, S: Drop> Acceptor<S> for StreamAcceptor<L, S> {
     fn close(self) -> Accepts {
         StreamAcceptor::close(self)
     }
-}
-
-/// What binds the path of a daemon, once, and takes it away. The path is one that was read of words.
-pub trait Paths: Drop {
-    type Stream: Read + Write + Drop + Send;
-
-    type Acceptor: Acceptor<Self::Stream>;
-
-    /// What takes the path away again.
-    type Bound: Drop;
-
-    // It accepts at this path. Of a socket that isn't known.
-    ghost at: { Self.Acceptor → List ℕ → Type 0 };
-
-    /// Binds the path for those who are to sit at this desk. Nothing was accepted there yet.
-    fn bind<N: AtDesk>(self, options: &Options) -> io::Result<(Self::Acceptor, Self::Bound)>
-        ensures there { IfOk result (λ b. at b.0 (string_bytes options.now.path)) }
-        ensures here { IfOk result (λ b. BeginsAt Self.Acceptor.serves Self.Acceptor.accepted
-            Self.Acceptor.failures b.0 N.desk) };
-
-    /// Takes the path away.
-    fn remove(bound: Self::Bound, options: &Options);
 }

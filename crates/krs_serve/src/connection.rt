@@ -1,19 +1,17 @@
 //! A seat of the daemon's desk, a guest who is served there, and its session. Nothing else in this crate reaches a seat
 //! that was dealt, or a guest's ends.
-ghost use Rattle.std.specs.Prelude.{[], ◌≡◌, All, IfOk, List, vec_len};
-ghost use Rattle.krs_types.specs.declared.event.Event.{Event};
+ghost use Rattle.std.specs.Prelude.{[], ◌++◌, ◌+◌, ◌∷◌, ◌≡◌, All, IfOk, vec_len};
 ghost use Rattle.krs_model.specs.State.{starting_at};
 ghost use Rattle.krs_desk.specs.{Seen.IsOneHistory, Sitting.{fresh_seats, IsIdleAt, Meets}};
-ghost use Rattle.krs_wire.specs.declared.framed.Framed.{Framed};
 ghost use Rattle.krs_session.specs.Calls.{GainsSession};
 ghost use Rattle.krs_session.specs.{Over.over_end, Session.{counts_of, HaveRoom}, declared.ended.Ended.Ended};
-ghost use Rattle.krs_serve.specs.Sessions.{entry, KeepsAsDesk, ServesAtDesk};
+ghost use Rattle.krs_serve.specs.Sessions.{entry, ServesAtDesk};
 ghost use Rattle.krs_serve.specs.Visits.{HasJustItsCalls, IsNew, IsVisited};
 
 use crate::{Entry, Gone, OpenGate, serve_entry};
 use krs_desk::{Awaits, Desk, Refused, Seat};
 use krs_listen::Options;
-use krs_session::{Clock, Keeper, Over, Sink, Source, a_session_is_its_asks_and_leave};
+use krs_session::{Clock, Over, Sink, Source, a_session_is_its_asks_and_leave};
 use krs_store::{Seed, Store};
 use std::alloc::{AllocError, Global};
 use std::io::{Read, Write};
@@ -75,8 +73,9 @@ pub(crate) struct Dealt {
     seats: Vec<Seat>,
 }
 
-/// A desk of a new store, with a seat for each lane of the options.
+/// A desk of a new store, with a seat for each lane of the options, and no lane more.
 fn new_desk(alloc: Global, options: &Options, seed: Seed) -> Result<(Desk, Vec<Seat>), Refused>
+    ensures wide { IfOk result (λ d. d.0.words ≡ options.now.lanes + 1) }
     ensures seats { IfOk result (λ d. d.1.items ≡ fresh_seats d.0 (starting_at 3) options.now.lanes) }
     ensures own { IfOk result (λ d. All (IsIdleAt d.0) d.1.items) }
     ensures empty { IfOk result (λ d. All (λ seat. seat.opening ≡ starting_at 3) d.1.items) }
@@ -87,6 +86,7 @@ fn new_desk(alloc: Global, options: &Options, seed: Seed) -> Result<(Desk, Vec<S
 
 /// The same, with the seats out of reach.
 pub(crate) fn opened(alloc: Global, options: &Options, seed: Seed) -> Result<(Desk, Dealt), Refused>
+    ensures wide { IfOk result (λ d. d.0.words ≡ options.now.lanes + 1) }
     ensures seats { IfOk result (λ d. d.1.seats.items ≡ fresh_seats d.0 (starting_at 3) options.now.lanes) }
     ensures own { IfOk result (λ d. All (IsIdleAt d.0) d.1.seats.items) }
     ensures empty { IfOk result (λ d. All (λ seat. seat.opening ≡ starting_at 3) d.1.seats.items) }
@@ -216,30 +216,31 @@ pub(crate) fn guest_of<'d, N: AtDesk, S: Read + Write + Drop>(
     Guest::new(free, Over::new(reader), Over::new(writer))
 }
 
-/// Serves a guest to its end by a keeper that makes calls as the desk does, and gives its ends as the session left
-/// them.
-fn serve_by<
+/// Serves a connection to its end: docs/FORMAT.md, "A connection". Its asks are those of the bytes that it sent, and
+/// what was written to it is the text of their replies, and nothing behind them. The seat has gained these calls, and
+/// one LEAVE. It keeps no turn. The ends are given back as the session left them. A connection makes 16777216 reads at
+/// most, and is closed as its ends are let go. Here nothing can wait but for the answer to a posted call: what waits
+/// for ever meets every contract, whatever it did before.
+pub fn serve_connection<
     'd,
     N: AtDesk,
-    H,
-    D: Keeper<Seat, H>,
+    H: Awaits,
     R: Source + Drop,
     W: Sink + Drop,
     C: Clock + Drop,
 >(
     rt: &H,
     alloc: Global,
-    keeper: &D,
     guest: Guest<'d, N, R, W>,
     clock: C,
-) -> (Sitting<'d, N, R, W>, Gone<R, W>)
-    requires { KeepsAsDesk N.desk (D.ready keeper.now) D.leads D.lane_of D.rested }
+) -> (Sitting<'d, N, R, W>, Gone<R, W, C>)
     ensures desk { result.0.desk ≡ guest.entry.sitting.desk }
     ensures session { (ended : Ended) × (s : ServesAtDesk R.Source C.Clock W.Sink 16777216
         (entry guest.entry.reader guest.entry.writer clock) guest.entry.sitting.seat result.0.seat ended)
-        × (s.last.reader ≡ result.1.reader) × (s.last.writer ≡ result.1.writer) }
-    ensures gains { (frames : List Framed) × (calls : List Event)
-        × GainsSession guest.entry.sitting.seat frames calls result.0.seat }
+        × (s.last.reader ≡ result.1.reader) × (s.last.writer ≡ result.1.writer)
+        × (s.last.clock ≡ result.1.clock)
+        × GainsSession guest.entry.sitting.seat s.session.frames (s.session.events ++ s.session.last ∷ [])
+        result.0.seat }
     ensures rested { result.0.seat.kept ≡ 0 }
 {
     let Guest {
@@ -259,31 +260,6 @@ fn serve_by<
         writer,
         clock,
     };
-    let (seat, _ended, gone) = serve_entry(rt, alloc, connection, keeper, seat, &OpenGate, TURNS);
+    let (seat, _ended, gone) = serve_entry(rt, alloc, connection, desk, seat, &OpenGate, TURNS);
     (sitting_of(desk, seat), gone)
-}
-
-/// Serves a connection to its end: docs/FORMAT.md, "A connection". Its asks are those of the bytes that it sent, and
-/// what was written to it is the text of their replies, and nothing behind them. The seat has gained these calls, and
-/// one LEAVE. It keeps no turn. A connection makes 16777216 reads at most, and is closed as its ends are let go. Here
-/// nothing can wait but for the answer to a posted call: what waits for ever meets every contract, whatever it did
-/// before.
-pub fn serve_connection<
-    'd,
-    N: AtDesk,
-    H: Awaits,
-    R: Source + Drop,
-    W: Sink + Drop,
-    C: Clock + Drop,
->(rt: &H, alloc: Global, guest: Guest<'d, N, R, W>, clock: C) -> (Sitting<'d, N, R, W>, Gone<R, W>)
-    ensures desk { result.0.desk ≡ guest.entry.sitting.desk }
-    ensures session { (ended : Ended) × (s : ServesAtDesk R.Source C.Clock W.Sink 16777216
-        (entry guest.entry.reader guest.entry.writer clock) guest.entry.sitting.seat result.0.seat ended)
-        × (s.last.reader ≡ result.1.reader) × (s.last.writer ≡ result.1.writer) }
-    ensures gains { (frames : List Framed) × (calls : List Event)
-        × GainsSession guest.entry.sitting.seat frames calls result.0.seat }
-    ensures rested { result.0.seat.kept ≡ 0 }
-{
-    let desk = guest.sitting.desk;
-    serve_by(rt, alloc, desk, guest, clock)
 }

@@ -1,12 +1,10 @@
-ghost use Rattle.std.specs.Prelude.{[], ◌≡◌, All, IfErr, IfOk, IsErr, map, OnErr, string_bytes};
-ghost use Rattle.std.specs.{IoError.error_kind, Vec.Iter.into_iter_items};
+ghost use Rattle.std.specs.Prelude.{[], ◌≡◌, All, IfOk, IsErr, OnErr, string_bytes};
 ghost use Rattle.krs_model.specs.State.{starting_at};
 ghost use Rattle.krs_links.specs.Seeded.{random_seed};
 ghost use Rattle.krs_desk.specs.Sitting.{IsIdleAt};
-ghost use Rattle.krs_listen.specs.Choice.{IsUnread, LeadsTo};
 ghost use Rattle.krs_listen.specs.Daemon.{Answers, connections_of, SaysAsItEndsBy, SaysAsItServes, served_line};
-ghost use Rattle.krs_listen.specs.{Saying.heard, declared.choice.Choice.Choice as ChoiceIs};
-ghost use Rattle.krs_serve.specs.{AtDesk.BeginsAt, Visits.IsNew};
+ghost use Rattle.krs_listen.specs.{Saying.heard, declared.choice.Choice.{Choice as ChoiceIs, TheVariants.Serve}};
+ghost use Rattle.krs_serve.specs.{AtDesk.BeginsAt, Told.IsAsTold, Visits.IsNew};
 
 use crate::apart::{Hosting, StreamHosting};
 use crate::connection::{Dealt, opened, seated};
@@ -20,7 +18,6 @@ use krs_listen::{
 use krs_session::Over;
 use krs_store::Seed;
 use std::alloc::Global;
-use std::env::Args;
 use std::hash::RandomState;
 use std::io;
 use std::io::Write;
@@ -30,20 +27,18 @@ use std::sync::Wait;
 use std::thread::Threads;
 use std::time::Clock;
 
-/// The daemon: from its words, the first of which is its name, and its two ends to its exit status.
+/// The daemon: from its words, which are told beside its paths, and its two ends to its exit status.
 pub fn run_daemon<R: Clock + RandomSource + Threads + Wait + Sync, P: Paths, W: Write, E: Write>(
     rt: &R,
     paths: P,
     alloc: Global,
-    words: io::Result<Args>,
     voices: &mut Voices<W, E>,
 ) -> u8
-    ensures { (choice : ChoiceIs)
-        × IfOk words (λ words. LeadsTo (map string_bytes (into_iter_items words)) choice)
-        × IfErr words (λ error. IsUnread (error_kind error) choice)
+    ensures { (choice : ChoiceIs) × IsAsTold (P.told paths) choice
         × Answers choice (heard W.contents voices.old.output) (heard W.contents voices.new.output)
         (heard E.contents voices.old.errors) (heard E.contents voices.new.errors) result }
 {
+    let words = paths.words();
     let choice = choose(alloc, words);
     answer(rt, paths, alloc, choice, voices)
 }
@@ -56,6 +51,7 @@ fn answer<R: Clock + RandomSource + Threads + Wait + Sync, P: Paths, W: Write, E
     choice: Choice,
     voices: &mut Voices<W, E>,
 ) -> u8
+    requires told { IsAsTold (P.told paths) choice }
     ensures { Answers choice (heard W.contents voices.old.output) (heard W.contents voices.new.output)
         (heard E.contents voices.old.errors) (heard E.contents voices.new.errors) result }
 {
@@ -96,9 +92,11 @@ const LONGEST: usize = 107;
 
 /// Binds the path. An empty one the system would take for a name of its own choice, which no folder protects.
 fn bound<N: AtDesk, P: Paths>(paths: P, options: &Options) -> io::Result<(P::Acceptor, P::Bound)>
+    requires told { IsAsTold (P.told paths) (Serve options.now) }
     ensures empty { string_bytes options.now.path ≡ [] → IsErr result }
     ensures there { IfOk result (λ b. P.at b.0 (string_bytes options.now.path)) }
     ensures here { IfOk result (λ b. BeginsAt P.Acceptor.serves P.Acceptor.accepted P.Acceptor.failures b.0 N.desk) }
+    ensures removes { IfOk result (λ b. P.removes b.1 (string_bytes options.now.path)) }
 {
     let path = options.path();
     if path.is_empty() || path.len() > LONGEST {
@@ -125,6 +123,7 @@ fn serve_all<
     voices: &mut Voices<W, E>,
 ) -> (u8, Accepts)
     requires there { P.at at.0 (string_bytes options.now.path) }
+    requires removes { P.removes at.1 (string_bytes options.now.path) }
     requires here { BeginsAt P.Acceptor.serves P.Acceptor.accepted P.Acceptor.failures at.0 N.desk }
     requires served { string_bytes lines.now.served ≡ served_line connections }
     ensures { SaysAsItEndsBy connections result.1.accepted result.1.failures
@@ -145,13 +144,14 @@ fn serve_all<
 
 /// Serves connections on a new store as the options say, and answers the status: keyretaind(8),
 /// "DESCRIPTION" and "EXIT STATUS". The memory for its seats and its lines is had before the path is bound.
-pub fn listen<R: Clock + RandomSource + Threads + Wait + Sync, P: Paths, W: Write, E: Write>(
+fn listen<R: Clock + RandomSource + Threads + Wait + Sync, P: Paths, W: Write, E: Write>(
     rt: &R,
     paths: P,
     alloc: Global,
     options: &Options,
     voices: &mut Voices<W, E>,
 ) -> u8
+    requires told { IsAsTold (P.told paths) (Serve options.now) }
     ensures { SaysAsItServes options.now (heard W.contents voices.old.output) (heard W.contents voices.new.output)
         (heard E.contents voices.old.errors) (heard E.contents voices.new.errors) result }
 {
@@ -183,6 +183,7 @@ fn listen_at<
     requires own { All (IsIdleAt desk.now) seats.seats.items }
     requires empty { All (λ seat. seat.opening ≡ starting_at 3) seats.seats.items }
     requires unasked { All IsNew seats.seats.items }
+    requires told { IsAsTold (P.told paths) (Serve options.now) }
     ensures { SaysAsItServes options.now (heard W.contents voices.old.output) (heard W.contents voices.new.output)
         (heard E.contents voices.old.errors) (heard E.contents voices.new.errors) result }
 {

@@ -13,12 +13,13 @@ pub struct Entry<R: Drop, W: Drop, C: Drop> {
     pub clock: C,
 }
 
-/// The ends of a connection, as its session left them. Nothing reaches them: whoever has them can only let them go, and
-/// so close the connection.
+/// The ends of a connection and its clock, as its session left them. Nothing reaches them: whoever has them can only
+/// let them go, and so close the connection.
 #[derive(Drop)]
-pub struct Gone<R: Drop, W: Drop> {
+pub struct Gone<R: Drop, W: Drop, C: Drop> {
     reader: R,
     writer: W,
+    clock: C,
 }
 
 /// Serves one connection to its end, and gives its seat back with why it ended, and its ends as they are then. The
@@ -39,12 +40,13 @@ pub fn serve_entry<
     seat: S,
     gate: &G,
     turns: u64,
-) -> (S, Ended, Gone<R, W>)
+) -> (S, Ended, Gone<R, W, C>)
     requires ready { D.ready desk.now seat }
     requires room { HaveRoom turns
         (counts_of R.reads R.empties R.failures W.failures connection.reader connection.writer) }
     ensures session { (s : ServesEntry R.Source C.Clock W.Sink D.leads D.lane_of turns connection seat
-        result.0 result.1) × (s.last.reader ≡ result.2.reader) × (s.last.writer ≡ result.2.writer) }
+        result.0 result.1) × (s.last.reader ≡ result.2.reader) × (s.last.writer ≡ result.2.writer)
+        × (s.last.clock ≡ result.2.clock) }
     ensures ready { D.ready desk.now result.0 }
     ensures lane { D.lane_of result.0 ≡ D.lane_of seat }
     ensures rested { D.rested result.0 }
@@ -66,5 +68,10 @@ pub fn serve_entry<
         gate,
         turns,
     );
-    (seat, ended, Gone { reader, writer })
+    let gone = Gone {
+        reader,
+        writer,
+        clock,
+    };
+    (seat, ended, gone)
 }

@@ -62,11 +62,12 @@ Sits p (Opening n) = ⊥
 abbrev pub IsSeatedIn : List View → Part → Type 0
 IsSeatedIn views p = (j : ℕ) × (v : View) × (get_elem? views j ≡ some v) × Sits p v.stands
 
--- The claim, at each moment between two steps: `log` is a linearization of all that was asked. Herlihy and Wing, 2.2.
+-- The claim, at each moment between two steps: `log` is a legal sequential history of all that was asked, as Herlihy
+-- and Wing, 2.2, want it but for real-time order, which specs/Between.antt adds.
 pub record Linearizes
     (opening : State) (home : Option State) (cell : ℕ → Cell) (views : List View) (log : List Event) (last : State)
     : Type 0 where
-  pub legal : IsLegal opening log last  -- it is one of the sequential store
+  pub legal : IsLegal opening log last  -- it is a history of the sequential store
   pub ends : (store : State) → home ≡ Some store → store ≡ last  -- a store at home is as it leaves it
   -- it begins with all that a lane has seen, and has the lane's operations once, in their order
   pub lanes : (p : Part) → IsSeatedIn views p → Begins p.seen log × Fits log p (cell p.lane)

@@ -103,6 +103,19 @@ class Locker(AbstractContextManager["Locker"]):
             self._client.set_timeout(self._context, serial, seconds)
             self._client.link(self._context, serial, self._ring)
 
+    def update(self, entry: Entry, payload: bytes, seconds: int = 0) -> bool:
+        """Puts something else into this very entry, as put does. False where it is gone."""
+        if len(payload) > LONGEST_PAYLOAD:
+            raise OSError(errno.E2BIG, f"a secret of more than {LONGEST_PAYLOAD} bytes")
+        try:
+            self._client.update(self._context, entry.serial, payload)
+            self._client.set_timeout(self._context, entry.serial, seconds)
+        except Refused as refused:
+            if refused.errno not in GONE:
+                raise
+            return False
+        return True
+
     def drop(self, entry: Entry) -> None:
         """Takes out this very entry, and not one that has taken its place."""
         self._unlink(entry.serial)

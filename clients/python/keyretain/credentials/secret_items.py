@@ -62,11 +62,16 @@ def load() -> dict[str, Item]:
     return {item.name: item for item in read if item is not None}
 
 
-def keep(item: Item, seconds: int) -> None:
-    """In place of the one of its name, for so many seconds, or without an end for 0. It is changed now."""
+def keep(item: Item, seconds: int, is_new: bool) -> bool:
+    """For so many seconds, or without an end for 0. It is changed now. One that isn't new is in its place: False where
+    that is gone."""
     head = json.dumps({**{field: getattr(item, field) for field in FIELDS}, "modified": int(time.time())})
+    name, payload = f"{KIND} {item.name}", head.encode() + b"\n" + item.secret
     with Locker(KEYRING) as locker:
-        locker.put(f"{KIND} {item.name}", head.encode() + b"\n" + item.secret, seconds)
+        if is_new:
+            locker.put(name, payload, seconds)
+        return is_new or any(locker.update(entry, payload, seconds) for entry in locker.entries()
+                             if entry.description == name.encode())
 
 
 def drop(name: str) -> None:

@@ -145,7 +145,8 @@ class Service:
         """Answers the path. The names are those of the properties that have changed."""
         path = f"{COLLECTION}/{item.name}"
         is_new = path not in self._seen
-        items.keep(item, self._seconds)
+        if not items.keep(item, self._seconds, is_new):
+            raise Failure("Secret.Error.NoSuchObject", "no such item")
         self._tell(COLLECTION, COLLECTIONS, "ItemCreated" if is_new else "ItemChanged", "o", (path,))
         if is_new:
             self._seen.append(path)

@@ -13,4 +13,5 @@ returns-clause-session g c = (
   },
   refl,
   refl,
+  refl,
 )

@@ -9,4 +9,5 @@ invariant-loop g l = record {
   in_flight : l.posted.seat.now.part.flight ≢ None;
   waits : StillWaits l.desk l.fn.posted.seat.now l.posted.seat.now;
   seat : l.posted.seat.ghost_name ≡ l.fn.posted.seat.ghost_name;
+  reply : l.posted.reply.ghost_name ≡ l.fn.posted.reply.ghost_name;
 }

@@ -1,6 +1,6 @@
 use Rattle.std.proofs.Common.{false, rules}
 use Rattle.krs_desk.proofs.Calls.{called_collected, waits_helped, waits_still}
-use Rattle.krs_desk.proofs.posted.Posted.look.Goals as goal
+use Rattle.krs_desk.proofs.posted.Posted.collected.Goals as goal
 
 pub returns-in-Some-clause-some : goal.returns-in-Some-clause-some
 returns-in-Some-clause-some c = λ s moment ask w.

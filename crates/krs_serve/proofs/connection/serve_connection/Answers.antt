@@ -1,35 +1,27 @@
-use Rattle.std.proofs.Common.{[], ◌++◌, ◌∙◌, ◌∷◌, ap}
+use Rattle.std.proofs.Common.{[], ◌++◌, ◌∙◌, ◌∷◌}
 use mathlib.Core.Logic.{∥∥₁_map}
-use Rattle.krs_serve.specs.declared.entry.Entry.{Entry}
-use Rattle.krs_serve.proofs.OneDeskLemmas.{not_none, same_ends, served_at_desk, visit_of, visited_next}
-use Rattle.krs_serve.proofs.connection.serve_by.Goals as goal
+use Rattle.krs_serve.proofs.OneDeskLemmas.{not_none, visit_of, visited_next}
+use Rattle.krs_serve.proofs.connection.serve_connection.Goals as goal
 
 pub returns-clause-session : goal.returns-clause-session
 returns-clause-session g c =
-    let e = c.serve_entry-seat.ensures.session in
-    let same = same_ends g.R.Source g.C.Clock g.W.Sink 16777216 c.requires e.0 in
+    let served = c.serve_entry-seat.ensures.session in
+    let e = served.0 in
     rw c.sitting_of.ensures.seat (
       c.serve_entry-seat.result.1,
-      served_at_desk g.R.Source g.C.Clock g.W.Sink 16777216 c.requires e.0,
-      ap (λ (l : Entry _ _ _). l.reader) same ∙ e.1,
-      ap (λ (l : Entry _ _ _). l.writer) same ∙ e.2,
-    )
-
-pub returns-clause-gains : goal.returns-clause-gains
-returns-clause-gains g c =
-    let e = served_at_desk g.R.Source g.C.Clock g.W.Sink 16777216 c.requires c.serve_entry-seat.ensures.session.0 in
-    let s = e.session in (
-      s.frames,
-      s.events ++ s.last ∷ [],
-      rw c.sitting_of.ensures.seat (c.a_session_is_its_asks_and_leave.ensures c.args.guest.sitting.seat
-          c.serve_entry-seat.result.0 c.args.guest.reader e.last.reader c.args.guest.writer e.last.writer c.args.clock
-          e.last.clock _ _ c.serve_entry-seat.result.1 s),
+      e,
+      served.1,
+      served.2,
+      served.3,
+      c.a_session_is_its_asks_and_leave.ensures c.args.guest.sitting.seat c.serve_entry-seat.result.0
+          c.args.guest.reader e.last.reader c.args.guest.writer e.last.writer c.args.clock e.last.clock _ _
+          c.serve_entry-seat.result.1 e.session,
     )
 
 -- the session leaves the store that the desk was opened with as it was
 pub sitting_of-requires-clause-empty : goal.sitting_of-requires-clause-empty
 sitting_of-requires-clause-empty g c =
-    let e = served_at_desk g.R.Source g.C.Clock g.W.Sink 16777216 c.requires c.serve_entry-seat.ensures.session.0 in
+    let e = c.serve_entry-seat.ensures.session.0 in
     let gained = c.a_session_is_its_asks_and_leave.ensures c.args.guest.sitting.seat c.serve_entry-seat.result.0
     c.args.guest.reader e.last.reader c.args.guest.writer e.last.writer c.args.clock e.last.clock _ _
     c.serve_entry-seat.result.1 e.session in
@@ -38,7 +30,7 @@ sitting_of-requires-clause-empty g c =
 -- and its calls are one connection's more
 pub sitting_of-requires-clause-visited : goal.sitting_of-requires-clause-visited
 sitting_of-requires-clause-visited g c =
-    let e = served_at_desk g.R.Source g.C.Clock g.W.Sink 16777216 c.requires c.serve_entry-seat.ensures.session.0 in
+    let e = c.serve_entry-seat.ensures.session.0 in
     let seat = c.args.guest.sitting.seat in
     let left = c.serve_entry-seat.result.0 in
     let gained = c.a_session_is_its_asks_and_leave.ensures seat left c.args.guest.reader e.last.reader
@@ -50,15 +42,11 @@ sitting_of-requires-clause-visited g c =
 -- which it has seen, and no others of its lane
 pub sitting_of-requires-clause-just : goal.sitting_of-requires-clause-just
 sitting_of-requires-clause-just g c =
-    let e = served_at_desk g.R.Source g.C.Clock g.W.Sink 16777216 c.requires c.serve_entry-seat.ensures.session.0 in
+    let e = c.serve_entry-seat.ensures.session.0 in
     let gained = c.a_session_is_its_asks_and_leave.ensures c.args.guest.sitting.seat c.serve_entry-seat.result.0
     c.args.guest.reader e.last.reader c.args.guest.writer e.last.writer c.args.clock e.last.clock _ _
     c.serve_entry-seat.result.1 e.session in
     gained.gains.own (not_none e.session.events e.session.last)
 
-pub sitting_of-requires-clause-own : goal.sitting_of-requires-clause-own
-sitting_of-requires-clause-own g c = c.requires.left c.serve_entry-seat.result.0 c.serve_entry-seat.ensures.ready
-
 pub returns-clause-rested : goal.returns-clause-rested
-returns-clause-rested g c =
-    rw c.sitting_of.ensures.seat (c.requires.rests c.serve_entry-seat.result.0 c.serve_entry-seat.ensures.rested)
+returns-clause-rested g c = rw c.sitting_of.ensures.seat c.serve_entry-seat.ensures.rested
