@@ -101,7 +101,7 @@ static void supervise(int reports, const char *path, const char *name, char **co
     }
     int descriptor = proc_open(child);
     if (descriptor < 0 || serve_send_listener(reports, descriptor) < 0 || detach(reports, sockets[0]) < 0)
-        _exit(REFUSED);
+        fail(REFUSED, "the supervisor");
     if (serve_protect() < 0 || sigprocmask(SIG_SETMASK, &inherited.mask, NULL) < 0) give_up(REFUSED);
     tell((struct report){ STARTED, child, 0 });
     int listener = serve_receive_listener(LISTENERS);
