@@ -37,8 +37,11 @@ INSTALLED = 'bin/keyretain:$(BINDIR)/keyretain:755' 'bin/keyretaind:$(SBINDIR)/k
     'keyretain.fish:$(FISHDIR)/$(name).fish:link')
 
 PROGRAMS = keyretain keyretaind
+# What `make try` runs, with each $ as it was typed.
+override RUN := $(value RUN)
+export RUN
 
-.PHONY: build help try run clients guard pam ssh-agent test gate wrong-bodies fuzz check-man check-keyutils install \
+.PHONY: build help clean try run clients guard pam ssh-agent test gate wrong-bodies fuzz check-man check-keyutils install \
   uninstall deb dist bench bench-instructions measure
 
 # Proves and builds the programs and the rules of the guard and of sessions, crate by crate, as many side by side as
@@ -49,6 +52,11 @@ build:
 	  'Programs within minutes: make run'
 	@sum=$$(tools/proved --sum) && tools/build $(PROGRAMS) krs_screen_c krs_admission_c && tools/proved --put "$$sum"
 	@echo 'proved and built: $(PROGRAMS:%=bin/%)'
+
+# Removes what was built here. What this machine keeps of proofs stays where the toolchain keeps it.
+clean:
+	rm -rf bin packages crates/*/out guard/build pam/build $(foreach place,c c/fuzz python,clients/$(place)/build) \
+	  ssh-agent/build ssh-agent/fuzz/build
 
 # Prints what each target does.
 help:

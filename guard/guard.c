@@ -142,7 +142,9 @@ static void fit_descriptors(void) {
     if (limit.rlim_cur < (rlim_t)(REFUSED + refused_most)) fail("error: socket", NO_SOCKET); /* poll(2) takes no more */
     for (int i = 0; (rlim_t)i < limit.rlim_cur; i++) taken += fcntl(i, F_GETFD) >= 0;
     rlim_t places = limit.rlim_cur > taken + 2 ? (limit.rlim_cur - taken) / 2 : 1;
-    if (places < options.connections) options.connections = (unsigned)places;
+    if (places >= options.connections) return;
+    options.connections = (unsigned)places;
+    fprintf(stderr, "keyretain-guard: so few files may be open that there are %u places\n", options.connections);
 }
 
 static void begin(void) {

@@ -5,6 +5,7 @@
 #include "../clients/c/common.h"
 
 #include <grp.h>
+#include <sys/uio.h>
 
 #include "keeper.h"
 
@@ -148,6 +149,10 @@ _Noreturn static void become_keeper(const struct launch *launch) {
                     chdir("/") == 0 && setsid() >= 0 && take_ids(launch) && keep_no_core();
     reset_signals();
     if (is_ready) execve(KEYRETAIN_KEEPER, launch->words, environment);
+    static char who[] = KEYRETAIN_KEEPER ": ";
+    char *why = (char *)strerrordesc_np(errno);
+    const struct iovec said[] = { { who, sizeof who - 1 }, { why, strlen(why) } };
+    if (is_ready && writev(STDOUT_FILENO, said, 2) < 0) _exit(2);
     _exit(1);
 }
 

@@ -54,11 +54,16 @@ int open_ring(void) {
     return keyring < 0 ? -1 : kr_descriptor(connection);
 }
 
+/* What was read stays. */
+static void close_connection(void) {
+    if (connection) kr_close(connection);
+    connection = NULL;
+}
+
 void close_ring(void) {
     OPENSSL_cleanse(payload, sizeof payload);
     OPENSSL_cleanse(made_lock, sizeof made_lock);
-    if (connection) kr_close(connection);
-    connection = NULL;
+    close_connection();
 }
 
 /* Another client may make one at the same time, in which its key is: that is taken then, and displaced by none. */
@@ -189,6 +194,7 @@ static bool sign(struct bytes asked, struct writer *reply) {
     struct key key;
     if (!asked.at || !find_key(public_key, &key)) return false;
     if (key.is_confirmed && !(is_allowed(public_key, key.comment) && find_key(public_key, &key))) return false;
+    close_connection(); /* a heavy key holds up nobody but who uses it */
     put_number(reply, SIGN_RESPONSE, BYTE);
     return put_signature(reply, &key, data, flags);
 }
@@ -197,7 +203,9 @@ static bool sign(struct bytes asked, struct writer *reply) {
 static bool add(struct bytes message, uint32_t lifetime, struct writer *reply) {
     size_t begin = reply->length;
     struct key key;
+    close_connection();
     if (!read_added(message, &key) || !put_signature(reply, &key, key.comment, SHA2_512_WANTED)) return false;
+    if (open_ring() < 0 || is_locked()) return false;
     reply->length = begin;
     put_public(reply, &key);
     struct bytes public_key = { reply->at + begin, reply->length - begin };

@@ -145,8 +145,19 @@ def build_statements(rt, crate):
     return crate.call(rt.rtlib.RATTLE, "build", *words)
 
 
+def keep_to_checkout(rtlib):
+    """Has the crates of another checkout below this one be none of this one's."""
+    plain = rtlib.crates_below
+
+    def crates_below(top):
+        return [it for it in plain(top) if not it.folder.startswith(f"{top}/")
+                or os.path.dirname(it.folder) == f"{top}/crates"]
+
+    rtlib.crates_below = crates_below
+
+
 def load():
-    """The toolchain's rt, which sums each crate up once a question."""
+    """The toolchain's rt, which sums each crate up once a question, and keeps to this checkout."""
     path = shutil.which("rt")
     if path is None:
         sys.exit("rt is not on the PATH: README.md says what is needed")
@@ -156,6 +167,7 @@ def load():
         sys.modules["rt"] = module
         loader.exec_module(module)
         remember_sums(module.rtlib.Crate)
+        keep_to_checkout(module.rtlib)
     except (AttributeError, ImportError, SyntaxError) as error:
         raise Unknown(str(error)) from error
     return module

@@ -9,6 +9,7 @@
 
 enum { REFUSED = 1, USAGE = 2, NO_CONNECTION = 3 };
 enum { PATIENCE_MILLISECONDS = 10000, LONGEST_PATIENCE = 999999, LOOK_MILLISECONDS = 1000 };
+enum { RESTART_MILLISECONDS = 2000, STEP_MILLISECONDS = 100 };
 enum { SERIAL_WIDTH = 4, DECIMAL = 10 };
 
 static const char usage[] =
@@ -111,16 +112,23 @@ static void stand_alone(void) {
 /* ---- A session ---- */
 
 /* A context of this user, on a connection to the daemon, whose calls all end within the patience until it has answered.
- * A path may be relative, and no folder is kept in use. */
+ * A path may be relative, and no folder is kept in use. keyretain-guard ends those that come while its daemon is
+ * started anew: then another is tried for a while. */
 static struct kr *connect_to(const struct options *options, struct kr_where *where, uint32_t *context) {
+    const int64_t end = kr_now() + options->milliseconds, restart = kr_now() + RESTART_MILLISECONDS;
+    const int64_t last = (end < restart ? end : restart) - 2 * STEP_MILLISECONDS;
     struct kr_identity identity;
-    int64_t end = kr_now() + options->milliseconds;
+    struct kr *connection = NULL;
+    int64_t made;
     if (kr_locate(where, options->socket) < 0) fail("the socket's path");
-    struct kr *connection = kr_open_with(options->socket, 0, options->milliseconds);
-    if (!connection || chdir("/") < 0) fail(where->path);
-    connection->until = end;
     kr_own_identity(&identity);
-    int64_t made = kr_hello_as(connection, &identity);
+    do {
+        if (connection) kr_close(connection);
+        connection = kr_open_with(options->socket, 0, (int)(end - kr_now()));
+        if (connection) connection->until = end;
+        made = connection ? kr_hello_as(connection, &identity) : -1;
+    } while (made < 0 && errno == ECONNRESET && kr_now() < last && poll(NULL, 0, STEP_MILLISECONDS) == 0);
+    if (!connection || chdir("/") < 0) fail(where->path);
     if (made < 0) fail_ask(connection, where->path);
     *context = (uint32_t)made;
     return connection;

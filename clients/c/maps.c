@@ -10,8 +10,8 @@ enum { RANGE_LETTERS = 34 };
 static struct {
     struct map uids, gids;
     unsigned unknown, length;
-    struct stat namespace, processes; /* of users, and of the PIDs of a container */
-    bool has_processes;
+    struct stat namespace, container; /* of users, and what a container's processes are told from others by */
+    const char *kind;                 /* of the latter */
 } all;
 
 /* 0, or -1 where it may not be looked at. */
@@ -88,7 +88,12 @@ static bool read_maps_of(int namespace, pid_t first) {
 
 void maps_begin(pid_t first) {
     static const struct map ours = { .count = 1, .ranges = { { 0, 0, UINT32_MAX } } }; /* ids are as they are read */
-    all.has_processes = first > 0 && find_namespace_of(first, "pid", &all.processes) == 0;
+    struct stat own = { 0 };
+    find_namespace_of(getpid(), all.kind = "pid", &own);
+    bool is_known = first > 0 && find_namespace_of(first, all.kind, &all.container) == 0;
+    if (is_known && is_same(&own, &all.container))
+        is_known = find_namespace_of(first, all.kind = "mnt", &all.container) == 0;
+    if (!is_known) all.kind = NULL;
     all.unknown = kr_unknown_uid();
     all.length = read_map(getpid(), "uid_map", &all.uids) ? length_of(&all.uids) : 0;
     if (find_namespace(getpid(), &all.namespace) < 0) return;
@@ -125,11 +130,13 @@ void maps_put(struct admission_process *process) {
 
 bool maps_are_outside(pid_t process) {
     struct stat namespace;
-    int next = all.has_processes ? proc_open_file(process, "ns/pid", O_RDONLY) : -1;
+    char name[16];
+    snprintf(name, sizeof name, "ns/%s", all.kind ? all.kind : "");
+    int next = all.kind ? proc_open_file(process, name, O_RDONLY) : -1;
     bool is_known = next >= 0, is_within = false;
     while (next >= 0) {
-        is_within = fstat(next, &namespace) == 0 && is_same(&namespace, &all.processes);
-        int around = is_within ? -1 : ioctl(next, NS_GET_PARENT);
+        is_within = fstat(next, &namespace) == 0 && is_same(&namespace, &all.container);
+        int around = is_within ? -1 : ioctl(next, NS_GET_PARENT); /* one of mounts has none */
         close(next);
         next = around;
     }

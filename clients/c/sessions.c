@@ -36,7 +36,7 @@ void sessions_forget(const void *beginner) {
         if (session->beginner == beginner) session->beginner = NULL;
 }
 
-/* ---- Joining ---- */
+/* ---- A new one ---- */
 
 /* What this context has joined, with a holder of its own. */
 static struct session *add_session(const struct context *context, struct user *user, int32_t serial, const char *name,
@@ -66,42 +66,7 @@ int session_leave(const struct context *context) {
     return connection && kr_join(connection, context->number, NULL) > 0 ? 0 : -1;
 }
 
-/* Whether a name leads to a keyring of this user's or a new one; false with errno. It's tried where nothing is lost. */
-static bool may_join(struct user *user, const char *name) {
-    struct context trial;
-    struct kr_attributes attributes;
-    if (context_fork(&trial, &user->context) < 0) return false;
-    struct kr *connection = context_connection(&trial);
-    int32_t serial = connection ? kr_join(connection, trial.number, name) : fail_as(ECONNRESET);
-    bool is_own = serial > 0 && read_own(&trial, serial, user->identity.uid, &attributes);
-    if (serial > 0 && !is_own) errno = context_connection(&trial) ? EACCES : ECONNRESET;
-    context_end(&trial);
-    return is_own;
-}
-
-/* One without a name gets one that nobody can guess, by which other identities of its uid come in, and is its user's to
- * link only from within, as the kernel's is. Another user may have made a keyring of the name first, and opened it:
- * then the context ends. */
-struct session *session_join(struct context *context, struct user *user, const char *name,
-                             const struct admission_process *begun) {
-    struct kr_session named;
-    struct kr_attributes attributes;
-    struct kr *connection = context_connection(context);
-    if (!connection || kr_name_session(&named, name) < 0 || (name && !may_join(user, name))) return NULL;
-    int32_t serial = kr_join(connection, context->number, named.name);
-    if (serial < 0) return NULL;
-    struct session *session = FIND(all.sessions, at, at->serial == serial && !session_is_lost(at));
-    if (session && session->user->identity.uid == user->identity.uid) return session;
-    bool is_own = !session && (name ? read_own(context, serial, user->identity.uid, &attributes)
-                                    : kr_setperm(connection, context->number, serial, MASK_WITHOUT_NAME) == 0);
-    if (is_own && (session = add_session(context, user, serial, named.name, begun)) != NULL) return session;
-    int error = is_own ? errno : context_connection(context) ? EACCES : ECONNRESET;
-    context_end(context);
-    errno = error;
-    return NULL;
-}
-
-/* ---- Entering ---- */
+/* ---- Joining, and entering ---- */
 
 static int set_mask(const struct session *session, unsigned mask) {
     struct kr *connection = context_connection(&session->holder);
@@ -123,6 +88,40 @@ bool session_enter_by_name(const struct context *context, const struct user *use
     if (joined == session->serial) return true;
     session_leave(context);
     return false;
+}
+
+/* What a context joins by a name, where that is this user's; NULL with errno. */
+static struct session *join(const struct context *context, struct user *user, const char *name,
+                            const struct admission_process *begun) {
+    struct kr_attributes attributes;
+    struct kr *connection = context_connection(context);
+    int32_t serial = connection ? kr_join(connection, context->number, name) : fail_as(ECONNRESET);
+    if (serial < 0) return NULL;
+    struct session *session = FIND(all.sessions, at, at->serial == serial && !session_is_lost(at));
+    bool is_own = session ? session->user->identity.uid == user->identity.uid
+                          : read_own(context, serial, user->identity.uid, &attributes);
+    if (is_own) return session ? session : add_session(context, user, serial, name, begun);
+    errno = context_connection(context) ? EACCES : ECONNRESET;
+    return NULL;
+}
+
+/* One without a name gets one that nobody can guess, by which other identities of its uid come in, and is its user's to
+ * link only from within, as the kernel's is. It is joined in a trial first, so that a refusal changes nothing: another
+ * user may have made a keyring of the name, and opened it. */
+struct session *session_join(const struct context *context, struct user *user, const char *name,
+                             const struct admission_process *begun, bool *is_lost) {
+    struct kr_session named;
+    struct context trial;
+    if (kr_name_session(&named, name) < 0 || context_fork(&trial, &user->context) < 0) return NULL;
+    struct session *session = join(&trial, user, named.name, begun);
+    if (session && !name && set_mask(session, MASK_WITHOUT_NAME) < 0) session = NULL;
+    if (session && !session_enter_by_name(context, user, session)) {
+        *is_lost = true;
+        errno = EKEYREVOKED;
+        session = NULL;
+    }
+    context_end(&trial);
+    return session;
 }
 
 int session_enter(struct context *made, struct user *user, const struct session *session, bool *is_lost) {

@@ -156,10 +156,10 @@ unsigned sessions_count(uint32_t uid, unsigned age);
 struct session *session_use(struct session *session);
 void session_let_go(struct session *session);
 
-/* Joins the session of this name in the context of this identity, or one of its own for NULL: NULL with errno, EACCES
- * where the keyring of that name is another user's. Then the context may have ended. */
-struct session *session_join(struct context *context, struct user *user, const char *name,
-                             const struct admission_process *begun);
+/* Has the context of this identity join the session of this name, or one of its own for NULL: NULL with errno, EACCES
+ * where the keyring of that name is another user's. What is lost then has an empty keyring as its session. */
+struct session *session_join(const struct context *context, struct user *user, const char *name,
+                             const struct admission_process *begun, bool *is_lost);
 
 /* Makes a context of this identity in a session, in none for NULL: 0, with whether the session is lost to it; -1 with
  * errno. What is lost has an empty keyring as its session. */

@@ -201,7 +201,7 @@ static struct seat *note_joined(struct seat *seat, struct session *session) {
 int32_t caller_join(struct caller *caller, const char *name) {
     struct seat *seat = caller->seat;
     if (!seats_may_have_more(seat->user)) return -1;
-    struct session *session = session_join(&seat->context, seat->user, name, &all.asker.process);
+    struct session *session = session_join(&seat->context, seat->user, name, &all.asker.process, &seat->is_lost);
     if (!session) return -1;
     int32_t serial = session->serial;
     caller->seat = note_joined(seat, session);

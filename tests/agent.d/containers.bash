@@ -60,8 +60,15 @@ try_other_namespace() {
   first=$(pgrep -P "$apart")
   says 'a process that is not in its PID namespace' 'ENOSYS ' contain c --pid "$first" -- "$dir/calls" add k v @s
   says 'one that is' 'ok v ' contain c --pid "$first" -- nsenter -t "$first" -p "$dir/calls" add k v @s print k
-  kill "$apart"
+  unshare --mount sleep 100 &
+  first=$!
+  until_true grep -qx sleep "/proc/$first/comm"
+  says "one that is not in its mount namespace, where its PIDs are the host's" 'ENOSYS ' \
+    contain d --pid "$first" -- "$dir/calls" add k v @s
+  says 'one that is in that' 'ok v ' contain d --pid "$first" -- nsenter -t "$first" -m "$dir/calls" add k v @s print k
+  kill -KILL "$apart" "$first"
   finish "$apart"
+  finish "$first"
 }
 
 # session_of COMMAND ..: what the command says of a session, without its mask

@@ -106,7 +106,7 @@ conclude() {
 until_true() {
   local end=$((SECONDS + patience))
   until "$@"; do
-    [ "$SECONDS" -le "$end" ] || return 1
+    [ "$SECONDS" -le "$end" ] || { echo "waited $patience seconds in vain: $*"; return 1; }
     sleep "$step"
   done
 }
