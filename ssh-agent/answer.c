@@ -24,20 +24,20 @@ static int32_t head, keyring;
 static unsigned char payload[PAYLOAD_MOST], made_lock[SALT_SIZE + HASH_SIZE]; /* the second is a lock */
 static int32_t entries[LINKS_MOST];
 
-/* How many links a keyring has, and which. */
-static size_t read_ring(int32_t ring) {
+/* How many links a keyring has, and which; -1 with errno. */
+static int64_t read_ring(int32_t ring) {
     int64_t length = kr_read(connection, context, ring, entries, sizeof entries);
-    return length > 0 && length <= (int64_t)sizeof entries ? (size_t)length / sizeof *entries : 0;
+    return length < 0 || length > (int64_t)sizeof entries ? -1 : length / (int64_t)sizeof *entries;
 }
 
 /* 0 where its user has none there, and -1 where the daemon doesn't tell. Who possesses another user's would possess
  * private keys. One that isn't linked there itself is the user keyring's, which sessions link. */
 static int32_t find_ring(void) {
     int32_t found = kr_find_own(connection, context, head, "keyring", ring_name);
-    if (found < 0) return kr_found_none() ? 0 : found;
-    for (size_t all = read_ring(head), i = 0; i < all; i++)
+    int64_t all = found < 0 ? -1 : read_ring(head);
+    for (int64_t i = 0; i < all; i++)
         if (entries[i] == found) return found;
-    return 0;
+    return all >= 0 || kr_found_none() ? 0 : -1;
 }
 
 int open_ring(void) {
@@ -104,9 +104,9 @@ static bool drop_entry(int32_t entry) { return entry > 0 && kr_invalidate(connec
 static bool is_locked(void) { return find_entry(lock_name) > 0 || errno != ENOKEY; }
 
 /* Takes out those whose time is over, which the daemon would keep in memory. How many are left. */
-static size_t sweep(void) {
-    size_t all = keyring > 0 ? read_ring(keyring) : 0, left = all;
-    for (size_t i = 0; i < all; i++)
+static int64_t sweep(void) {
+    int64_t all = keyring > 0 ? read_ring(keyring) : 0, left = all;
+    for (int64_t i = 0; i < all; i++)
         if (kr_read(connection, context, entries[i], NULL, 0) < 0 && errno == EKEYEXPIRED)
             left -= kr_unlink(connection, context, entries[i], keyring) == 0;
     return left;
@@ -148,11 +148,13 @@ static struct bytes shown(struct bytes comment) {
 
 /* As many as there is room for, so that nobody's keys hide all. */
 static void put_identities(struct writer *reply) {
-    size_t all = keyring > 0 && !is_locked() ? read_ring(keyring) : 0, count = 0, counted = reply->length + BYTE;
+    int64_t all = keyring > 0 && !is_locked() ? read_ring(keyring) : 0;
+    size_t count = 0, counted = reply->length + BYTE;
+    reply->is_bad |= all < 0;
     struct key key;
     put_number(reply, IDENTITIES_ANSWER, BYTE);
     put_number(reply, 0, NUMBER);
-    for (size_t i = 0; i < all; i++) {
+    for (int64_t i = 0; i < all; i++) {
         if (!read_added(read_entry(entries[i]), &key)) continue;
         size_t begin = reply->length;
         put_number(reply, 0, NUMBER);

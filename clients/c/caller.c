@@ -204,10 +204,11 @@ static bool is_one_thread(void) {
     return __libc_single_threaded || (stat("/proc/self/task", &status) == 0 && status.st_nlink == 3);
 }
 
-/* Enters a session that was made just now. EKEYREVOKED where it is gone again. */
+/* Enters a session that was made just now. EKEYREVOKED where it is gone again. A JOIN that isn't answered in time may
+ * be carried out yet, with whatever keyring has the name then. */
 static int enter_made(struct seat *seat, struct thread_context *context, const struct kr_session *session) {
     int entered = kr_enter_named(seat->connection, context->number, session, seat->identity.uid);
-    if (entered >= 0) context->lost_session = entered == 1;
+    if (entered >= 0 || errno == ETIMEDOUT) context->lost_session = entered != 0;
     if (entered == 1) errno = EKEYREVOKED;
     return entered == 0 ? 0 : -1;
 }
@@ -233,6 +234,13 @@ static int export_and_enter(struct seat *seat, const struct kr_session *session)
     return entered;
 }
 
+/* To the session of before, where there is one; errno stays. */
+static void go_back(struct seat *seat) {
+    struct kr_session before;
+    ERRNO_STAYS;
+    if (seats_session(&before) && before.serial != 0) enter_for_all(seat, &before);
+}
+
 /* The session of the process: a keeper makes and holds it, and then its contexts enter it. What the process executes
  * joins it by the environment's word. */
 static int become_session(struct caller *caller, struct kr_session *session) {
@@ -242,7 +250,7 @@ static int become_session(struct caller *caller, struct kr_session *session) {
     if (kr_start_keeper(&holder, session, caller->connection->address.sun_path, false, caller->deadline, &why) < 0)
         return why == KR_REFUSED ? -1 : set_no_daemon();
     int entered = is_one_thread() ? export_and_enter(seat, session) : enter_for_all(seat, session);
-    if (entered < 0) return kr_close_file(&holder), -1;
+    if (entered < 0) return go_back(seat), kr_close_file(&holder), -1;
     if (is_one_thread()) kr_export_holder(&holder, session);
     seats_set_session(session, &holder);
     seat->is_kept = true;

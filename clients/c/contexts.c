@@ -7,7 +7,11 @@
 #define KEYRETAIN_READS 15000000
 #endif
 
-enum { CALL_MILLISECONDS = 30000, OPENING_MILLISECONDS = 10000 };
+#ifndef KEYRETAIN_CALL_MILLISECONDS
+#define KEYRETAIN_CALL_MILLISECONDS 30000
+#endif
+
+enum { CALL_MILLISECONDS = KEYRETAIN_CALL_MILLISECONDS, OPENING_MILLISECONDS = 10000 };
 
 /* So many contexts of identities, and with sessions so many that last, may be on one connection: the rest is for
  * processes that ask. All wait while a further connection is opened, so one that fails isn't tried again at once. */

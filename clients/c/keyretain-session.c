@@ -67,7 +67,7 @@ static const char *advice(int status, int error, const char *what) {
     if (status == REFUSED && error == EDQUOT)
         return "keyretain-guard has no place left for this user: end other clients, or raise --per-uid";
     if (status == REFUSED && error == EKEYREVOKED)
-        return "the daemon was started anew, or nothing holds it, or it is another user's: begin one by keyretain-session "
+        return "the daemon was started anew, nothing holds it, or it is another user's: begin one by keyretain-session "
                "or a new login";
     return NULL;
 }

@@ -96,7 +96,7 @@ int32_t kr_find_own(struct kr *connection, uint32_t context, int32_t head, const
     unsigned owner;
     int32_t key = kr_search(connection, context, head, type, name, 0);
     if (key < 0) return -1;
-    kr_describe(connection, context, key, text, sizeof text - 1);
+    if (kr_describe(connection, context, key, text, sizeof text - 1) < 0) return -1;
     errno = ENOKEY;
     return sscanf(text, "%*[^;];%u;", &owner) == 1 && owner == geteuid() ? key : -1;
 }

@@ -74,20 +74,22 @@ static int set_mask(const struct session *session, unsigned mask) {
 }
 
 /* The user of the session may search it by its name for the time of one ask. What was found must be that session; else
- * the context leaves what it has joined. */
-bool session_enter_by_name(const struct context *context, const struct user *user, const struct session *session) {
+ * the context leaves what it has joined, or may join yet: asks that weren't answered in time are carried out, in their
+ * order. */
+bool session_enter_by_name(struct context *context, const struct user *user, const struct session *session) {
     struct kr *connection = context_connection(context);
     struct kr_attributes attributes;
     if (!connection || user->identity.uid != session->user->identity.uid ||
         !read_own(&session->holder, session->serial, user->identity.uid, &attributes))
         return false;
     bool may_search = attributes.mask & KR_USER_MAY_SEARCH;
-    if (!may_search && set_mask(session, attributes.mask | KR_USER_MAY_SEARCH) < 0) return false;
-    int32_t joined = kr_join(connection, context->number, session->name);
+    bool is_open = may_search || set_mask(session, attributes.mask | KR_USER_MAY_SEARCH) == 0;
+    int32_t joined = is_open ? kr_join(connection, context->number, session->name) : session->serial;
+    int error = is_open && joined >= 0 ? EACCES : errno;
     if (!may_search) set_mask(session, attributes.mask);
-    if (joined == session->serial) return true;
-    session_leave(context);
-    return false;
+    if (joined != session->serial && session_leave(context) < 0) context_end(context);
+    errno = error;
+    return is_open && joined == session->serial;
 }
 
 /* What a context joins by a name, where that is this user's; NULL with errno. */
@@ -108,20 +110,16 @@ static struct session *join(const struct context *context, struct user *user, co
 /* One without a name gets one that nobody can guess, by which other identities of its uid come in, and is its user's to
  * link only from within, as the kernel's is. It is joined in a trial first, so that a refusal changes nothing: another
  * user may have made a keyring of the name, and opened it. */
-struct session *session_join(const struct context *context, struct user *user, const char *name,
-                             const struct admission_process *begun, bool *is_lost) {
+struct session *session_join(struct context *context, struct user *user, const char *name,
+                             const struct admission_process *begun, bool *has_left) {
     struct kr_session named;
     struct context trial;
     if (kr_name_session(&named, name) < 0 || context_fork(&trial, &user->context) < 0) return NULL;
     struct session *session = join(&trial, user, named.name, begun);
     if (session && !name && set_mask(session, MASK_WITHOUT_NAME) < 0) session = NULL;
-    if (session && !session_enter_by_name(context, user, session)) {
-        *is_lost = true;
-        errno = EKEYREVOKED;
-        session = NULL;
-    }
+    *has_left = session && !session_enter_by_name(context, user, session);
     context_end(&trial);
-    return session;
+    return *has_left ? NULL : session;
 }
 
 int session_enter(struct context *made, struct user *user, const struct session *session, bool *is_lost) {

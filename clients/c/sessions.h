@@ -157,9 +157,9 @@ struct session *session_use(struct session *session);
 void session_let_go(struct session *session);
 
 /* Has the context of this identity join the session of this name, or one of its own for NULL: NULL with errno, EACCES
- * where the keyring of that name is another user's. What is lost then has an empty keyring as its session. */
-struct session *session_join(const struct context *context, struct user *user, const char *name,
-                             const struct admission_process *begun, bool *is_lost);
+ * where the keyring of that name is another user's. It may have left its session then, for none. */
+struct session *session_join(struct context *context, struct user *user, const char *name,
+                             const struct admission_process *begun, bool *has_left);
 
 /* Makes a context of this identity in a session, in none for NULL: 0, with whether the session is lost to it; -1 with
  * errno. What is lost has an empty keyring as its session. */
@@ -167,7 +167,7 @@ int session_enter(struct context *made, struct user *user, const struct session 
 
 /* Has a context of this identity join a session that another identity of the same uid, or another connection, has:
  * false where the session is lost to it. Its user, and no other, may find it by its name meanwhile. */
-bool session_enter_by_name(const struct context *context, const struct user *user, const struct session *session);
+bool session_enter_by_name(struct context *context, const struct user *user, const struct session *session);
 
 /* Gives a context an empty keyring as its session. -1 with errno. */
 int session_leave(const struct context *context);

@@ -198,10 +198,18 @@ static struct seat *note_joined(struct seat *seat, struct session *session) {
     return FIND_SEAT(task, at, at->has_joined);
 }
 
+/* To the session of before; errno stays. */
+static void go_back(struct seat *seat) {
+    ERRNO_STAYS;
+    if (!seat->session || !session_enter_by_name(&seat->context, seat->user, seat->session)) seat->is_lost = true;
+}
+
 int32_t caller_join(struct caller *caller, const char *name) {
     struct seat *seat = caller->seat;
     if (!seats_may_have_more(seat->user)) return -1;
-    struct session *session = session_join(&seat->context, seat->user, name, &all.asker.process, &seat->is_lost);
+    bool has_left = false;
+    struct session *session = session_join(&seat->context, seat->user, name, &all.asker.process, &has_left);
+    if (has_left) go_back(seat);
     if (!session) return -1;
     int32_t serial = session->serial;
     caller->seat = note_joined(seat, session);

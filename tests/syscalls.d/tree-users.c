@@ -509,6 +509,17 @@ static int print_whose(void) {
     return printf("%s %u\n", name, owner) < 0;
 }
 
+/* Joins a session that isn't joined in time, and tells whether it is in another user's then. */
+static int join_too_late(const char *name) {
+    char text[4200] = "";
+    unsigned owner = getuid();
+    const char *refusal = join(name) < 0 ? strerrorname_np(errno) : "joined";
+    sleep(3);
+    keyctl(KEYCTL_DESCRIBE, (unsigned long)(long)KEY_SPEC_SESSION_KEYRING, (unsigned long)text, sizeof text - 1, 0);
+    sscanf(text, "keyring;%u", &owner);
+    return printf("%s, %s\n", refusal, owner == getuid() ? "in no other" : "in another user's") < 0;
+}
+
 /* Executes words in a session of its own. */
 static int execute_in_session(char **words) {
     if (join(NULL) > 0) execvp(*words, words);
@@ -543,6 +554,7 @@ int users_modes(const char *mode, int many, int count, char **words) {
     if (strcmp(mode, "taken") == 0 && count > 4) return take_name(words[2], (uid_t)atol(words[3]), words + 4);
     if (strcmp(mode, "mask") == 0) return print_mask();
     if (strcmp(mode, "whose") == 0) return print_whose();
+    if (strcmp(mode, "joins-late") == 0 && count == 3) return join_too_late(words[2]);
     if (strcmp(mode, "joining") == 0 && count > 2) return execute_in_session(words + 2);
     return -1;
 }

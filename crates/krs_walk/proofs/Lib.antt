@@ -11,6 +11,7 @@ pub mod EndsLemmas
 pub mod HintLemmas
 pub mod RoundsLemmas
 pub mod HeldLemmas
+pub mod MatchesLemmas
 pub mod SoughtLemmas
 pub mod SearchLemmas
 pub mod VisitingLemmas

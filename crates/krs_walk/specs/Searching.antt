@@ -1,11 +1,13 @@
 -- What the search goes by, over the keys of the definitions.
-use Rattle.std.specs.Prelude.{[], ◌-◌, ◌∷◌, ◌≡◌, ◌≤◌, Bool, Err, filter, flat_map, length, List, Ok, Result, suc, take}
-use Rattle.std.specs.Prelude.{ℕ}
-use Rattle.krs_types.specs.declared.errno.Errno.{Errno}
-use Rattle.krs_model.specs.{Levels.{level, levels, search_depth}, Possession.attached_with, Reach.is_ring}
-use Rattle.krs_model.specs.{Search.{entered, or_next, searched, Searcher, searcher_with, sought}, Table.at}
-use Rattle.krs_keys.specs.Keys.{shown}
-use Rattle.krs_walk.specs.{Lists.join, Walks.followed_rings, declared.{held.HeldRings.HeldRings, search.Search.Search}}
+use Rattle.std.specs.Prelude.{[], ◌-◌, ◌∷◌, ◌≡◌, ◌≤◌, Bool, Err, false, filter, flat_map, if◌then◌else◌, length, List}
+use Rattle.std.specs.Prelude.{None, Ok, Option, option_to_list, Result, Some, suc, take, true, ℕ}
+use Rattle.krs_types.specs.declared.{caller.Caller.Caller, errno.Errno.Errno, name.Name.Name}
+use Rattle.krs_model.specs.{Levels.{is_in, level, levels, search_depth}, Possession.{attached_with, is_followed}}
+use Rattle.krs_model.specs.{Reach.is_ring, Search.{entered, or_next, searched, Searcher, searcher_with, sought}, Table.at}
+use Rattle.krs_links.specs.Links.{serial_named}
+use Rattle.krs_keys.specs.{Keys.{name_at, named_links_of_content, seen, shown}, declared.key.Key.Key}
+use Rattle.krs_walk.specs.{Lists.join, Walks.{followed_rings, is_linked}}
+use Rattle.krs_walk.specs.declared.{held.HeldRings.HeldRings, possessed.Possessed.Possessed, search.Search.Search}
 
 -- the context that searches
 abbrev pub searcher_for : Search → Searcher
@@ -63,6 +65,35 @@ pub record AreHeld (s : Search) (h : HeldRings) : Type 0 where
   pub within : h.start ≤ length h.seen
   pub walked : h.seen ≡ join [] (held_to s h.levels)
   pub before : take h.start h.seen ≡ join [] (held_to s (h.levels - 1))
+
+-- before this place are the keyrings whose links are possessed
+pub record AreFirst (s : Search) (place : ℕ) (rings : List ℕ) : Type 0 where
+  pub within : place ≤ length rings
+  pub whole : take place rings ≡ join [] (held_to s search_depth)
+
+-- the key of a name that a key links, where its possessor follows that
+abbrev pub match_followed : ℕ → Caller → Name → Option Key → Option ℕ
+match_followed clock caller name None = None
+match_followed clock caller name (Some key) =
+    if is_followed clock caller (seen key) then serial_named (named_links_of_content key.content) name else None
+
+-- the one of the search's name that a keyring links so
+abbrev pub match_by : Search → ℕ → Option ℕ
+match_by s ring = match_followed s.clock s.context.now.caller s.name.now (at s.keys.now.keys ring)
+
+abbrev pub matches_by : Search → ℕ → List ℕ
+matches_by s ring = option_to_list (match_by s ring)
+
+-- of the keys of the name these are linked by followed keyrings
+abbrev pub AreMatches : Search → List ℕ → Type 0
+AreMatches s found = (serial : ℕ) → name_at s.keys.now.keys serial ≡ Some s.name.now →
+    is_in serial found ≡ is_linked (shown s.keys.now.keys) s.clock s.context.now s.process_ring serial
+
+-- the keyrings that are possessed as far as they were walked, and once that was asked, the keys of the name
+pub record ArePossessed (s : Search) (p : Possessed) : Type 0 where
+  pub rings : AreHeld s p.rings
+  pub before : p.is_asked ≡ false → p.matches ≡ []
+  pub asked : p.is_asked ≡ true → AreMatches s p.matches
 
 -- where there is no answer these have joined the list of a walk
 abbrev pub Joins : Result ℕ Errno → List ℕ → List ℕ → List ℕ → Type 0

@@ -1,7 +1,7 @@
-ghost use Rattle.std.specs.Prelude.{[], ◌+◌, ◌≡◌, ◌≤◌, IfOk, OnOk, true};
+ghost use Rattle.std.specs.Prelude.{[], ◌+◌, ◌≡◌, ◌≤◌, flat_map, IfOk, length, OnOk, take, true};
 ghost use Rattle.krs_model.specs.{Levels.search_depth, Reach.is_ring, Table.at};
 ghost use Rattle.krs_keys.specs.Keys.{AreFit, OnlyRingsLink, shown};
-ghost use Rattle.krs_walk.specs.Searching.{AreHeld, is_held};
+ghost use Rattle.krs_walk.specs.{Lists.join, Searching.{AreFirst, AreHeld, is_held, matches_by}};
 ghost use Rattle.krs_walk.specs.declared.search.Search as search;
 
 use crate::Visits;
@@ -56,6 +56,41 @@ impl HeldRings {
             self.walk_on(search)?;
         }
         Ok(true)
+    }
+
+    /// Walks all levels whose links are possessed, and gives the place where they end.
+    pub(crate) fn walk_all(&mut self, search: &Search<'_>) -> Result<usize, NoRoom>
+        requires fit { AreFit search.now.keys.now.keys }
+        requires held { AreHeld search.now self.old }
+        ensures held { OnOk result (AreHeld search.now self.new) }
+        ensures end { IfOk result (λ end. AreFirst search.now end self.new.seen) }
+    {
+        'walk: while self.levels < SEARCH_DEPTH {
+            self.walk_on(search)?;
+        }
+        if self.levels > SEARCH_DEPTH {
+            Ok(self.start)
+        } else {
+            Ok(self.seen.len())
+        }
+    }
+
+    /// The keys of the name that keyrings before a place link join a list.
+    pub(crate) fn join_matches(
+        &self,
+        search: &Search<'_>,
+        end: usize,
+        matches: &mut Visits,
+    ) -> Result<(), NoRoom>
+        requires { end ≤ length self.now.seen }
+        ensures { OnOk result (matches.new ≡ join matches.old
+            (flat_map (matches_by search.now) (take end self.now.seen))) }
+    {
+        for place in 0..end {
+            let here = self.seen.at(place);
+            matches.join_one(search.match_in(here))?;
+        }
+        Ok(())
     }
 
     /// Joins one level more.

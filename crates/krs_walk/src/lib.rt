@@ -12,6 +12,7 @@ mod held;
 mod hints;
 mod judging;
 mod keyrings;
+mod possessed;
 mod possession;
 mod search;
 mod visits;

@@ -4,13 +4,13 @@ ghost use Rattle.krs_model.specs.{Search.{found_by, found_with, is_open, or_next
 ghost use Rattle.krs_links.specs.Links.{nested, serials};
 ghost use Rattle.krs_keys.specs.Changes.{links_some};
 ghost use Rattle.krs_keys.specs.Keys.{AreFit, AreNamed, name_at, named_links_of_content, OnlyRingsLink, seen, shown};
-ghost use Rattle.krs_walk.specs.Searching.{AreHeld, entered_links, entered_links_of, Joins, rings_by, rings_from};
+ghost use Rattle.krs_walk.specs.Searching.{ArePossessed, entered_links, entered_links_of, Joins, rings_by, rings_from};
 ghost use Rattle.krs_walk.specs.Searching.{searched_from, searcher_for, sought_behind, sought_in};
 ghost use Rattle.krs_types.specs.declared.errno.Errno as errno;
 
-use crate::held::HeldRings;
 use crate::judging::weightier;
 use crate::keyrings::rings_in;
+use crate::possessed::Possessed;
 use crate::visits::NoRoom;
 use crate::{Visits, Walker};
 use krs_keys::{Content, Key, KeyTable};
@@ -158,17 +158,19 @@ impl Search<'_> {
     {
         let walker = self.walker;
         let mut seen = walker.take(&walker.rings);
-        let mut held = HeldRings::new(walker.take(&walker.held));
+        let mut held = Possessed::new(walker.take(&walker.held), walker.take(&walker.followed));
         let found = self.walk_below(&mut held, &mut seen, head, rings, fault);
         walker.rings.set(seen);
-        walker.held.set(held.into_list());
+        let (rings, matches) = held.into_lists();
+        walker.held.set(rings);
+        walker.followed.set(matches);
         found
     }
 
     /// The same, with an empty list for the keyrings that it enters.
     fn walk_below(
         &self,
-        held: &mut HeldRings,
+        held: &mut Possessed,
         seen: &mut Visits,
         head: Serial,
         rings: &[Serial],
@@ -176,7 +178,7 @@ impl Search<'_> {
     ) -> Result<Result<Serial, Errno>, NoRoom>
         requires fit { AreFit self.now.keys.now.keys }
         requires only { OnlyRingsLink (shown self.now.keys.now.keys) }
-        requires held { AreHeld self.now held.old }
+        requires held { ArePossessed self.now held.old }
         requires seen { seen.old ≡ [] }
         requires rings { rings.now ≡ rings_by self.now head }
         requires passed { (before : errno.Errno) × ((sought_in self.now (head ∷ []) ≡ Err before)
@@ -203,16 +205,16 @@ impl Search<'_> {
     /// they link join the list.
     fn visit_level(
         &self,
-        held: &mut HeldRings,
+        held: &mut Possessed,
         seen: &mut Visits,
         start: usize,
         fault: Errno,
     ) -> Result<Result<Serial, Errno>, NoRoom>
         requires fit { AreFit self.now.keys.now.keys }
         requires only { OnlyRingsLink (shown self.now.keys.now.keys) }
-        requires held { AreHeld self.now held.old }
+        requires held { ArePossessed self.now held.old }
         requires start { start ≤ length seen.old }
-        ensures held { OnOk result (AreHeld self.now held.new) }
+        ensures held { OnOk result (ArePossessed self.now held.new) }
         ensures sought { IfOk result (λ r. r ≡
             sought_behind self.now fault (entered_links_of self.now (drop start seen.old))) }
         ensures joined { IfOk result (λ r.
@@ -234,15 +236,15 @@ impl Search<'_> {
     /// list.
     fn visit(
         &self,
-        held: &mut HeldRings,
+        held: &mut Possessed,
         seen: &mut Visits,
         ring: Serial,
         fault: Errno,
     ) -> Result<Result<Serial, Errno>, NoRoom>
         requires fit { AreFit self.now.keys.now.keys }
         requires only { OnlyRingsLink (shown self.now.keys.now.keys) }
-        requires held { AreHeld self.now held.old }
-        ensures held { OnOk result (AreHeld self.now held.new) }
+        requires held { ArePossessed self.now held.old }
+        ensures held { OnOk result (ArePossessed self.now held.new) }
         ensures sought { IfOk result (λ r. r ≡
             sought_behind self.now fault (entered_links self.now ring)) }
         ensures joined { IfOk result (λ r. Joins r seen.old (rings_by self.now ring) seen.new) }
@@ -253,16 +255,16 @@ impl Search<'_> {
         if !self.enters(held, key, ring)? {
             return Ok(Err(fault));
         }
-        self.examine(seen, &key.content, fault)
+        self.examine(held, seen, &key.content, fault)
     }
 
     /// Whether a keyring is entered, and links something.
-    fn enters(&self, held: &mut HeldRings, key: &Key, ring: Serial) -> Result<bool, NoRoom>
+    fn enters(&self, held: &mut Possessed, key: &Key, ring: Serial) -> Result<bool, NoRoom>
         requires fit { AreFit self.now.keys.now.keys }
         requires only { OnlyRingsLink (shown self.now.keys.now.keys) }
-        requires held { AreHeld self.now held.old }
+        requires held { ArePossessed self.now held.old }
         requires key { at self.now.keys.now.keys ring ≡ Some key.now }
-        ensures held { OnOk result (AreHeld self.now held.new) }
+        ensures held { OnOk result (ArePossessed self.now held.new) }
         ensures enters { IfOk result (λ b. b ≡
             (links_some key.now.content && is_open (searcher_for self.now) ring (seen key.now))) }
     {
@@ -273,29 +275,33 @@ impl Search<'_> {
         if granted == self.is_granted(key, true) {
             return Ok(granted);
         }
-        let possessed = held.has(self, ring)?;
+        let possessed = held.rings.has(self, ring)?;
         Ok(self.is_granted(key, possessed))
     }
 
     /// The same of a keyring that is entered.
     fn examine(
         &self,
+        held: &mut Possessed,
         seen: &mut Visits,
         content: &Content,
         fault: Errno,
     ) -> Result<Result<Serial, Errno>, NoRoom>
         requires fit { AreFit self.now.keys.now.keys }
+        requires only { OnlyRingsLink (shown self.now.keys.now.keys) }
         requires named { AreNamed (name_at self.now.keys.now.keys) (named_links_of_content content.now) }
+        requires held { ArePossessed self.now held.old }
+        ensures held { OnOk result (ArePossessed self.now held.new) }
         ensures sought { IfOk result (λ r. r ≡
             sought_behind self.now fault (serials (named_links_of_content content.now))) }
         ensures joined { IfOk result (λ r.
             Joins r seen.old (serials (nested (named_links_of_content content.now))) seen.new) }
     {
-        match self.judge_behind(content, fault) {
+        match self.judge_link_by(held, content)? {
             Ok(serial) => Ok(Ok(serial)),
             Err(more) => {
                 seen.join(rings_in(content))?;
-                Ok(Err(more))
+                Ok(Err(weightier(fault, more)))
             }
         }
     }
