@@ -115,12 +115,21 @@ static int leave_session(struct kr *connection, uint32_t context) {
     return kr_join(connection, context, NULL) < 0 ? -1 : 1;
 }
 
+/* JOIN by name. One that isn't answered in time may be carried out yet, and another user's keyring have the name by
+ * then: behind it the context leaves that. */
+static int32_t join_named(struct kr *connection, uint32_t context, const char *name) {
+    int32_t ring = kr_join(connection, context, name);
+    ERRNO_STAYS;
+    if (ring < 0 && errno == ETIMEDOUT) kr_join(connection, context, NULL);
+    return ring;
+}
+
 /* JOIN by name finds a keyring only where the caller may search it: a new one doesn't let its user do so, as the
  * kernel's doesn't, and would be lost to the next process. So its user is given that right. One of another user, who
  * made it first and open to all, may be found too: what is put into it would be told to that user. */
 int32_t kr_begin_session(struct kr *connection, uint32_t context, const char *name, uint32_t uid) {
     struct kr_attributes attributes;
-    int32_t ring = kr_join(connection, context, name);
+    int32_t ring = join_named(connection, context, name);
     if (ring < 0) return -1;
     int other = check_private(connection, context, ring, uid, &attributes);
     if (other > 0) other = leave_session(connection, context);
@@ -139,7 +148,7 @@ int kr_link_user_keyring(struct kr *connection, uint32_t context) {
  * that JOIN has just made is known by lacking the right to search, without which JOIN would not have found it. */
 int kr_enter_named(struct kr *connection, uint32_t context, const struct kr_session *session, uint32_t uid) {
     struct kr_attributes attributes = { 0 };
-    int32_t ring = kr_join(connection, context, session->name);
+    int32_t ring = join_named(connection, context, session->name);
     if (ring < 0) return -1;
     int other = ring != session->serial ? 1 : check_private(connection, context, ring, uid, &attributes);
     if (other == 0 && !(attributes.mask & KR_USER_MAY_SEARCH)) return 1;

@@ -2,6 +2,7 @@
 joined is found by its name, so a name says which one is meant, and a serial whether it is still the same one."""
 from __future__ import annotations
 
+import contextlib
 import os
 import re
 from typing import TYPE_CHECKING, NamedTuple, Optional, Union
@@ -51,4 +52,8 @@ def enter(client: Client, context: int, session: Session) -> bool:
         client.join(context)
     except Refused:
         pass
+    except TimeoutError:  # the first may be carried out yet, and another user's keyring have the name by then
+        with contextlib.suppress(OSError):
+            client.join(context)
+        raise
     return False
