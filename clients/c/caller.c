@@ -204,11 +204,10 @@ static bool is_one_thread(void) {
     return __libc_single_threaded || (stat("/proc/self/task", &status) == 0 && status.st_nlink == 3);
 }
 
-/* Enters a session that was made just now. EKEYREVOKED where it is gone again. A JOIN that isn't answered in time may
- * be carried out yet, with whatever keyring has the name then. */
+/* Enters a session that was made just now. EKEYREVOKED where it is gone again. */
 static int enter_made(struct seat *seat, struct thread_context *context, const struct kr_session *session) {
     int entered = kr_enter_named(seat->connection, context->number, session, seat->identity.uid);
-    if (entered >= 0 || errno == ETIMEDOUT) context->lost_session = entered != 0;
+    if (entered >= 0) context->lost_session = entered == 1;
     if (entered == 1) errno = EKEYREVOKED;
     return entered == 0 ? 0 : -1;
 }

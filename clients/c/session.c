@@ -110,18 +110,23 @@ static int check_private(struct kr *connection, uint32_t context, int32_t ring, 
     return attributes->owner != uid || attributes->mask & KR_GROUP_AND_OTHERS;
 }
 
-/* Leaves what a context has joined for a keyring of its own. */
+/* Ends a context that is in another user's session, or may be; or else the connection. */
+static int abandon(struct kr *connection, uint32_t context) {
+    ERRNO_STAYS;
+    if (!kr_tell(connection, KR_EXIT, context)) kr_break_off(connection, ECONNRESET);
+    return -1;
+}
+
+/* Leaves what a context has joined for a keyring of its own, for which there may be no memory. */
 static int leave_session(struct kr *connection, uint32_t context) {
-    return kr_join(connection, context, NULL) < 0 ? -1 : 1;
+    return kr_join(connection, context, NULL) < 0 ? abandon(connection, context) : 1;
 }
 
 /* JOIN by name. One that isn't answered in time may be carried out yet, and another user's keyring have the name by
- * then: behind it the context leaves that. */
+ * then. */
 static int32_t join_named(struct kr *connection, uint32_t context, const char *name) {
     int32_t ring = kr_join(connection, context, name);
-    ERRNO_STAYS;
-    if (ring < 0 && errno == ETIMEDOUT) kr_join(connection, context, NULL);
-    return ring;
+    return ring < 0 && errno == ETIMEDOUT ? abandon(connection, context) : ring;
 }
 
 /* JOIN by name finds a keyring only where the caller may search it: a new one doesn't let its user do so, as the

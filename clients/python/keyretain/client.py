@@ -146,7 +146,7 @@ class Client:
         """Joins a session that others hold and that must still be there: SERIAL:NAME, which KEYRETAIN_SESSION says
         where nothing is given. False where the text names none, and where that session was revoked, is gone, is another
         user's, or gives group or others anything: then the context may have a new session keyring, which nobody
-        shares."""
+        shares. Where it raises, the context may have ended."""
         named = parse_session(environment(VARIABLE) if session is None else session)
         return named is not None and enter(self, context, named)
 

@@ -44,16 +44,20 @@ def _is_own(client: Client, context: int, ring: int) -> bool:
 
 
 def enter(client: Client, context: int, session: Session) -> bool:
-    """Client.enter_session, of a session that was read."""
+    """Client.enter_session, of a session that was read. A context ends that may be in another user's: a JOIN that wasn't
+    answered in time may be carried out yet, and for one of its own there may be no memory."""
+    is_refused = True
     try:
         ring = client.join(context, session.name)
-        if ring == session.serial and _is_own(client, context, ring):
-            return True
+        is_refused = False
+        with contextlib.suppress(Refused):
+            if ring == session.serial and _is_own(client, context, ring):
+                return True
         client.join(context)
-    except Refused:
-        pass
-    except TimeoutError:  # the first may be carried out yet, and another user's keyring have the name by then
+    except OSError as error:
+        if is_refused and isinstance(error, Refused):
+            return False
         with contextlib.suppress(OSError):
-            client.join(context)
+            client.exit(context)
         raise
     return False
