@@ -52,8 +52,8 @@ def nest(client):
 
 
 def search():
-    """What a search is refused with that comes to many keys which only their possessor finds. Who searches possesses many
-    keyrings, in none of which they are."""
+    """What a search is refused with that comes to many keys which only their possessor finds. Who searches possesses
+    many keyrings, in none of which they are."""
     owner, searcher = Client(1000), Client(1000)
     head, own = (it.keyring("head", keyretain.THREAD) for it in (owner, searcher))
     rings = owner.many("ADD", [(b"keyring", b"%d" % it, b"", head) for it in range(MATCHES)])

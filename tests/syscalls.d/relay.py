@@ -1,5 +1,5 @@
 """relay.py PATH DAEMON [NAME UID]: passes on what comes at PATH to a daemon, and its replies, as a guard does. Another
-user has made a keyring of that name, opens it as the name is told for the second time, and that ask is passed on late."""
+user has made a keyring of that name, and opens it as the name is told again. That ask is passed on late."""
 import os
 import socket
 import sys

@@ -44,8 +44,8 @@ def _is_own(client: Client, context: int, ring: int) -> bool:
 
 
 def enter(client: Client, context: int, session: Session) -> bool:
-    """Client.enter_session, of a session that was read. A context ends that may be in another user's: a JOIN that wasn't
-    answered in time may be carried out yet, and for one of its own there may be no memory."""
+    """Client.enter_session, of a session that was read. A context ends that may be in another user's: a JOIN that
+    wasn't answered in time may be carried out yet, and for one of its own there may be no memory."""
     is_refused = True
     try:
         ring = client.join(context, session.name)

@@ -1,6 +1,7 @@
 -- The keys of a name that possessed keyrings link.
-use Rattle.std.proofs.Common.{[], ◌++◌, ◌+◌, ◌<◌, ◌==◌, ◌||◌, ◌∙◌, ◌∷◌, ◌≡◌, ap, append-nil, Bool, cond, false, flat_map, get_or}
-use Rattle.std.proofs.Common.{length, List, None, Option, option_to_list, refl, Some, sym, take, true, ℕ}
+use Rattle.std.proofs.Common.{[], ◌++◌, ◌+◌, ◌<◌, ◌==◌, ◌||◌, ◌∙◌, ◌∷◌, ◌≡◌, ap, append-nil, Bool, cond, false}
+use Rattle.std.proofs.Common.{flat_map, get_or, length, List, None, Option, option_to_list, refl, Some, sym, take}
+use Rattle.std.proofs.Common.{true, ℕ}
 use Rattle.std.specs.List.{list_any}
 use Rattle.std.proofs.lemmas.{Grind.flat_map-append, List.take_more}
 use Rattle.krs_types.specs.declared.{caller.Caller.Caller, name.Name.Name}

@@ -3,7 +3,8 @@ use Rattle.std.specs.Prelude.{[], ◌-◌, ◌∷◌, ◌≡◌, ◌≤◌, Bool
 use Rattle.std.specs.Prelude.{None, Ok, Option, option_to_list, Result, Some, suc, take, true, ℕ}
 use Rattle.krs_types.specs.declared.{caller.Caller.Caller, errno.Errno.Errno, name.Name.Name}
 use Rattle.krs_model.specs.{Levels.{is_in, level, levels, search_depth}, Possession.{attached_with, is_followed}}
-use Rattle.krs_model.specs.{Reach.is_ring, Search.{entered, or_next, searched, Searcher, searcher_with, sought}, Table.at}
+use Rattle.krs_model.specs.Search.{entered, or_next, searched, Searcher, searcher_with, sought}
+use Rattle.krs_model.specs.{Reach.is_ring, Table.at}
 use Rattle.krs_links.specs.Links.{serial_named}
 use Rattle.krs_keys.specs.{Keys.{name_at, named_links_of_content, seen, shown}, declared.key.Key.Key}
 use Rattle.krs_walk.specs.{Lists.join, Walks.{followed_rings, is_linked}}
