@@ -44,8 +44,8 @@ def _is_own(client: Client, context: int, ring: int) -> bool:
 
 
 def enter(client: Client, context: int, session: Session) -> bool:
-    """Client.enter_session, of a session that was read. A context ends that may be in another user's: a JOIN that
-    wasn't answered in time may be carried out yet, and for one of its own there may be no memory."""
+    """Client.enter_session, of a session that was read. A context ends that may be in another user's: a JOIN whose
+    answer isn't awaited any more may be carried out yet, and for one of its own there may be no memory."""
     is_refused = True
     try:
         ring = client.join(context, session.name)
@@ -54,7 +54,7 @@ def enter(client: Client, context: int, session: Session) -> bool:
             if ring == session.serial and _is_own(client, context, ring):
                 return True
         client.join(context)
-    except OSError as error:
+    except (OSError, KeyboardInterrupt) as error:
         if is_refused and isinstance(error, Refused):
             return False
         with contextlib.suppress(OSError):
