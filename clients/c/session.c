@@ -122,8 +122,8 @@ static int leave_session(struct kr *connection, uint32_t context) {
     return kr_join(connection, context, NULL) < 0 ? abandon(connection, context) : 1;
 }
 
-/* JOIN by name. One whose answer isn't awaited any more may be carried out yet, and another user's keyring have the name
- * by then. */
+/* JOIN by name. One whose answer isn't awaited any more may be carried out yet, and another user's keyring have the
+ * name by then. */
 static int32_t join_named(struct kr *connection, uint32_t context, const char *name) {
     int32_t ring = kr_join(connection, context, name);
     return ring < 0 && (errno == ETIMEDOUT || errno == EINTR) ? abandon(connection, context) : ring;
