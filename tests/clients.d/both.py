@@ -5,8 +5,7 @@ import errno
 import sys
 import time
 
-from compare import compare, conclude
-import keyretain
+from servers import compare, conclude, keyretain, number, outcome, reply, served
 from keyretain import Loss, Note, Removal
 
 ALL = 0x3F3F3F3F
@@ -24,12 +23,12 @@ def answer(run, *words):
 class Library:
     """A connection of libkeyretain. A refused call answers the name of its error."""
 
-    def __init__(self):
+    def __init__(self, path=sys.argv[1]):
         self.library = ctypes.CDLL(sys.argv[2], use_errno=True)
         self.library.kr_open.restype = ctypes.c_void_p
         for name in (it for it, ask in keyretain.ASKS.items() if ask.answer in ("number", "bytes")):
             getattr(self.library, f"kr_{name.lower()}").restype = ctypes.c_int64
-        self.connection = ctypes.c_void_p(self.library.kr_open(sys.argv[1].encode()))
+        self.connection = ctypes.c_void_p(self.library.kr_open(path.encode()))
 
     def ask(self, name, *words):
         """kr_NAME. Texts are bytes, numbers are of 32 bits."""
@@ -165,12 +164,40 @@ def try_python_ends(python, shared):
     c.close()
 
 
+def try_unanswered():
+    """A JOIN by a name that isn't answered in time may be carried out yet, when another user's keyring has the name: so
+    its context ends."""
+    def serve(end):
+        for tag, name, _ in end.asks():
+            asked.append(name)
+            if name == "HELLO":
+                end.socket.sendall(reply(tag, number(1)))
+
+    def by_library(path):
+        c = Library(path)
+        c.library.kr_set_patience(c.connection, 300)
+        c.ask("hello", 1000, 1000, 0, None)
+        return c.ask("enter_session", 1, b"5:work"), c.close()
+
+    def by_python(path):
+        with keyretain.Client(path, timeout=0.3) as client:
+            return (outcome(client.enter_session, client.hello(1000, 1000), "5:work"),)
+
+    for run, refused in (by_library, "ETIMEDOUT"), (by_python, "TimeoutError"):
+        asked = []
+        with served(serve) as path:
+            compare(f"a session that isn't entered in time: {run.__name__}", refused, run(path)[0])
+            time.sleep(0.2)
+            compare(f"what was asked: {run.__name__}", ["HELLO", "JOIN", "EXIT"], asked)
+
+
 def main():
     c, python = Library(), keyretain.Client(sys.argv[1], timeout=20)
     own, other = c.ask("hello", 1000, 1000, 0, None), python.hello(1000, 1000)
     try_notes(c, python, own, other, *try_keys(c, python, own, other))
     try_filters(c, python, own, other)
     try_python_ends(python, try_ends(c, python, own, other))
+    try_unanswered()
     conclude()
 
 
