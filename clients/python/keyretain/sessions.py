@@ -54,7 +54,7 @@ def enter(client: Client, context: int, session: Session) -> bool:
             if ring == session.serial and _is_own(client, context, ring):
                 return True
         client.join(context)
-    except (OSError, KeyboardInterrupt) as error:
+    except BaseException as error:  # a signal's handler may raise any
         if is_refused and isinstance(error, Refused):
             return False
         with contextlib.suppress(OSError):
