@@ -170,6 +170,7 @@ static int send_ahead(struct kr *connection, const struct kr_ask_form *form, uin
 }
 
 bool kr_tell(struct kr *connection, enum kr_operation operation, uint32_t context) {
+    UNCANCELLED;
     uint64_t before = connection->asked;
     send_ahead(connection, kr_ask_form(operation), context, NULL);
     connection->given_up = connection->asked;
