@@ -6,7 +6,7 @@ import time
 from collections.abc import Iterator
 from typing import Any, Optional, Sequence, Union, cast
 
-from .connection import Connection, Deadline, wipe
+from .connection import Asked, Connection, Deadline, wipe
 from .errors import Malformed, Refused
 from .frames import LEAVE_AS_IT_IS, Answer, Bytes, Reply, Text, answer_of, decode_serials, row
 from .notes import Record, Removal, decode_notes
@@ -38,6 +38,7 @@ class Client:
         self.timeout = timeout
         self._place = place_of(path, trust)
         self._connection = Connection(self._place, Deadline(timeout))
+        self.doubtful: set[int] = set()  # contexts that may be in another user's session: see sessions.enter
 
     @property
     def path(self) -> Path:
@@ -62,7 +63,12 @@ class Client:
         """Sends an ask without waiting for its reply; answers its tag. receive() gives the answers, in order. While it
         waits to write, replies are read and kept. So at most 256 asks may be ahead of receive(), which take 64 MiB at
         worst; then it raises TooFarAhead."""
-        return self._connection.send(name, context, values, True, Deadline(self.timeout)).tag
+        return self._send(name, context, values, True, Deadline(self.timeout)).tag
+
+    def _send(self, name: str, context: int, values: tuple[Any, ...], is_ahead: bool, deadline: Deadline) -> Asked:
+        if context in self.doubtful and name not in ("JOIN", "DESCRIBE", "EXIT"):
+            raise Refused(name, errno.ESRCH)
+        return self._connection.send(name, context, values, is_ahead, deadline)
 
     def receive(self) -> Answer:
         """The answer to the first ask that was sent ahead and has none yet."""
@@ -75,7 +81,7 @@ class Client:
 
     def _exchange(self, name: str, context: int, values: tuple[Any, ...]) -> Reply:
         deadline = Deadline(self.timeout)
-        asked = self._connection.send(name, context, values, False, deadline)
+        asked = self._send(name, context, values, False, deadline)
         return self._connection.reply_to(asked, deadline)
 
     def _answer_of(self, name: str, reply: Reply, room: Optional[memoryview] = None) -> Answer:

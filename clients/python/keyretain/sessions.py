@@ -43,21 +43,27 @@ def _is_own(client: Client, context: int, ring: int) -> bool:
     return bool(mask & USER_MAY_SEARCH) and not mask & GROUP_AND_OTHERS
 
 
-def enter(client: Client, context: int, session: Session) -> bool:
-    """Client.enter_session, of a session that was read. A context ends that may be in another user's: a JOIN whose
-    answer isn't awaited any more may be carried out yet, and for one of its own there may be no memory."""
-    is_refused = True
+def _enter(client: Client, context: int, session: Session) -> bool:
     try:
         ring = client.join(context, session.name)
-        is_refused = False
-        with contextlib.suppress(Refused):
-            if ring == session.serial and _is_own(client, context, ring):
-                return True
-        client.join(context)
-    except BaseException as error:  # a signal's handler may raise any
-        if is_refused and isinstance(error, Refused):
-            return False
+    except Refused:
+        return False
+    with contextlib.suppress(Refused):
+        if ring == session.serial and _is_own(client, context, ring):
+            return True
+    client.join(context)
+    return False
+
+
+def enter(client: Client, context: int, session: Session) -> bool:
+    """Client.enter_session, of a session that was read. A context is used no more that may be in another user's: a JOIN
+    whose answer isn't awaited any more may be carried out yet, and for one of its own there may be no memory."""
+    client.doubtful.add(context)
+    try:
+        is_in = _enter(client, context, session)
+    except BaseException:  # a signal's handler may raise any
         with contextlib.suppress(OSError):
             client.exit(context)
         raise
-    return False
+    client.doubtful.discard(context)
+    return is_in
