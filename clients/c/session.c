@@ -161,6 +161,7 @@ int kr_enter_named(struct kr *connection, uint32_t context, const struct kr_sess
 }
 
 int kr_enter_session(struct kr *connection, uint32_t context, const char *text) {
+    UNCANCELLED;
     struct kr_session session;
     if (!text) text = secure_getenv(KR_SESSION_VARIABLE);
     if (!text || !kr_parse_session(&session, text)) return 0;

@@ -79,7 +79,7 @@ static int set_mask(const struct session *session, unsigned mask) {
 bool session_enter_by_name(struct context *context, const struct user *user, const struct session *session) {
     struct kr *connection = context_connection(context);
     struct kr_attributes attributes;
-    if (!connection || user->identity.uid != session->user->identity.uid ||
+    if (!connection || !*session->name || user->identity.uid != session->user->identity.uid ||
         !read_own(&session->holder, session->serial, user->identity.uid, &attributes))
         return false;
     bool may_search = attributes.mask & KR_USER_MAY_SEARCH;
@@ -107,6 +107,25 @@ static struct session *join(const struct context *context, struct user *user, co
     return NULL;
 }
 
+/* Whether others of its uid may come into a session that this process begins: as its tag would bring it in. */
+static bool is_for_others(const struct admission_process *begun) {
+    struct admission_session told;
+    memset(&told, 0, sizeof told);
+    told.begun = *begun;
+    told.is_there = true;
+    return krs_admission_c_keeps(begun, &told);
+}
+
+/* One for this context alone, as of a set-uid program: JOIN by a name would let its real user link it for some asks. */
+static struct session *begin_alone(struct context *context, struct user *user, const struct admission_process *begun,
+                                   bool *has_left) {
+    struct kr *connection = context_connection(context);
+    int32_t serial = connection ? kr_join(connection, context->number, NULL) : fail_as(ECONNRESET);
+    struct session *session = serial < 0 ? NULL : add_session(context, user, serial, "", begun);
+    *has_left = !session && (serial >= 0 || errno == ETIMEDOUT);
+    return session;
+}
+
 /* One without a name gets one that nobody can guess, by which other identities of its uid come in, and is its user's to
  * link only from within, as the kernel's is. It is joined in a trial first, so that a refusal changes nothing: another
  * user may have made a keyring of the name, and opened it. */
@@ -114,6 +133,7 @@ struct session *session_join(struct context *context, struct user *user, const c
                              const struct admission_process *begun, bool *has_left) {
     struct kr_session named;
     struct context trial;
+    if (!name && !is_for_others(begun)) return begin_alone(context, user, begun, has_left);
     if (kr_name_session(&named, name) < 0 || context_fork(&trial, &user->context) < 0) return NULL;
     struct session *session = join(&trial, user, named.name, begun);
     if (session && !name && set_mask(session, MASK_WITHOUT_NAME) < 0) session = NULL;
