@@ -1,5 +1,5 @@
 // How a piece of the stream is cut into frames.
-ghost use Rattle.std.specs.Prelude.{[], ◌≡◌, ◌≢◌, All, IfErr, IfOk, IsSome};
+ghost use Rattle.std.specs.Prelude.{[], ◌≡◌, ◌≢◌, ◌⊎◌, All, IfErr, IfOk, IsSome};
 ghost use Rattle.krs_wire.specs.{Feeding.{fault_of, Feeds, Refuses}, Frame.bad};
 
 use crate::Keeper;
@@ -33,7 +33,8 @@ impl<S, H, D: Keeper<S, H>> Warned for Lacking<'_, S, H, D> {
 /// Where memory is short already, this session may come to lack all of its reserve as it cuts a piece, and the store
 /// leaves as much. What it lacks already it takes back first, where others have given memory back since.
 fn claim_reserve<H, S, D: Keeper<S, H>>(desk: &D, feed: &mut Feed, lack: &mut Lack)
-    ensures { feed.new ≡ feed.old }
+    ensures feed { feed.new ≡ feed.old }
+    ensures told { (lack.new ≡ lack.old) ⊎ (lack.new ≡ 2097152) }
 {
     if desk.is_short() {
         if feed.lacking() > 0 {

@@ -1,5 +1,5 @@
 // The writing end of a session.
-ghost use Rattle.std.specs.Prelude.{[], ◌++◌, ◌+◌, ◌<◌, ◌≡◌, ◌≢◌, All, OnErr, OnOk, Some, vec_len};
+ghost use Rattle.std.specs.Prelude.{[], ◌++◌, ◌+◌, ◌<◌, ◌≡◌, ◌≢◌, All, OnErr, OnOk, Some, true, vec_len};
 ghost use Rattle.krs_wire.specs.Reply.{reply_frame};
 ghost use Rattle.krs_session.specs.Serving.{MayServe, OnlyWrites, Pending, Stays, Wrote};
 ghost use Rattle.krs_session.specs.Session.{TookFront};
@@ -16,7 +16,9 @@ const FLUSH_SIZE: usize = 65_536;
 const HEAD_SIZE: usize = 16;
 
 /// Whether a reply with a body of so many bytes can be held behind those that are, with no write and no memory taken.
-pub(crate) fn has_room(out: &Vec<u8>, body: usize) -> bool {
+pub(crate) fn has_room(out: &Vec<u8>, body: usize) -> bool
+    ensures { result ≡ true → vec_len out.now + 16 + body < 65536 }
+{
     let size = out.len().saturating_add(HEAD_SIZE).saturating_add(body);
     size < FLUSH_SIZE && size <= out.capacity()
 }
