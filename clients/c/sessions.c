@@ -1,5 +1,5 @@
 /* sessions.c: the sessions of what a supervisor serves. */
-#include "sessions.h"
+#include "entries.h"
 
 #include <sys/random.h>
 
@@ -107,13 +107,15 @@ static struct session *join(const struct context *context, struct user *user, co
     return NULL;
 }
 
-/* Whether others of its uid may come into a session that this process begins: as its tag would bring it in. */
+/* Whether another process of its real uid may come into a session that this one begins. */
 static bool is_for_others(const struct admission_process *begun) {
+    struct admission_process other;
     struct admission_session told;
     memset(&told, 0, sizeof told);
     told.begun = *begun;
     told.is_there = true;
-    return krs_admission_c_keeps(begun, &told);
+    admission_set(&other, begun->uids.real);
+    return krs_admission_c_keeps(&other, &told);
 }
 
 /* One for this context alone, as of a set-uid program: JOIN by a name would let its real user link it for some asks. */
