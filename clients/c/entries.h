@@ -242,8 +242,8 @@ unsigned maps_gid(unsigned gid);
 /* Says what stands for ids that have no number there; and how many uids have one, or 0 where that isn't known. */
 void maps_put(struct admission_process *process);
 
-/* Whether a process is known to be in no PID namespace of the container, nor in one within that: then it is another
- * container's, of the same id. */
+/* Whether a process isn't known to be in the container's PID namespace, nor in one within that, where the container is
+ * told by one: it may be another container's, of the same id. */
 bool maps_are_outside(pid_t process);
 
 /* Whether a thread is in another user namespace: its user keyrings are others. */

@@ -133,14 +133,14 @@ bool maps_are_outside(pid_t process) {
     char name[16];
     snprintf(name, sizeof name, "ns/%s", all.kind ? all.kind : "");
     int next = all.kind ? proc_open_file(process, name, O_RDONLY) : -1;
-    bool is_known = next >= 0, is_within = false;
+    bool is_within = !all.kind;
     while (next >= 0) {
         is_within = fstat(next, &namespace) == 0 && is_same(&namespace, &all.container);
         int around = is_within ? -1 : ioctl(next, NS_GET_PARENT); /* one of mounts has none */
         close(next);
         next = around;
     }
-    return is_known && !is_within;
+    return !is_within;
 }
 
 bool maps_are_others(pid_t thread) {

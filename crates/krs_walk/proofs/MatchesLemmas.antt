@@ -5,13 +5,15 @@ use Rattle.std.proofs.Common.{true, ℕ}
 use Rattle.std.specs.List.{list_any}
 use Rattle.std.proofs.lemmas.{Grind.flat_map-append, List.take_more}
 use Rattle.krs_types.specs.declared.{caller.Caller.Caller, name.Name.Name}
-use Rattle.krs_model.specs.{Levels.{is_in, search_depth}, Possession.{followed_at, is_followed}, Table.{at, Table}}
+use Rattle.krs_model.specs.{Levels.{is_in, search_depth}, Possession.{attached_with, followed_at, is_followed}}
+use Rattle.krs_model.specs.Table.{at, Table}
 use Rattle.krs_links.specs.Links.{serial_named}
-use Rattle.krs_keys.specs.{Keys.{AreFit, name_at, named_links_of_content, seen, shown}, declared.key.Key.Key}
-use Rattle.krs_walk.specs.{Lists.join, Searching.{AreMatches, held_to, match_by, match_followed, matches_by}}
-use Rattle.krs_walk.specs.{Walks.{follows_link_to, is_found}, declared.search.Search.Search}
+use Rattle.krs_keys.specs.Keys.{AreFit, name_at, named_links_of_content, OnlyRingsLink, seen, shown}
+use Rattle.krs_keys.specs.declared.key.Key.{Key}
+use Rattle.krs_walk.specs.{Lists.join, Searching.{AreMatches, held_to, is_held, match_by, match_followed, matches_by}}
+use Rattle.krs_walk.specs.{Walks.{follows_link_to, is_found, is_linked}, declared.search.Search.Search}
 use Rattle.krs_walk.proofs.{HeldLemmas.in_joined, ListsLemmas.{any_join, in_append, join_append}}
-use Rattle.krs_walk.proofs.PossessionLemmas.{followed_absent, followed_there, found_linked}
+use Rattle.krs_walk.proofs.PossessionLemmas.{followed_absent, followed_there, found_linked, possession_splits}
 
 any_same : (p q : ℕ → Bool) (xs : List ℕ) → ((j : ℕ) → p j ≡ q j) → list_any p xs ≡ list_any q xs
 any_same p q [] h = refl
@@ -56,6 +58,15 @@ are_matches s rings found fit whole e = λ serial named.
     ∙ (any_same (λ j. is_in serial (matches_by s j)) links rings (λ ring. in_option serial (match_by s ring)
     ∙ match_links keys s.clock s.context.now.caller s.name.now ring serial (at keys ring) refl fit named)
     ∙ (ap (list_any links) whole ∙ any_join links [] (held_to s search_depth))))
+
+-- besides what is attached, what is linked is possessed
+pub linked_held : (s : Search) (serial : ℕ) → OnlyRingsLink (shown s.keys.now.keys)
+    → is_in serial (attached_with s.context.now s.process_ring) ≡ false
+    → is_linked (shown s.keys.now.keys) s.clock s.context.now s.process_ring serial ≡ is_held s serial
+linked_held s serial only e =
+    let linked = is_linked (shown s.keys.now.keys) s.clock s.context.now s.process_ring serial in
+    sym (possession_splits (shown s.keys.now.keys) s.clock s.context.now s.process_ring serial only
+    ∙ ap (λ b. b || linked) e)
 
 -- one keyring more
 pub matches_more : (f : ℕ → List ℕ) (xs old all next : List ℕ) (place here : ℕ)

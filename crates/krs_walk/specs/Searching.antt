@@ -1,6 +1,6 @@
 -- What the search goes by, over the keys of the definitions.
-use Rattle.std.specs.Prelude.{[], ◌-◌, ◌∷◌, ◌≡◌, ◌≤◌, Bool, Err, false, filter, flat_map, if◌then◌else◌, length, List}
-use Rattle.std.specs.Prelude.{None, Ok, Option, option_to_list, Result, Some, suc, take, true, ℕ}
+use Rattle.std.specs.Prelude.{[], ◌-◌, ◌∷◌, ◌≡◌, ◌≤◌, Bool, Err, filter, flat_map, IfSome, if◌then◌else◌, length, List}
+use Rattle.std.specs.Prelude.{None, Ok, Option, option_to_list, Result, Some, suc, take, ℕ}
 use Rattle.krs_types.specs.declared.{caller.Caller.Caller, errno.Errno.Errno, name.Name.Name}
 use Rattle.krs_model.specs.{Levels.{is_in, level, levels, search_depth}, Possession.{attached_with, is_followed}}
 use Rattle.krs_model.specs.Search.{entered, or_next, searched, Searcher, searcher_with, sought}
@@ -93,8 +93,7 @@ AreMatches s found = (serial : ℕ) → name_at s.keys.now.keys serial ≡ Some 
 -- the keyrings that are possessed as far as they were walked, and once that was asked, the keys of the name
 pub record ArePossessed (s : Search) (p : Possessed) : Type 0 where
   pub rings : AreHeld s p.rings
-  pub before : p.is_asked ≡ false → p.matches ≡ []
-  pub asked : p.is_asked ≡ true → AreMatches s p.matches
+  pub matches : IfSome p.matches (AreMatches s)
 
 -- where there is no answer these have joined the list of a walk
 abbrev pub Joins : Result ℕ Errno → List ℕ → List ℕ → List ℕ → Type 0

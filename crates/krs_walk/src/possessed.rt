@@ -1,6 +1,6 @@
-ghost use Rattle.std.specs.Prelude.{[], ◌≡◌, false, IfOk, OnOk, Some, true};
+ghost use Rattle.std.specs.Prelude.{[], ◌≡◌, IfOk, None, OnOk, Some};
 ghost use Rattle.krs_keys.specs.Keys.{AreFit, name_at, OnlyRingsLink, shown};
-ghost use Rattle.krs_walk.specs.Searching.{ArePossessed, is_held};
+ghost use Rattle.krs_walk.specs.Searching.{AreMatches, ArePossessed, is_held};
 ghost use Rattle.krs_walk.specs.declared.search.Search as search;
 
 use crate::Visits;
@@ -15,26 +15,23 @@ use krs_types::Serial;
 #[derive(Drop)]
 pub(crate) struct Possessed {
     pub(crate) rings: HeldRings,
-    matches: Visits,
-    is_asked: bool,
+    matches: Option<Visits>,
 }
 
 impl Possessed {
-    /// Nothing yet, with empty lists.
-    pub(crate) fn new(rings: Visits, matches: Visits) -> Self
-        requires rings { rings ≡ [] }
-        requires matches { matches ≡ [] }
+    /// Nothing yet, with an empty list.
+    pub(crate) fn new(rings: Visits) -> Self
+        requires { rings ≡ [] }
         ensures { (s : search.Search) → ArePossessed s result }
     {
         Possessed {
             rings: HeldRings::new(rings),
-            matches,
-            is_asked: false,
+            matches: None,
         }
     }
 
     /// Their lists.
-    pub(crate) fn into_lists(self) -> (Visits, Visits) {
+    pub(crate) fn into_lists(self) -> (Visits, Option<Visits>) {
         (self.rings.into_list(), self.matches)
     }
 
@@ -50,23 +47,29 @@ impl Possessed {
         if is_attached(search.context, &search.process_ring, serial) {
             return Ok(true);
         }
-        if !self.is_asked {
-            self.ask(search)?;
+        if let Some(matches) = &self.matches {
+            return Ok(matches.has(serial));
         }
-        Ok(self.matches.has(serial))
+        let matches = self.ask(search)?;
+        let found = matches.has(serial);
+        self.matches = Some(matches);
+        Ok(found)
     }
 
     /// Asks each keyring whose links are possessed which key of the name it links.
-    fn ask(&mut self, search: &Search<'_>) -> Result<(), NoRoom>
+    fn ask(&mut self, search: &Search<'_>) -> Result<Visits, NoRoom>
         requires fit { AreFit search.now.keys.now.keys }
         requires held { ArePossessed search.now self.old }
-        requires anew { self.old.is_asked ≡ false }
         ensures held { OnOk result (ArePossessed search.now self.new) }
-        ensures asked { OnOk result (self.new.is_asked ≡ true) }
+        ensures matches { IfOk result (AreMatches search.now) }
     {
         let end = self.rings.walk_all(search)?;
-        self.rings.join_matches(search, end, &mut self.matches)?;
-        self.is_asked = true;
-        Ok(())
+        let list = &search.walker.followed;
+        let mut matches = search.walker.take(list);
+        if let Err(NoRoom) = self.rings.join_matches(search, end, &mut matches) {
+            list.set(matches);
+            return Err(NoRoom);
+        }
+        Ok(matches)
     }
 }

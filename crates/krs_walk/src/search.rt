@@ -158,12 +158,14 @@ impl Search<'_> {
     {
         let walker = self.walker;
         let mut seen = walker.take(&walker.rings);
-        let mut held = Possessed::new(walker.take(&walker.held), walker.take(&walker.followed));
+        let mut held = Possessed::new(walker.take(&walker.held));
         let found = self.walk_below(&mut held, &mut seen, head, rings, fault);
         walker.rings.set(seen);
         let (rings, matches) = held.into_lists();
         walker.held.set(rings);
-        walker.followed.set(matches);
+        if let Some(matches) = matches {
+            walker.followed.set(matches);
+        }
         found
     }
 
