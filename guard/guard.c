@@ -153,6 +153,7 @@ static void begin(void) {
     open_events();
     fit_descriptors();
     if (!make_links(links, options.connections)) fail("error: threads", NO_SOCKET);
+    errno = EINVAL; /* of a socket that is passed, and none that it takes */
     listener = options.listen_path ? open_listener(options.listen_path, options.mode, DESCRIPTORS_REFUSED)
                                    : take_passed_listener();
     if (listener < 0) fail("error: socket", NO_SOCKET);

@@ -45,6 +45,7 @@ int take_passed_listener(void) {
 /* Whether a socket lies there that nobody listens to, as a process that was killed leaves it. */
 static bool is_stale(const struct sockaddr_un *address) {
     struct stat status;
+    ERRNO_STAYS;
     /* a listener whose queue is full would have a socket that waits wait */
     int probe = socket(AF_UNIX, SOCK_STREAM | SOCK_CLOEXEC | SOCK_NONBLOCK, 0);
     if (probe < 0) return false;
@@ -61,7 +62,7 @@ void refuse_descriptors(int listener) {
 int open_listener(const char *path, unsigned mode, enum descriptors descriptors) {
     struct sockaddr_un address;
     const struct sockaddr *there = (const struct sockaddr *)&address;
-    if (!put_address(&address, path)) return -1;
+    if (!put_address(&address, path)) return fail_as(*path ? ENAMETOOLONG : ENOENT);
     int listener = socket(AF_UNIX, SOCK_STREAM | SOCK_NONBLOCK | SOCK_CLOEXEC, 0);
     if (listener < 0) return -1;
     if (descriptors == DESCRIPTORS_REFUSED) refuse_descriptors(listener);

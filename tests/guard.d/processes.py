@@ -68,6 +68,9 @@ def try_paths():
     open(run.public, 'w').close()
     check('a file is no stale socket', begun('--listen', run.public, '--daemon', run.private), no_socket)
     check('it is left there', os.path.exists(run.public), True)
+    words = [GUARD, '--listen', run.public, '--daemon', run.private, *NO_FILTER]
+    told = subprocess.run(words, capture_output=True, timeout=PATIENCE).stderr
+    check('what is told of it', told, f'keyretain-guard: {run.public}: Address already in use\n'.encode())
 
 
 def try_few_threads():
