@@ -7,8 +7,11 @@ from contextlib import suppress
 from typing import BinaryIO, Optional, TextIO
 
 from .. import Refused, __version__
+from ..places import SYSTEM_PATH, default_path
 
 LONGEST_INPUT = 1 << 20
+NO_SYSTEMS_DAEMON = ": the system's daemon doesn't listen: systemctl status 'keyretain*' tells"
+NO_DAEMON = ": no daemon is there; start one: systemctl --user enable --now keyretaind"
 
 
 class Unusable(Exception):
@@ -70,9 +73,11 @@ def version_of(program: str) -> str:
 
 
 def words_of(error: Exception) -> str:
-    """One line for people."""
+    """One line for people, also of what to do where nobody listens."""
     if not isinstance(error, OSError) or isinstance(error, Refused) or error.strerror is None:
         words = str(error)
     else:
         words = error.strerror if error.filename is None else f"{error.filename}: {error.strerror}"
+    if isinstance(error, (FileNotFoundError, ConnectionRefusedError)) and error.filename == default_path():
+        words += NO_SYSTEMS_DAEMON if error.filename == SYSTEM_PATH else NO_DAEMON
     return " ".join(words.split())
