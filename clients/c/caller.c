@@ -71,7 +71,7 @@ static int enter_session(const struct seat *seat, uint32_t context, const struct
 }
 
 /* Ends a context in which no session could be entered; errno stays. */
-static void abandon(struct kr *connection, uint32_t context) {
+static void drop_context(struct kr *connection, uint32_t context) {
     ERRNO_STAYS;
     if (!kr_is_broken(connection)) kr_exit(connection, context);
 }
@@ -126,7 +126,7 @@ static struct thread_context *choose_context(struct seat *seat, bool wants_own) 
     if (made < 0) return NULL;
     struct thread_context begun = { seat->shared.age, (uint32_t)made, seat->shared.lost_session };
     if (session && enter_session(seat, begun.number, session, &begun.lost_session) < 0)
-        return abandon(seat->connection, begun.number), NULL;
+        return drop_context(seat->connection, begun.number), NULL;
     seats_has_own(seat);
     *own = begun;
     return own;
@@ -265,7 +265,7 @@ static int join_for_thread(struct caller *caller, struct kr_session *session) {
     if (trial < 0) return -1;
     session->serial = kr_begin_session(connection, (uint32_t)trial, session->name, seat->identity.uid);
     int entered = session->serial < 0 ? -1 : enter_made(seat, seats_own_context(seat), session);
-    abandon(connection, (uint32_t)trial);
+    drop_context(connection, (uint32_t)trial);
     if (entered < 0) return -1;
     seats_set_own_session(session);
     return 0;

@@ -69,7 +69,7 @@ static long copy_out(const struct key_row *row, unsigned long to, unsigned long 
 }
 
 /* `length` is what was answered before it was copied out. */
-static void wipe(const struct key_row *row, const unsigned long *at, long length) {
+static void wipe_copies(const struct key_row *row, const unsigned long *at, long length) {
     int payload = key_row_argument(row, KEY_PAYLOAD), room = key_row_argument(row, KEY_ROOM);
     for (int i = 0; i < TEXTS; i++) explicit_bzero(copies->texts[i], strlen(copies->texts[i]));
     if (payload >= 0) explicit_bzero(copies->payload, least(at[payload + 1], PAYLOAD_MAX));
@@ -118,7 +118,7 @@ static uint64_t sum_of(const struct key_row *row, const unsigned long *at) {
 /* ---- A call ---- */
 
 /* In a user namespace of its own a program has other user keyrings, which aren't there. */
-static long answer(const struct key_row *row, const unsigned long *given, struct arguments arguments) {
+static long answer_tracee(const struct key_row *row, const unsigned long *given, struct arguments arguments) {
     bool names_users = key_row_names(row, given, KEY_SPEC_USER_KEYRING) ||
                        key_row_names(row, given, KEY_SPEC_USER_SESSION_KEYRING);
     if (names_users && tracees_entered()->asker.is_elsewhere) return fail_as(EOPNOTSUPP);
@@ -138,9 +138,9 @@ long call_carry_out(const struct key_row *row, const unsigned long given[KEY_ARG
     long result = copy_in(row, arguments.at);
     *sum = result < 0 || key_row_only_reads(row, given) ? 0 : sum_of(row, arguments.at);
     bool is_answered = replay_take(&entered->task->replay, data, &entered->asker.process, *sum, &result);
-    if (result == 0 && !is_answered) result = answer(row, given, arguments);
+    if (result == 0 && !is_answered) result = answer_tracee(row, given, arguments);
     long length = result;
     if (room >= 0) result = copy_out(row, given[room], arguments.at[room + 1], result);
-    wipe(row, arguments.at, length);
+    wipe_copies(row, arguments.at, length);
     return result;
 }

@@ -17,15 +17,15 @@ static long call_kernel(int call, const unsigned long *at) {
     }
 }
 
-static long answer(int call, struct arguments arguments) {
+static long call_either(int call, struct arguments arguments) {
     const char *session = secure_getenv(KR_SESSION_VARIABLE);
     return session && *session ? key_call(call, arguments) : call_kernel(call, arguments.at);
 }
 #else
-#define answer key_call
+#define call_either key_call
 #endif
 
-#define CALL(call, ...) answer(call, (struct arguments){ { __VA_ARGS__ } })
+#define CALL(call, ...) call_either(call, (struct arguments){ { __VA_ARGS__ } })
 
 /* An argument as the system call has it: an id is widened by its sign. */
 static unsigned long word(long number) { return (unsigned long)number; }
@@ -62,7 +62,7 @@ __attribute__((weak)) long keyctl(int command, ...) {
     for (int i = 0; i < 4; i++) arguments.at[i] = va_arg(list, unsigned long);
     va_end(list);
     if (command < 0 || command >= CALL_ADD_KEY) return fail_as(EOPNOTSUPP);
-    return answer(command, arguments);
+    return call_either(command, arguments);
 }
 
 
