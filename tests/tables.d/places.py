@@ -1,4 +1,5 @@
 """How the tables compare: with the file and the line of what differs."""
+import collections
 import re
 
 import compare as lib
@@ -13,16 +14,21 @@ FILES = {"FORMAT": "docs/FORMAT.md", "vector": "docs/FORMAT.md", "keyretain-prot
          "the Python client": "clients/python/keyretain/client.py", "the C client": "clients/c/asks.c",
          "rows.c": "clients/c/rows.c", "krs_admission.h": "clients/c/krs_admission.h",
          "bench/results": "bench/results/0.1.0.txt", "COSTS": "docs/COSTS.md", "ASSURANCE": "docs/ASSURANCE.md"}
+# Words that say nothing of the line.
+NOISE = {"errors", "wanted", "got", "None"}
 
 
 def place_of(what, differs):
-    """FILE:LINE: the line that has the most words of what differs, and of what is compared."""
-    path = next((it for name, it in FILES.items() if what.startswith(name)), None)
-    words = {*re.findall(r"\w+", what + differs)}
-    if not path:
+    """FILE:LINE: the line that has the most words of what differs and of what is compared. A word counts for less the
+    more lines have it."""
+    name = next((it for it in FILES if what.startswith(it)), None)
+    if not name:
         return what
-    lines = [len(words & {*re.findall(r"\w+", line)}) for line in text_of(path).split("\n")]
-    return f"{path}:{lines.index(max(lines)) + 1}: {what}"
+    path, words = FILES[name], {*re.findall(r"\w+", what.removeprefix(name) + differs)} - NOISE
+    lines = [words & {*re.findall(r"\w+", line)} for line in text_of(path).split("\n")]
+    counts = collections.Counter(it for line in lines for it in line)
+    weights = [sum(1 / counts[it] for it in line) for line in lines]
+    return f"{path}:{weights.index(max(weights)) + 1}: {what}"
 
 
 def compare(what, wanted, got):

@@ -57,7 +57,7 @@ def try_definitions():
 def try_format():
     table = documents.format_table()
     compare("FORMAT, the table of asks", [(ask.number, ask.word, ask.answer, ask.grows) for ask in ASKS],
-            [(number, word_of(name[1]), documents.ANSWERS.get(answer), grows)
+            [(number, word_of(name[1]), documents.ANSWERS.get(answer, f"{answer}, which ANSWERS lacks"), grows)
              for number, name, _, answer, grows in table])
     for ask, (number, name, looks, answer, _) in zip(ASKS, table):
         compare(f"FORMAT, the anchor of {name[1]}", (str(number), name[1].lower()), (name[2], name[3]))
