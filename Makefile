@@ -41,6 +41,10 @@ PROGRAMS = keyretain keyretaind
 override RUN := $(value RUN)
 export RUN
 
+# Whether a compiler is there, with this header; else which packages of Debian have both.
+wants = @$(1) $(CPPFLAGS) -E -include $(2) -x c /dev/null >/dev/null 2>&1 || \
+  { echo 'make $@ wants $(1) and the header $(2): install $(3)' >&2; exit 1; }
+
 .PHONY: build help clean try run clients guard pam ssh-agent test gate wrong-bodies fuzz check-man check-keyutils install \
   uninstall deb dist bench bench-instructions measure
 
@@ -92,11 +96,13 @@ guard:
 
 # Builds the PAM module, which makes a session for each login. Wants a C compiler and the headers of PAM (libpam0g-dev).
 pam:
+	$(call wants,$(CC),security/pam_modules.h,gcc and libpam0g-dev)
 	$(MAKE) -C pam PREFIX="$(PREFIX)"
 
 # Builds keyretain-ssh-agent, an ssh-agent whose keys are the daemon's. Wants a C compiler and the headers of OpenSSL
 # (libssl-dev).
 ssh-agent:
+	$(call wants,$(CC),openssl/param_build.h,gcc and libssl-dev)
 	$(MAKE) -C ssh-agent
 
 # Runs the tests, in some minutes: those of the crates, those over real sockets, of the clients, the helpers, the guard and
@@ -121,6 +127,8 @@ wrong-bodies:
 # the ssh-agent by messages. Wants a clang with libFuzzer, jansson and the headers of OpenSSL (libjansson-dev, libssl-dev).
 SECONDS = 30
 fuzz:
+	$(call wants,clang,jansson.h,clang and libjansson-dev)
+	$(call wants,clang,openssl/param_build.h,clang and libssl-dev)
 	$(MAKE) -C clients/c/fuzz fuzz SECONDS=$(SECONDS)
 	$(MAKE) -C clients/c/fuzz fuzz-supervisor SECONDS=$(SECONDS)
 	$(MAKE) -C clients/c/fuzz fuzz-agent SECONDS=$(SECONDS)
