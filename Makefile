@@ -154,16 +154,17 @@ install:
 	  case $$1:$$3 in *:link) ln -sf "$$1" "$$to" ;; *.service:*) sed -e '/^ExecStart=/s|@sbindir@|$(SBINDIR)|' \
 	    -e '/^ExecCondition=/s|@bindir@|$(BINDIR)|' "$$1" >"$$to"; chmod "$$3" "$$to" ;; \
 	  *) install -m "$$3" "$$1" "$$to" ;; esac; done
-	@if [ -x guard/build/keyretain-guard ]; then $(MAKE) -C guard install PREFIX="$(PREFIX)" DESTDIR="$(DESTDIR)"; \
+	@if [ -x guard/build/keyretain-guard ]; then $(MAKE) -s -C guard install PREFIX="$(PREFIX)" DESTDIR="$(DESTDIR)"; \
 	  else echo 'the guard is not installed: make guard builds it'; fi
-	@if [ -d clients/c/build ]; then $(MAKE) -C clients/c install PREFIX="$(PREFIX)" DESTDIR="$(DESTDIR)"; \
+	@if [ -d clients/c/build ]; then $(MAKE) -s -C clients/c install PREFIX="$(PREFIX)" DESTDIR="$(DESTDIR)"; \
 	  else echo 'the C clients are not installed: make clients builds them'; fi
-	@if [ -e pam/build/pam_keyretain.so ]; then $(MAKE) -C pam install PREFIX="$(PREFIX)" DESTDIR="$(DESTDIR)"; \
+	@if [ -e pam/build/pam_keyretain.so ]; then $(MAKE) -s -C pam install PREFIX="$(PREFIX)" DESTDIR="$(DESTDIR)"; \
 	  else echo 'the PAM module is not installed: make pam builds it'; fi
-	@if [ -x ssh-agent/build/keyretain-ssh-agent ]; then $(MAKE) -C ssh-agent install PREFIX="$(PREFIX)" \
+	@if [ -x ssh-agent/build/keyretain-ssh-agent ]; then $(MAKE) -s -C ssh-agent install PREFIX="$(PREFIX)" \
 	  DESTDIR="$(DESTDIR)"; else echo 'the ssh-agent is not installed: make ssh-agent builds it'; fi
-	@if $(PYTHON) -c 1 2>/dev/null; then $(MAKE) -C clients/python install PREFIX="$(PREFIX)" DESTDIR="$(DESTDIR)" \
+	@if $(PYTHON) -c 1 2>/dev/null; then $(MAKE) -s -C clients/python install PREFIX="$(PREFIX)" DESTDIR="$(DESTDIR)" \
 	  PYTHON="$(PYTHON)"; else echo 'the Python client is not installed: no $(PYTHON)'; fi
+	@echo 'installed below $(DESTDIR)$(PREFIX)'
 
 # Packages for Debian 12, in the folder packages/, of the programs that `make build` proved. Wants debhelper, dh-python,
 # libpam0g-dev and libssl-dev.
@@ -181,11 +182,11 @@ dist:
 # Takes away what `make install` has put there, and the links by which units were enabled for the system or for all
 # users. What users have enabled for themselves stays.
 uninstall:
-	$(MAKE) -C clients/c uninstall PREFIX="$(PREFIX)" DESTDIR="$(DESTDIR)"
-	$(MAKE) -C guard uninstall PREFIX="$(PREFIX)" DESTDIR="$(DESTDIR)"
-	$(MAKE) -C pam uninstall PREFIX="$(PREFIX)" DESTDIR="$(DESTDIR)"
-	$(MAKE) -C ssh-agent uninstall PREFIX="$(PREFIX)" DESTDIR="$(DESTDIR)"
-	$(MAKE) -C clients/python uninstall PREFIX="$(PREFIX)" DESTDIR="$(DESTDIR)" PYTHON="$(PYTHON)"
+	@$(MAKE) -s -C clients/c uninstall PREFIX="$(PREFIX)" DESTDIR="$(DESTDIR)"
+	@$(MAKE) -s -C guard uninstall PREFIX="$(PREFIX)" DESTDIR="$(DESTDIR)"
+	@$(MAKE) -s -C pam uninstall PREFIX="$(PREFIX)" DESTDIR="$(DESTDIR)"
+	@$(MAKE) -s -C ssh-agent uninstall PREFIX="$(PREFIX)" DESTDIR="$(DESTDIR)"
+	@$(MAKE) -s -C clients/python uninstall PREFIX="$(PREFIX)" DESTDIR="$(DESTDIR)" PYTHON="$(PYTHON)"
 	@IFS=:; for row in $(INSTALLED); do set -- $$row; rm -f "$(DESTDIR)$$2"; done
 	@for folder in "$(DESTDIR)$(PREFIX)/lib" "$(DESTDIR)$(PREFIX)/libexec" "$(DESTDIR)$(PREFIX)/share"; do \
 	  [ ! -d "$$folder/keyretain" ] || rmdir --ignore-fail-on-non-empty "$$folder/keyretain"; done
