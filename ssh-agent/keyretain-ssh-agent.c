@@ -2,21 +2,11 @@
  *
  * One process listens, and forks one for each client, which ends with its connection. Nothing is kept between two
  * messages: each message opens a connection to keyretaind, and private keys are wiped once they have signed. */
-#define _GNU_SOURCE
+#include "session.h"
+
 #include <err.h>
-#include <fcntl.h>
+#include <getopt.h>
 #include <openssl/crypto.h>
-#include <poll.h>
-#include <signal.h>
-#include <stdio.h>
-#include <stdlib.h>
-#include <sys/mman.h>
-#include <sys/prctl.h>
-#include <sys/resource.h>
-#include <sys/socket.h>
-#include <sys/wait.h>
-#include <time.h>
-#include <unistd.h>
 
 #include "../guard/listener.h"
 #include "agent.h"
@@ -133,8 +123,9 @@ static _Noreturn void kill_agent(void) {
 }
 
 static void read_options(int count, char **words) {
+    static const struct option none[1]; /* getopt() would name one letter of a long option */
     int option;
-    while ((option = getopt(count, words, "+a:DdE:kP:st:")) != -1) {
+    while ((option = getopt_long(count, words, "+a:DdE:kP:st:", none, NULL)) != -1) {
         if (option == 'a') path = optarg;
         if (option == 'D' || option == 'd') stays = true;
         if (option == 'k') kill_agent();
@@ -152,6 +143,9 @@ static int begin_listening(void) {
     int listener = open_listener(path, 0600, DESCRIPTORS_REFUSED), nothing = open("/dev/null", O_RDWR | O_CLOEXEC);
     if (listener < 0 && has_folder) rmdir(folder);
     if (listener < 0) err(1, "%s", path);
+    struct kr *daemon = kr_open_with(NULL, 0, 1);
+    if (!daemon) warn("no daemon is there, and until one is no key is kept");
+    else kr_close(daemon);
     pid_t agent = stays ? getpid() : fork();
     if (agent < 0) err(1, "fork");
     if (agent) dprintf(STDOUT_FILENO, "SSH_AUTH_SOCK=%s; export SSH_AUTH_SOCK;\n", path);
@@ -183,8 +177,7 @@ static void forget_variables(void) {
 }
 
 int main(int count, char **words) {
-    if (count == 2 && strcmp(words[1], "--version") == 0) return puts("keyretain-ssh-agent " KEYRETAIN_VERSION) < 0;
-    if (count == 2 && strcmp(words[1], "--help") == 0) return fputs(usage, stdout) < 0;
+    if (count == 2) answer_option(words[1], usage, "", "keyretain-ssh-agent " KEYRETAIN_VERSION);
     if (!fill_standard_descriptors()) err(1, "files");
     read_options(count, words);
     int listener = take_passed_listener();
