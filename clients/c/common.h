@@ -116,7 +116,7 @@ static inline void answer_option(const char *word, const char *usage, const char
     bool wants_help = strcmp(word, "--help") == 0 || strcmp(word, "-h") == 0;
     if (!wants_help && strcmp(word, "--version") != 0) return;
     printf("%s%s", wants_help ? usage : version, wants_help ? help : "\n");
-    exit(fflush(stdout) == 0 ? 0 : 3);
+    exit(fflush(stdout) == 0 && !ferror(stdout) ? 0 : 3);
 }
 
 #endif
