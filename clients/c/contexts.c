@@ -46,13 +46,24 @@ static void close_line(struct line *line) {
     free(line);
 }
 
-/* Another daemon at the path has none of what there is on the other connections. */
+/* Whether a daemon answers there: an ask in no context is EINVAL. */
+static bool is_answered(struct kr *connection) {
+    return kr_get_id(connection, 0, KEY_SPEC_USER_KEYRING, 0) >= 0 || (errno == EINVAL && !kr_is_broken(connection));
+}
+
+/* Another daemon has none of what there is on the other connections, and it may listen in the same process: behind a
+ * guard, say. But one that has ended by the time that this one is answered answers on none of those any more. */
+static bool is_of_others(struct kr *connection) {
+    struct line *line = FIND(all.lines, at, !kr_is_broken(at->connection));
+    return line && line->connection->peer.pid == connection->peer.pid && is_answered(connection) &&
+           is_answered(line->connection);
+}
+
 static struct line *open_line(int milliseconds) {
     struct kr *connection = kr_open_with(all.where.path, 0, milliseconds);
     struct line *line = connection ? calloc(1, sizeof *line) : NULL;
-    if (!line || (all.lines && connection->peer.pid != contexts_daemon()))
-        return kr_close(connection), forgotten(line);
-    connection->until = kr_now() + milliseconds;
+    if (line) connection->until = kr_now() + milliseconds;
+    if (!line || (all.lines && !is_of_others(connection))) return kr_close(connection), forgotten(line);
     all.beginnings += !all.lines;
     *line = (struct line){ .connection = connection, .age = ++all.last_age, .most = KEYRETAIN_READS,
                            .next = all.lines };

@@ -87,9 +87,11 @@ bool session_enter_by_name(struct context *context, const struct user *user, con
     int32_t joined = is_open ? kr_join(connection, context->number, session->name) : session->serial;
     int error = is_open && joined >= 0 ? EACCES : errno;
     if (!may_search) set_mask(session, attributes.mask);
-    if (joined != session->serial && session_leave(context) < 0) context_end(context);
+    bool is_it = joined == session->serial &&
+                 (!is_open || read_own(context, joined, user->identity.uid, &attributes));
+    if (!is_it && session_leave(context) < 0) context_end(context);
     errno = error;
-    return is_open && joined == session->serial;
+    return is_open && is_it;
 }
 
 /* What a context joins by a name, where that is this user's; NULL with errno. */
@@ -100,8 +102,8 @@ static struct session *join(const struct context *context, struct user *user, co
     int32_t serial = connection ? kr_join(connection, context->number, name) : fail_as(ECONNRESET);
     if (serial < 0) return NULL;
     struct session *session = FIND(all.sessions, at, at->serial == serial && !session_is_lost(at));
-    bool is_own = session ? session->user->identity.uid == user->identity.uid
-                          : read_own(context, serial, user->identity.uid, &attributes);
+    bool is_own = read_own(context, serial, user->identity.uid, &attributes) &&
+                  (!session || session->user->identity.uid == user->identity.uid);
     if (is_own) return session ? session : add_session(context, user, serial, name, begun);
     errno = context_connection(context) ? EACCES : ECONNRESET;
     return NULL;
@@ -118,7 +120,8 @@ static bool is_for_others(const struct admission_process *begun) {
     return krs_admission_c_keeps(&other, &told);
 }
 
-/* One for this context alone, as of a set-uid program: JOIN by a name would let its real user link it for some asks. */
+/* One for this context alone, as of a set-uid program, which has no name: by one its real user could come in, or link
+ * it for some asks. */
 static struct session *begin_alone(struct context *context, struct user *user, const struct admission_process *begun,
                                    bool *has_left) {
     struct kr *connection = context_connection(context);
@@ -135,7 +138,7 @@ struct session *session_join(struct context *context, struct user *user, const c
                              const struct admission_process *begun, bool *has_left) {
     struct kr_session named;
     struct context trial;
-    if (!name && !is_for_others(begun)) return begin_alone(context, user, begun, has_left);
+    if (!is_for_others(begun)) return begin_alone(context, user, begun, has_left);
     if (kr_name_session(&named, name) < 0 || context_fork(&trial, &user->context) < 0) return NULL;
     struct session *session = join(&trial, user, named.name, begun);
     if (session && !name && set_mask(session, MASK_WITHOUT_NAME) < 0) session = NULL;
@@ -240,7 +243,10 @@ int sessions_begin(const struct kr_identity *identity, const struct admission_pr
     struct user *user = users_find(identity);
     if (!user || kr_name_session(&named, name) < 0 || context_fork(&context, &user->context) < 0) return -1;
     struct kr *connection = context_connection(&context);
-    int32_t serial = kr_begin_session(connection, context.number, named.name, identity->uid);
+    bool is_alone = !is_container && !is_for_others(begun);
+    if (is_alone) *named.name = '\0';
+    int32_t serial = is_alone ? kr_join(connection, context.number, NULL)
+                              : kr_begin_session(connection, context.number, named.name, identity->uid);
     bool is_linked = is_container || (serial > 0 && kr_link_user_keyring(connection, context.number) == 0);
     if (serial > 0 && is_linked) all.first = session_use(add_session(&context, user, serial, named.name, begun));
     context_end(&context);
