@@ -28,8 +28,7 @@ is_listening() { [ "$(cat "$dir/agent.out" 2>/dev/null)" = "listening $socket" ]
 
 # end_agent NAME: it ends by SIGTERM, with its containers, and leaves nothing
 end_agent() {
-  kill -TERM "$agent" 2>/dev/null
-  finish "$agent"
+  end_by TERM "$agent"
   is "$1: the agent's status" 0 "$status"
   is "$1: the agent's socket" gone "$(if [ -e "$socket" ]; then echo there; else echo gone; fi)"
   is "$1: what is left of its containers" '' "$(ls "$folder")"
@@ -149,10 +148,8 @@ try_two() {
 try_apart() {
   local others=() daemon
   [ "$(id -u)" != 0 ] || others=(setpriv --bounding-set=-all --inh-caps=-all)
-  if ! "${others[@]}" true 2>/dev/null; then
-    skipped "what others of its uid may read of a container's daemon: no setpriv"
-    return
-  fi
+  "${others[@]}" true 2>/dev/null ||
+    { skipped "what others of its uid may read of a container's daemon: no setpriv"; return; }
   daemon=$(children "$(children "$agent" | tr -d ' ')" | tr -d ' ')
   is "a container's daemon" keyretaind "$(tr '\0' '\n' <"/proc/$daemon/cmdline" | head -n 1)"
   is 'what others of its uid may read of it' nothing \
@@ -233,20 +230,14 @@ try_again() {
 
 try_ids() {
   local uids=own describe=("$dir/calls" describe @u) zero='keyring;0;0;1f3f0000;_uid.0 '
-  if ! unshare -U true 2>/dev/null; then
-    skipped 'user namespaces: not allowed here'
-    return
-  fi
+  unshare -U true 2>/dev/null || { skipped 'user namespaces: not allowed here'; return; }
   if is_root; then uids=100000; fi
   says "ids of the container's user namespace" "$zero" contain n --uids "$uids" -- "${describe[@]}"
   says 'where it has pids of its own' "$zero" contain n --uids "$uids" --pids -- "${describe[@]}"
 }
 
 try_other_ids() {
-  if ! is_root; then
-    skipped 'other uids, and user namespaces within containers: not root'
-    return
-  fi
+  is_root || { skipped 'other uids, and user namespaces within containers: not root'; return; }
   says 'another uid' 'keyring;4005;4005;1f3f0000;_uid.4005 ' calls a become 4005 describe @u
   says 'its session is none but its user-session keyring' 'keyring;4005;4005;1f3f0000;_uid_ses.4005 ' \
     calls a become 4005 describe @s

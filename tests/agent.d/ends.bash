@@ -20,10 +20,8 @@ options=() # of the runtime that begins it
 
 # begin_container ID WORD ..: a container that has a key, waits, and then makes these calls. $first is its first process
 begin_container() {
-  local id=$1
-  shift
   rm -f "$dir/go" "$dir/ready"
-  contain "$id" "${options[@]}" -- "$dir/calls" add kept v @s put "$dir/ready" await "$dir/go" "$@" \
+  contain "$1" "${options[@]}" -- "$dir/calls" add kept v @s put "$dir/ready" await "$dir/go" "${@:2}" \
     >"$dir/container.out" &
   container=$!
   until_true [ -s "$dir/ready" ]
@@ -69,8 +67,7 @@ try_server_killed() {
 
 try_agent_killed() {
   begin_container a print kept add k v @s
-  kill -KILL "$agent"
-  finish "$agent"
+  end_by KILL "$agent"
   until_true is_gone "$server"
   until_true is_gone "$keeper"
   is 'a server whose agent was killed' 1 "$(is_gone "$server" && is_gone "$keeper" && echo 1)"
@@ -91,10 +88,8 @@ try_agent_ended() {
 # Its server reads a page of a file system that the container serves, which doesn't come.
 try_held_server() {
   local held=$dir/paged
-  if ! is_root || ! python3 -c 1 2>/dev/null; then
-    skipped 'a server that waits for memory: not root, no setpriv, or no python3'
-    return
-  fi
+  { is_root && python3 -c 1 2>/dev/null; } ||
+    { skipped 'a server that waits for memory: not root, no setpriv, or no python3'; return; }
   rm -rf "$held" "$held.held" && mkdir "$held"
   begin_agent
   unshare -m python3 -B "$lib/served.py" "$held" read "$dir/runtime" "$socket" a -- sh -c 'echo $$ >"$0.pid"
@@ -198,8 +193,7 @@ try_started() {
   until_true has_no_containers
   one_goes 'the next container, of one at a time'
   is_root && is 'a standard input that was closed' /dev/null "$(readlink "/proc/$agent/fd/0")"
-  kill -INT "$agent"
-  finish "$agent"
+  end_by INT "$agent"
   is 'an agent that is interrupted' 0 "$status"
   is 'what it leaves' '' "$(ls "$folder")"
   within=()
@@ -244,21 +238,17 @@ try_no_copy() {
 
 # refuses NAME OPTION ..: an agent that doesn't begin
 refuses() {
-  local name=$1
-  shift
-  timeout "$patience" "$dir/$variant/keyretain-agent" --daemon "$keyretaind" "$@" \
+  timeout "$patience" "$dir/$variant/keyretain-agent" --daemon "$keyretaind" "${@:2}" \
     >/dev/null 2>>"$dir/$variant.err" </dev/null
-  is "$name" 3 "$?"
+  is "$1" 3 "$?"
 }
 
 # In a PID namespace without a /proc of its own each number there would mean another process.
 try_strange_numbers() {
   local apart=(unshare --pid --fork --kill-child)
   is_root || apart=(unshare --user --map-root-user --pid --fork --kill-child)
-  if ! "${apart[@]}" true 2>/dev/null; then
-    skipped 'an agent whose /proc has other numbers: no PID namespace may be made'
-    return
-  fi
+  "${apart[@]}" true 2>/dev/null ||
+    { skipped 'an agent whose /proc has other numbers: no PID namespace may be made'; return; }
   timeout "$patience" "${apart[@]}" "$dir/$variant/keyretain-agent" --daemon "$keyretaind" --socket "$dir/other.sock" \
     --folder "$dir/other" >/dev/null 2>>"$dir/$variant.err" </dev/null
   is 'an agent whose /proc has other numbers' 3 "$?"
@@ -302,15 +292,11 @@ passed() {
 }
 
 try_passed() {
-  if ! python3 -c 1 2>/dev/null; then
-    skipped 'sockets that are passed: no python3'
-    return
-  fi
+  python3 -c 1 2>/dev/null || { skipped 'sockets that are passed: no python3'; return; }
   passed 600 "$(id -u)"
   until_true grep -q 'listening (passed)' "$dir/agent.out"
   one_goes 'an agent whose socket is passed'
-  kill -TERM "$agent"
-  finish "$agent"
+  end_by TERM "$agent"
   is 'its status' 0 "$status"
   is 'the socket stays' there "$(if [ -S "$socket" ]; then echo there; fi)"
   passed 606 "$(id -u)"
@@ -328,10 +314,7 @@ try_passed() {
 as_another() { setpriv --reuid 4005 --regid 4005 --clear-groups "$@" 2>&1; }
 
 try_peers() {
-  if ! is_root; then
-    skipped 'runtimes of other users: not root, or no setpriv'
-    return
-  fi
+  is_root || { skipped 'runtimes of other users: not root, or no setpriv'; return; }
   says "another user's runtime" "$socket: Permission denied " \
     as_another "$dir/runtime" "$socket" a -- "$dir/calls" print k
   chmod 666 "$socket"
@@ -345,10 +328,7 @@ try_peers() {
 try_unit_rights() {
   local -A numbers=([CAP_DAC_OVERRIDE]=1 [CAP_SYS_PTRACE]=19 [CAP_SYS_RESOURCE]=24)
   local name names option=--bounding-set=-all most=0
-  if ! is_root; then
-    skipped 'the rights of the unit: not root'
-    return
-  fi
+  is_root || { skipped 'the rights of the unit: not root'; return; }
   names=$(sed -n 's/^CapabilityBoundingSet=//p' "$top/contrib/systemd/keyretain-agent.service")
   for name in $names; do option+=,+${name#CAP_} most=$((most | 1 << numbers[$name])); done
   within=(setpriv "${option,,}")
@@ -401,10 +381,7 @@ has_descriptors() { [ "$(count_descriptors)" = "$1" ]; }
 
 try_hostile() {
   local before memory ticks seed=$RANDOM
-  if ! python3 -c 1 2>/dev/null; then
-    skipped 'hostile runtimes: no python3'
-    return
-  fi
+  python3 -c 1 2>/dev/null || { skipped 'hostile runtimes: no python3'; return; }
   before=$(count_descriptors)
   memory=$(field "$agent" VmSize)
   for _ in 1 2 3; do # on a busy machine it runs longer; one that spins does so each time
@@ -423,9 +400,6 @@ try_hostile() {
   is 'memory that they leave in an agent' 'less than a state a runtime' \
     "$([ "$memory" -lt 65536 ] && echo 'less than a state a runtime' || echo "$memory kB")"
 }
-
-# ticks_of PID: how long it has run, in hundredths of a second
-ticks_of() { sed 's/.*) //' "/proc/$1/stat" | awk '{ print $12 + $13 }'; }
 
 kibibytes() { tr -dc 0-9 <<<"$1"; }
 

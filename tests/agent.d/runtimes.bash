@@ -42,10 +42,7 @@ try_runtime() {
   local -A containers=()
   shift
   runtime=("$@" --root "$dir/$name.state")
-  if ! command -v "$name" >/dev/null; then
-    skipped "containers of $name: not here"
-    return
-  fi
+  command -v "$name" >/dev/null || { skipped "containers of $name: not here"; return; }
   variant=plain
   begin_agent
   make_bundle "$name-one" host
@@ -88,10 +85,7 @@ podman_run() {
 
 try_podman() {
   local said
-  if ! command -v podman >/dev/null; then
-    skipped 'containers of podman: not here'
-    return
-  fi
+  command -v podman >/dev/null || { skipped 'containers of podman: not here'; return; }
   variant=plain
   begin_agent
   make_bundle podman-bundle host
@@ -114,10 +108,7 @@ try_profiles() {
 }
 
 try_runtimes() {
-  if ! python3 -c 1 2>/dev/null; then
-    skipped 'profiles and containers of runc, crun and podman: no python3'
-    return
-  fi
+  python3 -c 1 2>/dev/null || { skipped 'profiles and containers of runc, crun and podman: no python3'; return; }
   try_profiles
   if ! is_root; then
     skipped 'containers of runc, crun and podman: not root'

@@ -20,13 +20,11 @@ lists() {
 
 # completes WANTED WORD ..: what the completion in bash offers for the last word, sorted
 completes() {
-  local wanted=$1
-  shift
-  is "completion of $*" "$wanted" "$(
+  is "completion of ${*:2}" "$1" "$(
     # shellcheck source=/dev/null
     source "$top/contrib/bash-completion/keyretain-session"
-    COMP_WORDS=("$@") COMP_CWORD=$(($# - 1))
-    _keyretain_options "$dir/c/$1"
+    COMP_WORDS=("${@:2}") COMP_CWORD=$(($# - 2))
+    _keyretain_options "$dir/c/$2"
     printf '%s\n' "${COMPREPLY[@]}" | sort | paste -sd' '
   )"
 }

@@ -78,8 +78,7 @@ time.sleep(60)' "$dir/full.sock" >"$dir/full.text" &
   until_true grep -q full "$dir/full.text"
   is 'connecting ends after ten seconds, whatever signals come' 'ETIMEDOUT 10' \
     "$(KEYRETAIN_SOCKET=$dir/full.sock "$dir/once" signals)"
-  kill "$server"
-  finish "$server"
+  end_by TERM "$server"
 }
 
 # ---- Many threads and processes, and a daemon that is slow or full
@@ -125,11 +124,9 @@ END
 # one that has no rights, run by these words: the least of three runs, as on a busy machine a connection may seem to be
 # no longer used, and is made once more
 calls_of() {
-  local ring=$1 count=$2
-  shift 2
   for _ in 1 2 3; do
     KEYRETAIN_SOCKET=$path setpriv --reuid 65534 --regid 65534 --clear-groups \
-      "$@" strace -f -c -o "$dir/counted" "$dir/busy" read "$ring" "$count" >/dev/null 2>&1
+      "${@:3}" strace -f -c -o "$dir/counted" "$dir/busy" read "$1" "$2" >/dev/null 2>&1
     awk '$NF == "total" { print $4 }' "$dir/counted"
   done | sort -n | head -n 1
 }
@@ -137,10 +134,8 @@ calls_of() {
 # What a call takes: geteuid, fstat, send and receive; also in a session, on a connection that was asked often.
 try_counted() {
   local calls
-  if [ "$(id -u)" != 0 ] || ! command -v strace >/dev/null || ! command -v setpriv >/dev/null; then
-    skipped 'how many system calls a call takes: not root, no strace, or no setpriv'
-    return
-  fi
+  { [ "$(id -u)" = 0 ] && command -v strace >/dev/null && command -v setpriv >/dev/null; } ||
+    { skipped 'how many system calls a call takes: not root, no strace, or no setpriv'; return; }
   chmod 711 "$dir" && chmod 755 "$dir/keyretain" "$dir/c" && chmod 666 "$path"
   : >"$dir/counted" && chmod 666 "$dir/counted"
   set --
@@ -157,8 +152,6 @@ try_counted() {
 
 keepers() { pgrep -f "^$dir/keyretain/keyretain-keeper .*$path|^keyretain-keeper .*$path"; }
 
-has_no_keeper() { ! keepers >/dev/null; }
-
 has_one_keeper() { [ "$(keepers | wc -l)" = 1 ]; }
 
 # keep NAME WORD ..: a keeper on a pipe, whose other end is $life, and what it answers
@@ -172,9 +165,6 @@ keep() {
 }
 
 let_go() { exec {life}>&-; }
-
-# session_of PID: its session of setsid(2)
-session_of() { sed 's/.*) //' "/proc/$1/stat" | cut -d ' ' -f 4; }
 
 # in_named: the session keyring of the session that $dir/answer tells
 in_named() { KEYRETAIN_SESSION=$(head -n 1 "$dir/answer") timeout 20 "$dir/acts" session; }
@@ -202,7 +192,7 @@ try_keeper() {
     is 'keeper: only root may look at it' no "$(ls "/proc/$(keepers)/fd" >/dev/null 2>&1 && echo yes || echo no)"
   fi
   is 'keeper: it has left the terminal and its session' no \
-    "$([ "$(session_of "$(keepers)")" = "$(session_of $$)" ] && echo yes || echo no)"
+    "$([ "$(sid_of "$(keepers)")" = "$(sid_of $$)" ] && echo yes || echo no)"
   let_go
   until_true has_no_keeper
   is 'keeper: ends with its pipe' EKEYREVOKED "$(in_named)"

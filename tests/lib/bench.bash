@@ -125,6 +125,25 @@ finish() {
   fi
 } 2>/dev/null
 
+# end_by SIGNAL PID: ends a process that would go on
+end_by() {
+  kill "-$1" "$2"
+  finish "$2"
+} 2>/dev/null
+
+# ticks_of PID: how long it has run, in hundredths of a second
+ticks_of() { sed 's/.*) //' "/proc/$1/stat" | awk '{ print $12 + $13 }'; }
+
+# sid_of PID: its session of setsid(2)
+sid_of() { sed 's/.*) //' "/proc/$1/stat" | cut -d ' ' -f 4; }
+
+has_two_lines() { [ "$(wc -l <"$1")" = 2 ]; }
+
+# gone NAME: the keepers that a test looks for by `keepers` end
+gone() { is "$1: no keeper is left" gone "$(until_true has_no_keeper && echo gone)"; }
+
+has_no_keeper() { ! keepers >/dev/null; }
+
 # apart COMMAND ..: becomes the command, without the ends of clients that stand open here
 apart() {
   local end
@@ -145,10 +164,15 @@ start() {
 
 start_on() {
   path=$1 log=$dir/$runs.log
-  shift
-  apart "$keyretaind" --socket "$path" "$@" >"$log" 2>"$log.told" </dev/null &
+  apart "$keyretaind" --socket "$path" "${@:2}" >"$log" 2>"$log.told" </dev/null &
   daemon=$!
   until_true is_up
+}
+
+# serve OPTION ..: the daemon of those who name none
+serve() {
+  start "$@"
+  export KEYRETAIN_SOCKET=$path
 }
 
 is_up() { { [ -s "$log" ] && [[ $(<"$log") == "listening $path"* ]]; } || has_ended "$daemon"; }
@@ -161,11 +185,16 @@ held() {
 
 holds() { [ "$(held)" = "$1" ]; }
 
+holds_lane() { [ "$(find "/proc/$daemon/fd" -lname 'socket:*' 2>/dev/null | wc -l)" -ge 2 ]; }
+
 # kill_daemon SIGNAL: ends a daemon that would go on
-kill_daemon() {
-  kill "-$1" "$daemon"
-  finish "$daemon"
-} 2>/dev/null
+kill_daemon() { end_by "$1" "$daemon"; }
+
+# start_again OPTION ..: another daemon on the path of the one that has ended
+start_again() {
+  rm -f "$path" "$log"
+  start_on "$path" "$@"
+}
 
 # guard_before_it GUARD OPTION ..: that guard before the daemon, which listens at $public
 guard_before_it() {
@@ -185,10 +214,10 @@ can_sanitize() {
   cc "$dir/empty.c" "$@" -o "$dir/empty" 2>/dev/null && "$dir/empty" >/dev/null 2>&1
 }
 
-# compile_to PROGRAM WORD ..: what the words are compiled and linked to
+# compile_to PROGRAM WORD ..: what the words are compiled and linked to; a handler, or a thread, needn't use its argument
 compile_to() {
-  "${compiler:-cc}" -std=c11 -D_DEFAULT_SOURCE -g -O1 -Wall -Wextra -Werror "${@:2}" -I"$lib" -I"$top/clients/c" \
-    -pthread -ldl -o "$dir/$1"
+  "${compiler:-cc}" -std=c11 -D_DEFAULT_SOURCE -g -O1 -Wall -Wextra -Wno-unused-parameter -Werror "${@:2}" -I"$lib" \
+    -I"$top/clients/c" -pthread -ldl -o "$dir/$1"
 }
 
 # make_clients FOLDER WORD ..: clients/c, or the targets that are named, built in $dir/FOLDER for libraries in $dir

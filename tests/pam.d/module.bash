@@ -14,26 +14,19 @@ service() { printf 'session optional %s %s\n' "$dir/$module/pam_keyretain.so" "$
 
 # logs_in SERVICE ACT ..: what the application prints, its lines in one
 logs_in() {
-  local service=$1
-  shift
-  timeout "$patience" "${log_in[@]}" "$dir/conf" "$service" "$user" "$@" 2>"$dir/said" </dev/null | paste -sd' '
+  timeout "$patience" "${log_in[@]}" "$dir/conf" "$1" "$user" "${@:2}" 2>"$dir/said" </dev/null | paste -sd' '
 }
 
 # gives NAME WANTED SERVICE ACT ..
 gives() {
-  local name=$1 wanted=$2 said
-  shift 2
-  is "$name" "$wanted" "$(logs_in "$@")"
+  local said
+  is "$1" "$2" "$(logs_in "${@:3}")"
   said=$(grep -m 1 -E 'Sanitizer|runtime error' "$dir/said")
-  [ -z "$said" ] || is "$name: what a sanitizer says" '' "$said"
+  [ -z "$said" ] || is "$1: what a sanitizer says" '' "$said"
 }
 
 # keepers [MORE]: at $path
 keepers() { pgrep -f "^keyretain-keeper .*$path"; }
-
-has_no_keeper() { ! keepers >/dev/null; }
-
-gone() { is "$1: no keeper is left" gone "$(until_true has_no_keeper && echo gone)"; }
 
 # serve OPTION ..: a daemon that each user reaches, and the service `one` for it
 serve() {
@@ -110,8 +103,6 @@ not-revoked debug still there
 END_OF_TABLE
 }
 
-has_two_lines() { [ "$(wc -l <"$1")" = 2 ]; }
-
 # ---- The environment
 
 try_environment() {
@@ -179,8 +170,7 @@ try_full() {
   until_true holds_lane
   gives 'a daemon that is full' "open success $none" one open "${show[@]}"
   in_time 'a daemon that is full' "$since"
-  kill "$holder"
-  finish "$holder"
+  end_by TERM "$holder"
   gone 'a daemon that is full'
   module=module
   service one "socket=$path"
@@ -188,8 +178,6 @@ try_full() {
   kill_daemon TERM
   gives 'a daemon that is down' "open success $none" one open "${show[@]}"
 }
-
-holds_lane() { [ "$(find "/proc/$daemon/fd" -lname 'socket:*' 2>/dev/null | wc -l)" -ge 2 ]; }
 
 # A daemon that is started anew in the midst of a login: the next login has a session.
 try_restarted() {
@@ -200,8 +188,7 @@ try_restarted() {
   login=$!
   until_true [ -e "$dir/there" ]
   kill_daemon TERM
-  rm -f "$path" "$log"
-  start_on "$path" --lanes 16
+  start_again --lanes 16
   chmod 666 "$path"
   touch "$dir/go"
   finish "$login"
@@ -332,10 +319,8 @@ try_given() {
 try_no_core() {
   local log_in=(strace -f -qq -e 'trace=setresuid,prctl,rt_sigprocmask,execve' -o "$dir/trace" "$dir/login") pid
   # who isn't root may not read the words of a process that isn't dumpable
-  if [ "$(id -u)" != 0 ] || ! strace -f -qq -o /dev/null true 2>/dev/null; then
-    skipped 'what is called before a keeper is executed: not root, or no strace(1)'
-    return
-  fi
+  { [ "$(id -u)" = 0 ] && strace -f -qq -o /dev/null true 2>/dev/null; } ||
+    { skipped 'what is called before a keeper is executed: not root, or no strace(1)'; return; }
   ASAN_OPTIONS=detect_leaks=0 logs_in one open close >/dev/null
   pid=$(sed -n 's/^\([0-9]*\) .*execve("[^"]*keyretain-keeper".*/\1/p' "$dir/trace")
   is 'what is called before a keeper is executed' \
@@ -347,10 +332,8 @@ try_no_core() {
 # A keeper that can't be given the user's ids isn't executed: it would be root's. It makes such calls itself, later.
 try_refused_ids() {
   local call log_in
-  if [ "$(id -u)" != 0 ] || ! strace -f -qq -o /dev/null true 2>/dev/null; then
-    skipped 'calls that fail before a keeper is executed: not root, or no strace(1)'
-    return
-  fi
+  { [ "$(id -u)" = 0 ] && strace -f -qq -o /dev/null true 2>/dev/null; } ||
+    { skipped 'calls that fail before a keeper is executed: not root, or no strace(1)'; return; }
   for call in setgroups setresgid setresuid; do
     log_in=(strace -f -qq -o /dev/null -e "trace=$call" -e "inject=$call:error=EAGAIN:when=1" "$dir/login")
     is "$call fails before a keeper is executed" "open success $none close success" \
@@ -387,10 +370,8 @@ try_applications() {
 # A libkeyutils that asks the kernel where no session is named, and in programs that run set-uid.
 try_else_kernel() {
   has_none 'what the kernel is handed' "$dir/handed"
-  if [ "$("$dir/whose")" = 'no keys of the kernel' ]; then
-    skipped 'a libkeyutils that asks the kernel too: it lets nobody have keys here'
-    return
-  fi
+  [ "$("$dir/whose")" != 'no keys of the kernel' ] ||
+    { skipped 'a libkeyutils that asks the kernel too: it lets nobody have keys here'; return; }
   is 'no session is named' 'kernel 6, keyretaind 0' "$("$dir/whose")"
   is 'an empty one is' 'kernel 6, keyretaind 0' "$(KEYRETAIN_SESSION='' "$dir/whose")"
   gives 'in a login' 'open success kernel 0, keyretaind 6' one open "run:$dir/whose"
@@ -416,10 +397,8 @@ try_no_ids() {
 
 try_users() {
   local nobody=65534 ids as=(setpriv --reuid 65534 --regid 65534 --clear-groups)
-  if [ "$(id -u)" != 0 ] || ! "${as[@]}" true 2>/dev/null || [ "$(id -un $nobody 2>/dev/null)" != nobody ]; then
-    skipped 'logins of another user: not root, or no setpriv or no user nobody'
-    return
-  fi
+  { [ "$(id -u)" = 0 ] && "${as[@]}" true 2>/dev/null && [ "$(id -un $nobody 2>/dev/null)" = nobody ]; } ||
+    { skipped 'logins of another user: not root, or no setpriv or no user nobody'; return; }
   user=nobody
   gives 'root lets nobody in' "open success KEYRETAIN_SOCKET=$path close success" \
     one open show:KEYRETAIN_SOCKET close

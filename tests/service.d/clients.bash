@@ -114,10 +114,8 @@ are_others_shown() {
 
 # The mode that make install gives the daemon hides it from all but root.
 try_others() {
-  if [ "$(id -u)" != 0 ] || ! command -v setpriv >/dev/null; then
-    skipped "who is shown the daemon's memory: not root, or no setpriv"
-    return
-  fi
+  { [ "$(id -u)" = 0 ] && command -v setpriv >/dev/null; } ||
+    { skipped "who is shown the daemon's memory: not root, or no setpriv"; return; }
   chmod 711 "$dir"
   install -d -o 65534 -g 65534 "$dir/nobody"
   are_others_shown 755 "$keyretaind" shown

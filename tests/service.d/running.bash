@@ -25,9 +25,7 @@ limited() {
 
 # prints NAME STATUS TEXT WORD ..: keyretain with these words prints this text, and ends with this status
 prints() {
-  local name=$1 wanted="$3status $2"
-  shift 3
-  is "$name" "$wanted" "$(timeout "$patience" "$keyretain" "$@" 2>/dev/null; echo "status $?")"
+  is "$1" "$3status $2" "$(timeout "$patience" "$keyretain" "${@:4}" 2>/dev/null; echo "status $?")"
 }
 
 # tells NAME TEXT WORD ..: keyretain with these words tells this on standard error

@@ -38,21 +38,14 @@ logged_in() {
 
 # try_login NAME WANTED PROGRAM OPTION ..: by a program of Debian's, with its own stack
 try_login() {
-  local name=$1 wanted=$2
-  shift 2
-  if command -v "$1" >/dev/null; then
-    is "$built: $name: the session, the user keyring, root's key" "$wanted" "$(logged_in "$@")"
-  else
-    skipped "$name: not here"
-  fi
+  command -v "$3" >/dev/null || { skipped "$1: not here"; return; }
+  is "$built: $1: the session, the user keyring, root's key" "$2" "$(logged_in "${@:3}")"
 }
 
 try_logins() {
   local own='_ses 4102 4102 EACCES' none='_uid_ses 4102 4102 EACCES'
-  if [ "$(id -u)" != 0 ] || ! unshare -m true 2>/dev/null; then
-    skipped 'logins: not root, or no mount namespace'
-    return
-  fi
+  { [ "$(id -u)" = 0 ] && unshare -m true 2>/dev/null; } ||
+    { skipped 'logins: not root, or no mount namespace'; return; }
   begin_users
   grep -qs '^session.*pam_keyinit.so.*force' /etc/pam.d/su-l || own=$none
   try_login 'su -l' "$own" su -l keyretain-2
@@ -67,10 +60,8 @@ try_logins() {
 # By Debian's sshd on a port of this machine, which takes a key of this test.
 try_sshd() {
   local port=$((20000 + RANDOM % 20000)) sshd
-  if ! sshd=$(command -v /usr/sbin/sshd) || ! command -v ssh >/dev/null || ! ip link show lo >/dev/null 2>&1; then
-    skipped 'a login by sshd(8): not here'
-    return
-  fi
+  { sshd=$(command -v /usr/sbin/sshd) && command -v ssh >/dev/null && ip link show lo >/dev/null 2>&1; } ||
+    { skipped 'a login by sshd(8): not here'; return; }
   ssh-keygen -q -t ed25519 -N '' -f "$dir/host-key" && ssh-keygen -q -t ed25519 -N '' -f "$dir/user-key"
   cp "$dir/user-key.pub" "$dir/authorized" && chmod 644 "$dir/authorized"
   mkdir -p /run/sshd
@@ -146,10 +137,8 @@ with_files() {
 # system's daemon.
 try_set_uid_session() {
   local who wanted
-  if [ "$(id -u)" != 0 ] || ! unshare -m true 2>/dev/null || ! command -v setpriv >/dev/null; then
-    skipped 'a session that a set-uid program begins: not root, no mount namespace, or no setpriv(1)'
-    return
-  fi
+  { [ "$(id -u)" = 0 ] && unshare -m true 2>/dev/null && command -v setpriv >/dev/null; } ||
+    { skipped 'a session that a set-uid program begins: not root, no mount namespace, or no setpriv(1)'; return; }
   begin_room || { skipped 'a session that a set-uid program begins: no CAP_SYS_RESOURCE'; return; }
   install -m 4755 "$dir/tree" "$dir/tree-set-uid"
   for who in real effective; do
@@ -173,10 +162,8 @@ in_session_of_set_uid() {
 try_hidden() {
   local hides said
   for hides in 0 2; do
-    if [ "$(id -u)" != 0 ] || ! unshare -m mount -t proc -o "hidepid=$hides" proc /proc 2>/dev/null; then
-      skipped 'processes that /proc hides: not root, or no mount namespace'
-      return
-    fi
+    { [ "$(id -u)" = 0 ] && unshare -m mount -t proc -o "hidepid=$hides" proc /proc 2>/dev/null; } ||
+      { skipped 'processes that /proc hides: not root, or no mount namespace'; return; }
     chmod 666 "$path"
     said=$(timeout "$limit" unshare -m sh -c 'mount -t proc -o "$0" proc /proc &&
       exec setpriv --reuid=65534 --regid=65534 --clear-groups "$@"' "hidepid=$hides" \
@@ -243,10 +230,8 @@ try_kept_serial() {
   waits=$!
   for _ in first second; do
     read -r _ <"$dir/kept.ready"
-    kill -KILL "$daemon"
-    finish "$daemon"
-    rm -f "$path" "$log"
-    start_on "$path" --lanes 8
+    kill_daemon KILL
+    start_again --lanes 8
     : >"$dir/kept.go"
   done
   finish "$waits"
@@ -259,10 +244,8 @@ has_few_descriptors() { [ "$(find "/proc/$supervisor/fd" -mindepth 1 | wc -l)" -
 # A join asks the daemon, and looks at no other process.
 try_cheap_join() {
   local waits supervisor calls tracer
-  if [ "$(id -u)" != 0 ] || ! command -v strace >/dev/null; then
-    skipped 'what a join costs: not root, or no strace(1)'
-    return
-  fi
+  { [ "$(id -u)" = 0 ] && command -v strace >/dev/null; } ||
+    { skipped 'what a join costs: not root, or no strace(1)'; return; }
   rm -f "$dir/go" "$dir/ready" "$dir/calls.text"
   "$dir/now/keyretain-session" --syscalls -- "$dir/tree" idle 300 "$dir/ready" "$dir/go" >"$dir/idle.text" 2>&1 &
   waits=$!
