@@ -14,18 +14,12 @@
  *   --pids           in a pid namespace, which the user namespace owns
  * runtime.c --able: whether such a filter can be had here. */
 #define _GNU_SOURCE
-#include <fcntl.h>
 #include <sched.h>
-#include <stdbool.h>
-#include <stdio.h>
-#include <stdlib.h>
-#include <string.h>
 #include <sys/prctl.h>
 #include <sys/socket.h>
 #include <sys/un.h>
-#include <sys/wait.h>
-#include <unistd.h>
 
+#include "check.h"
 #include "serve.h"
 
 enum { DESCRIPTORS = 64, FAILED = 99 };

@@ -1,6 +1,5 @@
 /* states.c: which states of containers are taken, by config-linux.md of the OCI runtime specification and RFC 8259, and
  * how far an object reaches, given in every way to cut it in two. */
-
 #include "check.h"
 #include "keyretain-agent.h"
 

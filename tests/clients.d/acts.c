@@ -1,22 +1,16 @@
 /* acts MODE [WORD ..]: what programs do whose descriptors, identity or session the tests look at. */
 #define _GNU_SOURCE
 #include <dlfcn.h>
-#include <fcntl.h>
 #include <grp.h>
 #include <limits.h>
 #include <linux/capability.h>
-#include <pthread.h>
 #include <sched.h>
-#include <signal.h>
-#include <stdlib.h>
 #include <sys/prctl.h>
 #include <sys/socket.h>
 #include <sys/stat.h>
 #include <sys/syscall.h>
 #include <sys/time.h>
-#include <sys/wait.h>
 #include <time.h>
-#include <unistd.h>
 
 #include "check.h"
 #include "keyretain.h"
@@ -25,7 +19,17 @@
 enum { OTHER = 65533, GROUP_MAY_READ = 0x3f3f0200, POSSESSOR_MAY_READ = 0x02000000, FILES = 300 };
 enum { HANDED_ON = 200 };
 
+#define OURS(name) ((__typeof__(&(name)))dlsym(RTLD_NEXT, #name)) /* the function that one here stands before */
+
+static char **words; /* behind the mode */
+
 static const char *word_of(bool holds) { return holds ? "ok" : strerrorname_np(errno); }
+
+/* The end of its input. */
+static void wait_for_end(void) {
+    char byte;
+    while (read(STDIN_FILENO, &byte, 1) > 0) continue;
+}
 
 /* How many descriptors are sockets. */
 static int count_sockets(void) {
@@ -36,14 +40,12 @@ static int count_sockets(void) {
 }
 
 /* sockets: how many are open. */
-static void see_sockets(char **words) {
-    (void)words;
+static void see_sockets(void) {
     printf("%d\n", count_sockets());
 }
 
 /* identities: asks as another user first, then as root, then as a third one. */
-static void take_identities(char **words) {
-    (void)words;
+static void take_identities(void) {
     (void)!seteuid(OTHER);
     keyctl_get_keyring_ID(KEY_SPEC_USER_KEYRING, 0);
     (void)!seteuid(0);
@@ -61,27 +63,25 @@ static void take_identity(bool is_now) {
 }
 
 unsigned long getauxval(unsigned long type) {
-    unsigned long (*ours)(unsigned long) = (unsigned long (*)(unsigned long))dlsym(RTLD_NEXT, "getauxval");
+    __typeof__(&getauxval) ours = OURS(getauxval);
     take_identity(taken == LOOKING);
     return ours(type);
 }
 
 int connect(int end, __CONST_SOCKADDR_ARG address, socklen_t length) {
-    int (*ours)(int, __CONST_SOCKADDR_ARG, socklen_t) =
-        (int (*)(int, __CONST_SOCKADDR_ARG, socklen_t))dlsym(RTLD_NEXT, "connect");
+    __typeof__(&connect) ours = OURS(connect);
     take_identity(taken == CONNECTING);
     return ours(end, address, length);
 }
 
 ssize_t recv(int end, void *room, size_t length, int flags) {
-    ssize_t (*ours)(int, void *, size_t, int) = (ssize_t(*)(int, void *, size_t, int))dlsym(RTLD_NEXT, "recv");
+    __typeof__(&recv) ours = OURS(recv);
     take_identity(taken == RECEIVING);
     return ours(end, room, length, flags);
 }
 
 /* meanwhile: a first call in which that is so, and another one. */
-static void take_identity_meanwhile(char **words) {
-    (void)words;
+static void take_identity_meanwhile(void) {
     taken = LOOKING;
     add_key("user", "root-secret", "hunter2", 7, KEY_SPEC_USER_KEYRING);
     taken = NEVER;
@@ -91,8 +91,7 @@ static void take_identity_meanwhile(char **words) {
 
 /* entered: the same where it receives what the daemon says of the session that its environment names. What is answered
  * then, and what later. */
-static void take_identity_entering(char **words) {
-    (void)words;
+static void take_identity_entering(void) {
     taken = RECEIVING;
     printf("%s ", word_of(keyctl_get_keyring_ID(KEY_SPEC_SESSION_KEYRING, 0) > 0));
     taken = NEVER;
@@ -108,10 +107,9 @@ static void *ask_as_other(void *unused) {
     return unused;
 }
 
-static void hold_up(char **words) {
+static void hold_up(void) {
     pthread_t thread;
     time_t begun = time(NULL);
-    (void)words;
     bool fine = keyctl_get_keyring_ID(KEY_SPEC_USER_KEYRING, 0) > 0;
     pthread_create(&thread, NULL, ask_as_other, NULL);
     usleep(300000);
@@ -120,13 +118,11 @@ static void hold_up(char **words) {
         fine = fine && keyctl_get_keyring_ID(KEY_SPEC_USER_KEYRING, 0) > 0;
     }
     puts(fine && time(NULL) - begun < 5 ? "all are answered" : "held up");
-    fflush(stdout);
     _exit(0);
 }
 
 /* drop: asks as root, is another user for good, and asks again, which no daemon answers. How many sockets are open. */
-static void drop_identity(char **words) {
-    (void)words;
+static void drop_identity(void) {
     bool fine = add_key("user", "root-only", "root-only", 9, KEY_SPEC_USER_KEYRING) > 0 && count_sockets() == 1;
     fine = fine && setgroups(0, NULL) == 0 && setresgid(OTHER, OTHER, OTHER) == 0;
     fine = fine && setresuid(OTHER, OTHER, OTHER) == 0;
@@ -144,9 +140,8 @@ static bool have_set_gid(void) {
 
 /* drop-groups: asks, has another gid for good, and asks again; then the same with other groups. How many sockets are
  * open after each: what was asked as who one can't be again has ended. */
-static void drop_groups(char **words) {
+static void drop_groups(void) {
     const gid_t some[] = { OTHER - 2 };
-    (void)words;
     bool fine = prctl(PR_SET_KEEPCAPS, 1) == 0 && setgroups(0, NULL) == 0 &&
                 setresgid(OTHER, OTHER, OTHER - 1) == 0 && setresuid(OTHER, OTHER, OTHER) == 0;
     fine = fine && keyctl_get_keyring_ID(KEY_SPEC_USER_KEYRING, 0) > 0;
@@ -159,7 +154,7 @@ static void drop_groups(char **words) {
 
 /* group N ALL: root makes a key that a group may read; another user reads it, who has so many groups, of which that is
  * the Nth. */
-static void read_by_group(char **words) {
+static void read_by_group(void) {
     gid_t groups[64];
     char byte;
     int nth = atoi(words[0]), count = atoi(words[1]);
@@ -167,22 +162,19 @@ static void read_by_group(char **words) {
     for (int i = 0; i < 64; i++) groups[i] = 1000000000 + (gid_t)i;
     bool fine = nth <= count && count <= 64 && keyctl_chown(key, (uid_t)-1, groups[nth - 1]) == 0 &&
                 keyctl_setperm(key, GROUP_MAY_READ) == 0;
-    fflush(stdout);
     pid_t child = fork();
     if (child == 0) {
         fine = fine && setgroups((size_t)count, groups) == 0 && setresgid(OTHER, OTHER, OTHER) == 0 &&
                setresuid(OTHER, OTHER, OTHER) == 0;
         puts(fine ? word_of(keyctl_read(key, &byte, 1) == 1) : "failed");
-        fflush(stdout);
         _exit(0);
     }
     waitpid(child, NULL, 0);
 }
 
 /* effective-group: the same by the effective gid alone, while the real one is root's. */
-static void read_by_effective_group(char **words) {
+static void read_by_effective_group(void) {
     char byte;
-    (void)words;
     key_serial_t key = add_key("user", "of a group", "x", 1, KEY_SPEC_USER_KEYRING);
     bool fine = keyctl_chown(key, (uid_t)-1, OTHER - 3) == 0 && keyctl_setperm(key, GROUP_MAY_READ) == 0;
     fine = fine && setgroups(0, NULL) == 0 && setegid(OTHER - 3) == 0 && seteuid(OTHER) == 0;
@@ -190,8 +182,7 @@ static void read_by_effective_group(char **words) {
 }
 
 /* saved: one user with a process keyring, then another, for whom root's uid is but saved, and the first one again. */
-static void come_back_by_saved(char **words) {
-    (void)words;
+static void come_back_by_saved(void) {
     bool fine = seteuid(OTHER - 1) == 0;
     key_serial_t ring = keyctl_get_keyring_ID(KEY_SPEC_PROCESS_KEYRING, 1);
     fine = fine && ring > 0 && seteuid(0) == 0 && setresuid(OTHER, OTHER, 0) == 0;
@@ -200,8 +191,7 @@ static void come_back_by_saved(char **words) {
 }
 
 /* each: root, and one user after the other, more than a process remembers. The first has a daemon of its own. */
-static void ask_as_each(char **words) {
-    (void)words;
+static void ask_as_each(void) {
     bool fine = keyctl_get_keyring_ID(KEY_SPEC_USER_KEYRING, 0) > 0;
     for (int i = 0; i < 6; i++) {
         fine = fine && seteuid(0) == 0 && seteuid((uid_t)(OTHER - i)) == 0;
@@ -220,49 +210,38 @@ static void *see_thread_ring(void *unused) {
     return unused;
 }
 
-static void go_and_come_back(char **words) {
-    pthread_t thread;
-    (void)words;
-    pthread_create(&thread, NULL, see_thread_ring, NULL);
-    pthread_join(thread, NULL);
-}
+static void go_and_come_back(void) { in_thread(see_thread_ring, NULL); }
 
 /* process-one: a connection of process 1 in a child that is process 1 of another namespace. */
-static void be_process_one(char **words) {
+static void be_process_one(void) {
     struct kr *connection = kr_open(words[0]);
     int64_t context = connection ? kr_hello(connection, 0, 0, 0, NULL) : -1;
     if (context < 0 || unshare(CLONE_NEWPID) < 0) exit(2);
-    fflush(stdout);
     pid_t child = fork();
     if (child == 0) {
         printf("%d %s\n", getpid(), word_of(kr_get_id(connection, (uint32_t)context, -4, 0) > 0));
-        fflush(stdout);
         _exit(0);
     }
     waitpid(child, NULL, 0);
 }
 
 /* open NAME MASK: joins a session, gives it this mask, and waits for the end of its input. */
-static void open_session(char **words) {
-    char byte;
+static void open_session(void) {
     bool is_open = keyctl_join_session_keyring(words[0]) > 0 &&
                    keyctl_setperm(KEY_SPEC_SESSION_KEYRING, (key_perm_t)strtoul(words[1], NULL, 16)) == 0;
     puts(word_of(is_open));
-    fflush(stdout);
-    while (read(STDIN_FILENO, &byte, 1) > 0) continue;
+    wait_for_end();
 }
 
 /* hold NAME: joins a session, tells its serial and that of a key in it, and waits for the end of its input. */
-static void hold_session(char **words) {
-    char byte;
+static void hold_session(void) {
     key_serial_t session = keyctl_join_session_keyring(words[0]);
     printf("%d %d\n", session, add_key("user", "held", "s3", 2, KEY_SPEC_SESSION_KEYRING));
-    fflush(stdout);
-    while (read(STDIN_FILENO, &byte, 1) > 0) continue;
+    wait_for_end();
 }
 
 /* read KEY: reads a key, which only who possesses it may. */
-static void read_possessed(char **words) {
+static void read_possessed(void) {
     char buffer[8];
     puts(word_of(keyctl_read(atoi(words[0]), buffer, sizeof buffer) == 2));
 }
@@ -277,21 +256,18 @@ static void *join_now(void *name) {
     return NULL;
 }
 
-static void join(char **words) {
-    pthread_t thread;
+static void join(void) {
     keyctl_join_session_keyring("before");
-    if (!words[1]) {
+    if (words[1])
+        in_thread(join_now, words[0]);
+    else
         join_now(words[0]);
-        return;
-    }
-    pthread_create(&thread, NULL, join_now, words[0]);
-    pthread_join(thread, NULL);
 }
 
 static void on_alarm(int unused) { (void)unused; }
 
 /* interrupted NAME: joins a session while a signal comes each two milliseconds. */
-static void join_interrupted(char **words) {
+static void join_interrupted(void) {
     struct sigaction action = { .sa_handler = on_alarm };
     struct itimerval often = { .it_value.tv_usec = 2000, .it_interval.tv_usec = 2000 }, never = { 0 };
     sigaction(SIGALRM, &action, NULL);
@@ -307,14 +283,13 @@ static void join_interrupted(char **words) {
 static bool is_environment_full;
 
 int setenv(const char *name, const char *value, int overwrite) {
-    int (*ours)(const char *, const char *, int) = (int (*)(const char *, const char *, int))dlsym(RTLD_NEXT, "setenv");
+    __typeof__(&setenv) ours = OURS(setenv);
     if (!is_environment_full) return ours(name, value, overwrite);
     errno = ENOMEM;
     return -1;
 }
 
-static void join_without_memory(char **words) {
-    (void)words;
+static void join_without_memory(void) {
     key_serial_t before = keyctl_join_session_keyring("before");
     is_environment_full = true;
     bool is_joined = keyctl_join_session_keyring("after") > 0;
@@ -323,31 +298,26 @@ static void join_without_memory(char **words) {
 }
 
 /* left: joins a session, then another one, which fails, and a third, and waits for the end of its input. */
-static void leave_sessions(char **words) {
-    char byte;
-    (void)words;
+static void leave_sessions(void) {
     bool fine = keyctl_join_session_keyring("first") > 0;
     is_environment_full = true;
     fine = fine && keyctl_join_session_keyring("second") < 0;
     is_environment_full = false;
     puts(word_of(fine && keyctl_join_session_keyring("third") > 0));
-    fflush(stdout);
-    while (read(STDIN_FILENO, &byte, 1) > 0) continue;
+    wait_for_end();
 }
 
 /* later: asks, and again when an hour has passed. */
 static time_t passed;
 
 int clock_gettime(clockid_t clock, struct timespec *moment) {
-    int (*ours)(clockid_t, struct timespec *) =
-        (int (*)(clockid_t, struct timespec *))dlsym(RTLD_NEXT, "clock_gettime");
+    __typeof__(&clock_gettime) ours = OURS(clock_gettime);
     int told = ours(clock, moment);
     moment->tv_sec += passed;
     return told;
 }
 
-static void ask_later(char **words) {
-    (void)words;
+static void ask_later(void) {
     printf("%s ", word_of(keyctl_get_keyring_ID(KEY_SPEC_USER_KEYRING, 0) > 0));
     passed = 3600;
     puts(word_of(keyctl_get_keyring_ID(KEY_SPEC_USER_KEYRING, 0) > 0));
@@ -357,14 +327,13 @@ static void ask_later(char **words) {
 static int blind_from = INT_MAX;
 
 int fstat(int descriptor, struct stat *status) {
-    int (*ours)(int, struct stat *) = (int (*)(int, struct stat *))dlsym(RTLD_NEXT, "fstat");
+    __typeof__(&fstat) ours = OURS(fstat);
     if (descriptor < blind_from) return ours(descriptor, status);
     errno = EACCES;
     return -1;
 }
 
-static void ask_blindly(char **words) {
-    (void)words;
+static void ask_blindly(void) {
     blind_from = 0;
     bool is_answered = keyctl_get_keyring_ID(KEY_SPEC_USER_KEYRING, 0) > 0;
     printf("%s ", word_of(is_answered));
@@ -380,19 +349,17 @@ static int count_handed_on(void) {
 
 /* blind-join: joins a session while it tells nothing of those that are handed on. How many more of these are open
  * then. */
-static void join_blindly(char **words) {
+static void join_blindly(void) {
     int before = count_handed_on();
-    (void)words;
     blind_from = HANDED_ON;
     printf("%s ", word_of(keyctl_join_session_keyring("blind") > 0));
     printf("%d\n", count_handed_on() - before);
 }
 
 /* again: joins a session, closes all descriptors and has files under their numbers, and joins another one. */
-static void join_again(char **words) {
+static void join_again(void) {
     struct stat status, each;
     int left = 0;
-    (void)words;
     bool is_joined = keyctl_join_session_keyring("one") > 0;
     for (int i = STDERR_FILENO + 1; i < FILES; i++) dup2(STDIN_FILENO, i);
     is_joined = is_joined && keyctl_join_session_keyring("two") > 0;
@@ -403,19 +370,15 @@ static void join_again(char **words) {
 }
 
 /* twice: asks, and at the end of its input twice more: the first of these may find that the daemon has gone. */
-static void ask_twice(char **words) {
-    char byte;
-    (void)words;
+static void ask_twice(void) {
     puts(word_of(keyctl_get_keyring_ID(KEY_SPEC_USER_KEYRING, 0) > 0));
-    fflush(stdout);
-    while (read(STDIN_FILENO, &byte, 1) > 0) continue;
+    wait_for_end();
     for (int i = 0; i < 2; i++) puts(word_of(keyctl_get_keyring_ID(KEY_SPEC_USER_KEYRING, 0) > 0));
 }
 
 /* as-other NAME: a root process that is another user for now joins a session, and waits for the end of its input. It
  * holds a signal back and ignores another. */
-static void join_as_other(char **words) {
-    char byte;
+static void join_as_other(void) {
     sigset_t held;
     sigemptyset(&held);
     sigaddset(&held, SIGUSR1);
@@ -423,40 +386,38 @@ static void join_as_other(char **words) {
     signal(SIGUSR2, SIG_IGN);
     (void)!seteuid(OTHER);
     puts(word_of(keyctl_join_session_keyring(words[0]) > 0));
-    fflush(stdout);
-    while (read(STDIN_FILENO, &byte, 1) > 0) continue;
+    wait_for_end();
 }
 
 /* execute NAME COMMAND ..: joins a session, and executes. */
-static void execute(char **words) {
+static void execute(void) {
     if (keyctl_join_session_keyring(words[0]) > 0) execvp(words[1], words + 1);
     puts(word_of(false));
 }
 
 /* put RING SECONDS: puts a key that expires into a keyring of the user keyring. */
-static void put_key(char **words) {
+static void put_key(void) {
     key_serial_t ring = (key_serial_t)keyctl_search(KEY_SPEC_USER_KEYRING, "keyring", words[0], 0);
     key_serial_t key = ring > 0 ? add_key("user", "held", "s3", 2, ring) : -1;
     puts(word_of(key > 0 && keyctl_set_timeout(key, (unsigned)atoi(words[1])) == 0));
 }
 
 /* hide RING: puts a key there that nobody may look at, its maker neither. */
-static void hide_key(char **words) {
+static void hide_key(void) {
     key_serial_t ring = (key_serial_t)keyctl_search(KEY_SPEC_USER_KEYRING, "keyring", words[0], 0);
     key_serial_t key = ring > 0 ? add_key("user", "hidden", "s3", 2, ring) : -1;
     puts(word_of(key > 0 && keyctl_setperm(key, POSSESSOR_MAY_READ) == 0));
 }
 
 /* links RING: how many keys a keyring of the user keyring links. */
-static void count_links(char **words) {
+static void count_links(void) {
     key_serial_t ring = (key_serial_t)keyctl_search(KEY_SPEC_USER_KEYRING, "keyring", words[0], 0);
     long length = ring > 0 ? keyctl_read(ring, NULL, 0) : -1;
     printf("%ld\n", length < 0 ? -1 : length / 4);
 }
 
 /* session: the serial of the session keyring. */
-static void see_session(char **words) {
-    (void)words;
+static void see_session(void) {
     key_serial_t ring = keyctl_get_keyring_ID(KEY_SPEC_SESSION_KEYRING, 0);
     if (ring > 0)
         printf("%d\n", ring);
@@ -465,7 +426,7 @@ static void see_session(char **words) {
 }
 
 /* peer PATH: who listens there. */
-static void see_peer(char **words) {
+static void see_peer(void) {
     uint32_t uid, gid;
     int32_t pid;
     struct kr *connection = kr_open_with(words[0], KR_ANY_SERVER, 1000);
@@ -479,23 +440,22 @@ static void see_peer(char **words) {
 }
 
 /* ask PATH: one ask of a program that names the path itself. */
-static void ask_there(char **words) {
+static void ask_there(void) {
     struct kr *connection = kr_open(words[0]);
     puts(word_of(connection && kr_hello(connection, geteuid(), getegid(), 0, NULL) >= 0));
     kr_close(connection);
 }
 
 /* where: the path of the daemon. */
-static void see_path(char **words) {
+static void see_path(void) {
     char path[108];
-    (void)words;
     puts(kr_default_path(path, sizeof path) > 0 ? path : word_of(false));
 }
 
-int main(int count, char **words) {
+int main(int count, char **given) {
     static const struct {
         const char *name;
-        void (*run)(char **);
+        void (*run)(void);
     } modes[] = { { "sockets", see_sockets },     { "identities", take_identities },
                   { "drop", drop_identity },      { "drop-groups", drop_groups },
                   { "held-up", hold_up },         { "entered", take_identity_entering },
@@ -516,7 +476,9 @@ int main(int count, char **words) {
                   { "peer", see_peer },           { "ask", ask_there },
                   { "where", see_path } };
     if (count < 2) return 2;
+    words = given + 2;
+    setlinebuf(stdout);
     for (size_t i = 0; i < sizeof modes / sizeof *modes; i++)
-        if (strcmp(words[1], modes[i].name) == 0) modes[i].run(words + 2);
+        if (strcmp(given[1], modes[i].name) == 0) modes[i].run();
     return 0;
 }

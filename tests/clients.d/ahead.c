@@ -1,6 +1,4 @@
 /* ahead: asks that libkeyretain sends ahead to a daemon, and records of a queue that it decodes. */
-#include <stdlib.h>
-
 #include "check.h"
 #include "keyretain.h"
 

@@ -3,16 +3,10 @@
  * first call. restarted: signals that end no call. one: a call that is answered, and one more. fork: a call in a child.
  * */
 #define _GNU_SOURCE
-#include <errno.h>
 #include <inttypes.h>
-#include <signal.h>
-#include <stdio.h>
-#include <stdlib.h>
-#include <string.h>
 #include <sys/time.h>
-#include <sys/wait.h>
-#include <unistd.h>
 
+#include "check.h"
 #include "keyretain.h"
 
 static struct kr *connection;

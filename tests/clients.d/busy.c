@@ -2,22 +2,21 @@
  * Prints what became of it. */
 #define _GNU_SOURCE
 #include <dlfcn.h>
-#include <pthread.h>
-#include <signal.h>
 #include <spawn.h>
 #include <stdatomic.h>
-#include <stdlib.h>
 #include <sys/socket.h>
 #include <sys/stat.h>
-#include <sys/wait.h>
 #include <time.h>
-#include <unistd.h>
 
 #include "check.h"
 #include "keyretain.h"
 #include "keyutils.h"
 
 enum { THREADS = 32, LOOKS = 100, STALLED = 200, AGAIN = 9, SOCKETS = 64, OFTEN = 20 };
+
+#define OURS(name) ((__typeof__(&(name)))dlsym(RTLD_NEXT, #name)) /* the function that one here stands before */
+
+static char **words; /* behind the mode */
 
 static long ask(void) { return keyctl_get_keyring_ID(KEY_SPEC_USER_KEYRING, 0); }
 
@@ -46,10 +45,9 @@ static void *ask_often(void *unused) {
 /* fair: how often the others are answered while one thread waits for its answer: each once, as they came before, and
  * some that had been answered, and not counted yet. A thread that loses its processor before it has come waits longer,
  * so of a hundred calls ten may. */
-static void wait_beside_others(char **words) {
+static void wait_beside_others(void) {
     pthread_t threads[THREADS];
     int unfair = 0;
-    (void)words;
     for (int i = 0; i < THREADS; i++) pthread_create(&threads[i], NULL, ask_often, NULL);
     while (atomic_load(&calls) < THREADS) usleep(1000);
     for (int i = 0; i < LOOKS; i++) {
@@ -70,8 +68,7 @@ static time_t step, passed;
 static const struct timespec *stands; /* where not NULL, the clock stands here */
 
 int clock_gettime(clockid_t clock, struct timespec *moment) {
-    int (*ours)(clockid_t, struct timespec *) =
-        (int (*)(clockid_t, struct timespec *))dlsym(RTLD_NEXT, "clock_gettime");
+    __typeof__(&clock_gettime) ours = OURS(clock_gettime);
     int told = ours(clock, moment);
     if (step) passed += step;
     moment->tv_sec += passed;
@@ -88,7 +85,7 @@ static bool ask_again(void) {
 }
 
 /* stalled DAEMON: calls that are all out of time, and one when the daemon goes on. */
-static void ask_stopped(char **words) {
+static void ask_stopped(void) {
     pid_t daemon = atoi(words[0]);
     int late = 0;
     kill(daemon, SIGSTOP);
@@ -102,7 +99,6 @@ static void ask_stopped(char **words) {
 }
 
 static void *make_ring(void *unused) {
-    (void)unused;
     return (void *)(long)keyctl_get_keyring_ID(KEY_SPEC_THREAD_KEYRING, 1);
 }
 
@@ -113,27 +109,23 @@ static void *make_ring_stopped(void *late) {
     return NULL;
 }
 
-static void want_own_stopped(char **words) {
+static void want_own_stopped(void) {
     pid_t daemon = atoi(words[0]);
-    pthread_t thread;
     int late = 0;
-    void *ring;
     add_key("user", "kept", "s3", 2, KEY_SPEC_PROCESS_KEYRING);
     kill(daemon, SIGSTOP);
     usleep(300000);
     step = 40;
-    pthread_create(&thread, NULL, make_ring_stopped, &late);
-    pthread_join(thread, NULL);
+    in_thread(make_ring_stopped, &late);
     step = 0;
     kill(daemon, SIGCONT);
-    pthread_create(&thread, NULL, make_ring, NULL);
-    pthread_join(thread, &ring);
+    void *ring = in_thread(make_ring, NULL);
     printf("%d late, then %s, and the process's key is %s\n", late, word_of((long)ring > 0),
            request_key("user", "kept", NULL, 0) > 0 ? "there" : "lost");
 }
 
 /* late DAEMON: the same of libkeyretain. */
-static void want_contexts_stopped(char **words) {
+static void want_contexts_stopped(void) {
     pid_t daemon = atoi(words[0]);
     struct kr *connection = kr_open(NULL);
     int64_t context = kr_hello(connection, geteuid(), getegid(), 0, NULL);
@@ -159,23 +151,20 @@ static void want_contexts_stopped(char **words) {
 static atomic_int connections;
 
 int connect(int descriptor, const struct sockaddr *address, socklen_t length) {
-    int (*ours)(int, const struct sockaddr *, socklen_t) =
-        (int (*)(int, const struct sockaddr *, socklen_t))dlsym(RTLD_NEXT, "connect");
+    __typeof__(&connect) ours = OURS(connect);
     if (atomic_fetch_add(&connections, 1) == 0) usleep(1000000);
     return ours(descriptor, address, length);
 }
 
 static void *ask_once(void *unused) {
-    (void)unused;
     return (void *)ask();
 }
 
 /* crowd: how many connections are made for threads that ask while the first one is being made, and a second isn't
  * over. */
-static void ask_as_crowd(char **words) {
+static void ask_as_crowd(void) {
     pthread_t threads[THREADS];
     struct timespec now;
-    (void)words;
     clock_gettime(CLOCK_MONOTONIC, &now);
     stands = &now;
     for (int i = 0; i < THREADS; i++) pthread_create(&threads[i], NULL, ask_once, NULL);
@@ -187,7 +176,7 @@ static void ask_as_crowd(char **words) {
 
 /* many COUNT: so many processes that live at one time, each of which asks, and again when all have. How many were
  * answered both times. */
-static void ask_as_many(char **words) {
+static void ask_as_many(void) {
     int count = atoi(words[0]), fine = 0, status, begin[2], told[2];
     char none;
     if (pipe(begin) < 0 || pipe(told) < 0) exit(2);
@@ -228,7 +217,7 @@ static void fall_silent(int told, int end) {
 
 /* silent COUNT: so many processes that live at one time and have fallen silent: how many were answered, hold a
  * connection, and have a child that does; and what a further call comes to. */
-static void ask_beside_silent(char **words) {
+static void ask_beside_silent(void) {
     int count = atoi(words[0]), fine = 0, held = 0, inherited = 0, end[2], told[2];
     char said[3];
     if (pipe(end) < 0 || pipe(told) < 0) exit(2);
@@ -248,9 +237,8 @@ static void ask_beside_silent(char **words) {
 
 /* held: how many sockets a process has that has nothing to lose, that has asked often, that asks a second later, that
  * has a process keyring; and whether its key is there afterwards. */
-static void hold(char **words) {
+static void hold(void) {
     struct timespec now;
-    (void)words;
     ask();
     printf("%d", sockets());
     clock_gettime(CLOCK_MONOTONIC, &now);
@@ -275,11 +263,10 @@ static void *keep_ring(void *barrier) {
 }
 
 /* thread: a thread keyring of one thread, while another one asks; then that thread has ended. */
-static void hold_for_thread(char **words) {
+static void hold_for_thread(void) {
     pthread_barrier_t barrier;
     pthread_t thread;
     void *is_same;
-    (void)words;
     pthread_barrier_init(&barrier, NULL, 2);
     pthread_create(&thread, NULL, keep_ring, &barrier);
     pthread_barrier_wait(&barrier);
@@ -297,22 +284,18 @@ static bool is_full;
 
 int posix_spawn(pid_t *child, const char *path, const posix_spawn_file_actions_t *actions,
                 const posix_spawnattr_t *attributes, char *const words[], char *const environment[]) {
-    int (*ours)(pid_t *, const char *, const posix_spawn_file_actions_t *, const posix_spawnattr_t *, char *const[],
-                char *const[]) = (int (*)(pid_t *, const char *, const posix_spawn_file_actions_t *,
-                                          const posix_spawnattr_t *, char *const[], char *const[]))
-        dlsym(RTLD_NEXT, "posix_spawn");
+    __typeof__(&posix_spawn) ours = OURS(posix_spawn);
     return is_full ? EAGAIN : ours(child, path, actions, attributes, words, environment);
 }
 
 /* no-process: joins a session when no keeper can be started. */
-static void join_when_full(char **words) {
-    (void)words;
+static void join_when_full(void) {
     is_full = true;
     puts(word_of(keyctl_join_session_keyring(NULL) > 0));
 }
 
 /* read RING COUNT: so many calls, for whoever counts what they take. */
-static void read_often(char **words) {
+static void read_often(void) {
     char room[8];
     key_serial_t key = add_key("user", "read", "s3", 2, atoi(words[0]));
     int count = atoi(words[1]), fine = 0;
@@ -320,10 +303,10 @@ static void read_often(char **words) {
     puts(fine == count ? "read" : "not read");
 }
 
-int main(int count, char **words) {
+int main(int count, char **given) {
     static const struct {
         const char *name;
-        void (*run)(char **);
+        void (*run)(void);
     } modes[] = { { "fair", wait_beside_others },   { "crowd", ask_as_crowd },
                   { "stalled", ask_stopped },       { "threads", want_own_stopped },
                   { "late", want_contexts_stopped }, { "many", ask_as_many },
@@ -331,7 +314,8 @@ int main(int count, char **words) {
                   { "thread", hold_for_thread },    { "no-process", join_when_full },
                   { "read", read_often } };
     if (count < 2) return 2;
+    words = given + 2;
     for (size_t i = 0; i < sizeof modes / sizeof *modes; i++)
-        if (strcmp(words[1], modes[i].name) == 0) modes[i].run(words + 2);
+        if (strcmp(given[1], modes[i].name) == 0) modes[i].run();
     return 0;
 }

@@ -1,9 +1,5 @@
 /* forks NUMBER: so many children of a process that has asked, some side by side, each of which asks and is in the
  * session; then whether the parent is as it was. */
-#include <stdlib.h>
-#include <sys/wait.h>
-#include <unistd.h>
-
 #include "check.h"
 #include "keyutils.h"
 

@@ -1,13 +1,8 @@
 /* hangs DAEMON MODE: what libkeyutils.so.1 does in a program with threads, forks and cancelled threads. Prints what
  * became of it in one word, and `hangs` where that takes 15 seconds, or where of many calls none ends for so long. */
 #define _GNU_SOURCE
-#include <pthread.h>
-#include <signal.h>
 #include <stdatomic.h>
-#include <stdlib.h>
-#include <sys/wait.h>
 #include <time.h>
-#include <unistd.h>
 
 #include "check.h"
 #include "keyutils.h"
@@ -19,7 +14,6 @@ static atomic_uint ended; /* how many calls of a crowd have */
 
 static void on_alarm(int unused) {
     static unsigned seen;
-    (void)unused;
     unsigned now = atomic_load(&ended);
     if (now != seen) {
         seen = now;
@@ -32,9 +26,8 @@ static void on_alarm(int unused) {
 }
 
 static void *ask(void *unused) {
-    (void)unused;
     keyctl_get_keyring_ID(KEY_SPEC_USER_KEYRING, 0);
-    return NULL;
+    return unused;
 }
 
 /* ---- A daemon that doesn't answer any more ---- */
@@ -117,11 +110,7 @@ static void *be_cancelled(void *unused) {
 }
 
 static const char *try_cancel(void) {
-    pthread_t thread;
-    void *result;
-    pthread_create(&thread, NULL, be_cancelled, NULL);
-    pthread_join(thread, &result);
-    if (result != PTHREAD_CANCELED) return "not cancelled";
+    if (in_thread(be_cancelled, NULL) != PTHREAD_CANCELED) return "not cancelled";
     return keyctl_get_keyring_ID(KEY_SPEC_USER_KEYRING, 0) > 0 ? "answers" : "refuses";
 }
 
@@ -157,7 +146,6 @@ enum { HANDLED = 3000 };
 static volatile sig_atomic_t handled;
 
 static void fork_now(int unused) {
-    (void)unused;
     pid_t child = fork();
     if (child == 0) _exit(0);
     waitpid(child, NULL, 0);
@@ -182,9 +170,8 @@ static const char *try_handler(void) {
 /* ---- The environment of a program with threads ---- */
 
 static void *wait_for_end(void *unused) {
-    (void)unused;
     pthread_barrier_wait(&may_end);
-    return NULL;
+    return unused;
 }
 
 static bool is_in_session(key_serial_t session) {
@@ -210,7 +197,6 @@ static const char *try_environment(void) {
 /* ---- A child that a second thread has made, and whose first thread ends before the others ---- */
 
 static void *ask_later(void *unused) {
-    (void)unused;
     usleep(500000);
     long ring = keyctl_get_keyring_ID(KEY_SPEC_USER_KEYRING, 0);
     puts(ring > 0 ? "answers" : strerrorname_np(errno));
@@ -235,11 +221,8 @@ static void *fork_and_wait(void *unused) {
 }
 
 static const char *try_child(void) {
-    pthread_t thread;
     ask(NULL);
-    pthread_create(&thread, NULL, fork_and_wait, NULL);
-    pthread_join(thread, NULL);
-    return NULL;
+    return in_thread(fork_and_wait, NULL);
 }
 
 /* ---- Arguments whose upper half nobody has set ---- */

@@ -1,22 +1,14 @@
 /* hostile PATH MODE: libkeyretain and a server of its own process that is silent, slow, or answers in part. Prints
  * what became of it in one word, and `hangs` where that takes 8 seconds. */
 #define _GNU_SOURCE
-#include <errno.h>
-#include <fcntl.h>
 #include <malloc.h>
-#include <pthread.h>
-#include <signal.h>
-#include <stdbool.h>
 #include <stdint.h>
-#include <stdio.h>
-#include <stdlib.h>
-#include <string.h>
 #include <sys/socket.h>
 #include <sys/stat.h>
 #include <sys/un.h>
 #include <time.h>
-#include <unistd.h>
 
+#include "check.h"
 #include "keyretain.h"
 
 enum { LONGEST = 8, SECRET = 16, FRAME = 64, LONGEST_BODY = 262140, FILES = 300 };
@@ -25,12 +17,15 @@ static const char *path;
 static int listener;
 
 static void on_alarm(int unused) {
-    (void)unused;
     (void)!write(STDOUT_FILENO, "hangs\n", 6);
     _exit(9);
 }
 
 static void on_timer(int unused) { (void)unused; }
+
+static void make_secret(uint8_t *secret) {
+    for (int i = 0; i < SECRET; i++) secret[i] = (uint8_t)(i * 7 + 0x41);
+}
 
 /* ---- Servers ---- */
 
@@ -64,7 +59,7 @@ static void *answer_half(void *unused) {
     bool has_asked = read(end, ask, sizeof ask) > 0;
     memcpy(number + 8, ask + 12, 8); /* the tag */
     if (has_asked && write(end, number, sizeof number) > 0 && read(end, ask, sizeof ask) > 0) {
-        for (int i = 0; i < SECRET; i++) half[16 + i] = (uint8_t)(i * 7 + 0x41);
+        make_secret(half + 16);
         (void)!write(end, half, sizeof half);
         explicit_bzero(half, sizeof half);
     }
@@ -86,7 +81,7 @@ static void *answer_some(void *unused) {
         uint8_t frame[16 + SECRET] = { is_secret ? 12 + SECRET : 16 };
         memcpy(frame + 8, ask + 12, 8); /* the tag */
         frame[16] = 1;
-        for (int j = 0; is_secret && j < SECRET; j++) frame[16 + j] = (uint8_t)(j * 7 + 0x41);
+        if (is_secret) make_secret(frame + 16);
         (void)!write(end, frame, is_secret ? sizeof frame : 20);
         explicit_bzero(frame, sizeof frame);
         explicit_bzero(ask, sizeof ask);
@@ -134,10 +129,6 @@ static const char *try_signals(void) {
 static const char *try_drip(void) { return hello(connect_to(drip, 1000)); }
 
 /* ---- What is left in memory ---- */
-
-static void make_secret(uint8_t *secret) {
-    for (int i = 0; i < SECRET; i++) secret[i] = (uint8_t)(i * 7 + 0x41);
-}
 
 /* Whether the secret is in what may be written of this process, but for the stack and this program's own data. */
 static bool finds_in(int memory, unsigned long from, unsigned long to) {

@@ -1,12 +1,6 @@
 /* killed DAEMON: a daemon that is killed in the middle of a call. Prints `killed`, and then waits for a line, which
  * tells that there is a new daemon. */
 #define _GNU_SOURCE
-#include <pthread.h>
-#include <signal.h>
-#include <stdlib.h>
-#include <sys/wait.h>
-#include <unistd.h>
-
 #include "check.h"
 #include "keyutils.h"
 
@@ -26,10 +20,9 @@ static void *ask_both(void *unused) {
 
 /* Until then the daemon is stopped, so that it has the ask and can't answer it. */
 static void *kill_soon(void *unused) {
-    (void)unused;
     usleep(300000);
     kill(daemon_process, SIGKILL);
-    return NULL;
+    return unused;
 }
 
 static void be_killed(key_serial_t key) {

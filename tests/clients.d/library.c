@@ -1,7 +1,4 @@
 /* library: asks of libkeyretain to a daemon. */
-#include <stdlib.h>
-#include <string.h>
-
 #include "check.h"
 #include "keyretain.h"
 

@@ -1,12 +1,7 @@
 /* life: what libkeyutils.so.1 does where threads, forks, exec, closed descriptors and other identities come in. Wants a
  * daemon with some ten lanes. Run again by itself as `life after SESSION KEY`. */
 #define _GNU_SOURCE
-#include <fcntl.h>
-#include <pthread.h>
-#include <stdlib.h>
 #include <sys/stat.h>
-#include <sys/wait.h>
-#include <unistd.h>
 
 #include "check.h"
 #include "keyutils.h"
@@ -26,23 +21,20 @@ static bool has_no_key(const char *description) {
 
 static void *see_from_thread(void *unused) {
     char buffer[8];
-    (void)unused;
     check("a thread finds the process's key",
           request_key("user", "of process", NULL, 0) == process_key && keyctl_read(process_key, buffer, 8) == 2);
     check("a thread doesn't find another's key", has_no_key("of thread"));
     check("a thread makes a keyring of its own", add_key("user", "own", "x", 1, KEY_SPEC_THREAD_KEYRING) > 0 &&
           keyctl_get_keyring_ID(KEY_SPEC_THREAD_KEYRING, 0) != thread_ring);
-    return NULL;
+    return unused;
 }
 
 static void try_keyrings(void) {
-    pthread_t thread;
     process_key = add_key("user", "of process", "s3", 2, KEY_SPEC_PROCESS_KEYRING);
     thread_ring = keyctl_get_keyring_ID(KEY_SPEC_THREAD_KEYRING, 1);
     check("keys of the process and the thread",
           process_key > 0 && thread_ring > 0 && add_key("user", "of thread", "s3", 2, KEY_SPEC_THREAD_KEYRING) > 0);
-    pthread_create(&thread, NULL, see_from_thread, NULL);
-    pthread_join(thread, NULL);
+    in_thread(see_from_thread, NULL);
     check("the key of a thread that has ended is gone", has_no_key("own"));
 }
 
@@ -86,10 +78,7 @@ static void try_many_threads(void) {
     check("300 threads at once: as many have a keyring as have contexts beside this thread's and the shared one",
           with_context == CONTEXTS - 2 && over_quota == AT_ONCE - with_context);
     with_context = 0;
-    for (int i = 0; i < IN_TURN; i++) {
-        pthread_create(threads, NULL, ask_once, NULL);
-        pthread_join(*threads, NULL);
-    }
+    for (int i = 0; i < IN_TURN; i++) in_thread(ask_once, NULL);
     check("200 threads one after the other all have one", with_context == IN_TURN);
     pthread_barrier_destroy(&all_have_asked);
 }
@@ -106,19 +95,12 @@ static void *join_often(void *unused) {
     return unused;
 }
 
-static void try_sessions(void) {
-    pthread_t thread;
-    pthread_create(&thread, NULL, join_often, NULL);
-    pthread_join(thread, NULL);
-}
-
 /* ---- Forks ---- */
 
 static int is_stopped;
 
 static void *hammer(void *unused) {
     long asks = 0;
-    (void)unused;
     while (!__atomic_load_n(&is_stopped, __ATOMIC_SEQ_CST) && keyctl_get_keyring_ID(KEY_SPEC_PROCESS_KEYRING, 0) > 0)
         asks++;
     return (void *)asks;
@@ -183,12 +165,10 @@ static int descriptors_of_parent;
 
 /* The parent's connection would else stay as long as its child. */
 static bool has_no_connection(key_serial_t session, key_serial_t key) {
-    (void)session, (void)key;
     return open_descriptors() == descriptors_of_parent - 1;
 }
 
 static bool closes_all(key_serial_t session, key_serial_t key) {
-    (void)session, (void)key;
     return leaves_files_alone();
 }
 
@@ -217,12 +197,10 @@ static bool closes_from(int first, key_serial_t key) {
 }
 
 static bool closes_standard(key_serial_t session, key_serial_t key) {
-    (void)session;
     return closes_from(STDIN_FILENO, key);
 }
 
 static bool closes_error(key_serial_t session, key_serial_t key) {
-    (void)session;
     return closes_from(STDERR_FILENO, key);
 }
 
@@ -303,7 +281,7 @@ int main(int count, char **words) {
     check("a process has one descriptor", open_descriptors() == before + 1);
     try_many_threads();
     try_living_threads();
-    try_sessions();
+    in_thread(join_often, NULL);
     key_serial_t session = keyctl_join_session_keyring("life");
     key_serial_t key = add_key("user", "of session", "abc", 3, KEY_SPEC_SESSION_KEYRING);
     check("a session", session > 0 && key > 0);

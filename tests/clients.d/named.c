@@ -1,6 +1,4 @@
 /* named: which texts name a session, how long a name may be, and what the environment is told of it. */
-#include <stdlib.h>
-
 #include "session.h"
 
 #include "check.h"

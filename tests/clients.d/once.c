@@ -1,12 +1,9 @@
 /* once [signals]: one call, the name of its error, and how many whole seconds it took; with signals meanwhile. */
 #define _GNU_SOURCE
-#include <errno.h>
-#include <signal.h>
-#include <stdio.h>
-#include <string.h>
 #include <sys/time.h>
 #include <time.h>
 
+#include "check.h"
 #include "keyutils.h"
 
 static void on_alarm(int unused) { (void)unused; }

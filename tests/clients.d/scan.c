@@ -1,9 +1,5 @@
 /* scan DAEMON: a keyring is scanned, and the daemon is killed meanwhile. */
 #define _GNU_SOURCE
-#include <signal.h>
-#include <stdlib.h>
-#include <unistd.h>
-
 #include "check.h"
 #include "keyutils.h"
 
@@ -15,7 +11,6 @@ static int seen;
 /* The first key that is seen is the last: the daemon ends here. */
 static int kill_daemon(key_serial_t parent, key_serial_t key, char *description, int length, void *data) {
     char buffer[64];
-    (void)parent, (void)description, (void)data;
     if (seen++ == 0 && kill(daemon_process, SIGKILL) == 0)
         while (keyctl_describe(key, buffer, sizeof buffer) >= 0) usleep(1000); /* its threads may run on for a little */
     return length > 0;

@@ -1,7 +1,6 @@
 /* symbols: each symbol of libkeyutils.so.1 is there under its version, and each function is called once. */
 #define _GNU_SOURCE
 #include <dlfcn.h>
-#include <stdlib.h>
 
 #include "check.h"
 #include "keyutils.h"
@@ -109,7 +108,6 @@ static void call_readers(void) {
 }
 
 static int count_key(key_serial_t parent, key_serial_t at, char *description, int length, void *seen) {
-    (void)parent, (void)at;
     if (length > 0 && description) *(int *)seen += 1;
     return 1;
 }

@@ -1,9 +1,6 @@
 /* tree: libkeyutils.so.1, a second copy of it, and libkeyretain side by side in a process and its children. */
 #define _GNU_SOURCE
 #include <dlfcn.h>
-#include <stdlib.h>
-#include <sys/wait.h>
-#include <unistd.h>
 
 #include "check.h"
 #include "keyretain.h"

@@ -1,6 +1,5 @@
 /* layout: whether the structures of guard/krs_screen.h are those of the crate: it gives each field a number of its own.
  * */
-
 #include "check.h"
 #include "krs_screen.h"
 

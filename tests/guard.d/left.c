@@ -1,16 +1,12 @@
 /* left.c: which system calls are left under the guard's filter. Each is made by a child that has the filter: what isn't
  * left ends it by SIGSYS. */
 #define _GNU_SOURCE
-#include <fcntl.h>
 #include <netinet/in.h>
 #include <poll.h>
 #include <sched.h>
-#include <signal.h>
 #include <sys/mman.h>
 #include <sys/socket.h>
 #include <sys/syscall.h>
-#include <sys/wait.h>
-#include <unistd.h>
 
 #include "check.h"
 #include "guard.h"

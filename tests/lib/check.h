@@ -1,11 +1,18 @@
-/* check.h: a line for each check that fails, and how many passed and failed, for the tests in C. */
+/* check.h: a line for each check that fails, and how many passed and failed, for the tests in C; and the headers that
+ * most of them want. */
 #ifndef KEYRETAIN_CHECK_H
 #define KEYRETAIN_CHECK_H
 
 #include <errno.h>
+#include <fcntl.h>
+#include <pthread.h>
+#include <signal.h>
 #include <stdbool.h>
 #include <stdio.h>
+#include <stdlib.h>
 #include <string.h>
+#include <sys/wait.h>
+#include <unistd.h>
 
 static int failed_checks, passed_checks;
 
@@ -22,6 +29,14 @@ static inline bool check(const char *what, bool holds) {
 
 /* Whether a call was refused with this error. */
 static inline bool refused(long answer, int error) { return answer == -1 && errno == error; }
+
+/* What a thread returns, which has run then. */
+static inline void *in_thread(void *(*run)(void *), void *data) {
+    pthread_t thread;
+    void *returned = NULL;
+    if (pthread_create(&thread, NULL, run, data) == 0) pthread_join(thread, &returned);
+    return returned;
+}
 
 static inline int conclude(const char *name) {
     printf("%s: %d passed, %d failed\n", name, passed_checks, failed_checks);

@@ -2,10 +2,7 @@
  * error, its folder, how many variables, whose session of setsid(2), with which goes a terminal, its ids, its signals,
  * and its words. It is no shell, as some set their signals anew when they begin. */
 #define _GNU_SOURCE
-#include <fcntl.h>
-#include <stdio.h>
-#include <string.h>
-#include <unistd.h>
+#include "check.h"
 
 extern char **environ;
 

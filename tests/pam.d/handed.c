@@ -3,9 +3,7 @@
 #define _GNU_SOURCE
 #include <linux/keyctl.h>
 #include <stdarg.h>
-#include <stdlib.h>
 #include <sys/syscall.h>
-#include <unistd.h>
 
 #include "check.h"
 #include "keyutils.h"

@@ -2,21 +2,14 @@
  * the folder, as in /etc/pam.d. What is printed goes to descriptor OUT, wherever that is then. */
 #define _GNU_SOURCE
 #include <dirent.h>
-#include <fcntl.h>
-#include <pthread.h>
 #include <pwd.h>
 #include <security/pam_appl.h>
 #include <security/pam_ext.h>
-#include <signal.h>
 #include <stdarg.h>
-#include <stdbool.h>
-#include <stdio.h>
-#include <stdlib.h>
-#include <string.h>
 #include <sys/stat.h>
 #include <sys/time.h>
-#include <sys/wait.h>
-#include <unistd.h>
+
+#include "check.h"
 
 enum { OUT = 100, THREADS = 3, VICTIMS = 32, FIRST_FREE = 3 };
 
@@ -26,7 +19,6 @@ static volatile sig_atomic_t children_seen;
 /* In the place of libpam's: what the module tells the log stands on standard error. */
 void pam_syslog(const pam_handle_t *of, int priority, const char *format, ...) {
     va_list words;
-    (void)of;
     va_start(words, format);
     dprintf(STDERR_FILENO, "log %d ", priority);
     vdprintf(STDERR_FILENO, format, words);
@@ -35,7 +27,6 @@ void pam_syslog(const pam_handle_t *of, int priority, const char *format, ...) {
 }
 
 static int converse(int count, const struct pam_message **messages, struct pam_response **answers, void *unused) {
-    (void)count, (void)messages, (void)answers, (void)unused;
     return PAM_CONV_ERR;
 }
 
@@ -48,17 +39,14 @@ static void tell_status(const char *act, int status) {
 /* ---- Acts ---- */
 
 static void open_session(const char *word) {
-    (void)word;
     tell_status("open", pam_open_session(handle, 0));
 }
 
 static void close_session(const char *word) {
-    (void)word;
     tell_status("close", pam_close_session(handle, 0));
 }
 
 static void end(const char *word) {
-    (void)word;
     tell_status("end", pam_end(handle, PAM_SUCCESS));
     handle = NULL;
 }
@@ -107,7 +95,6 @@ static void repeat(const char *count) {
 /* ---- What an application may be like ---- */
 
 static void close_standard(const char *word) {
-    (void)word;
     for (int i = 0; i < FIRST_FREE; i++) close(i);
 }
 
@@ -131,13 +118,11 @@ static void show_everything(const char *path) {
 
 static void count_descriptors(const char *word) {
     int count = 0;
-    (void)word;
     for (int i = 0; i < OUT; i++) count += fcntl(i, F_GETFD) >= 0;
     dprintf(OUT, "%d descriptors\n", count);
 }
 
 static void on_child(int unused) {
-    (void)unused;
     while (waitpid(-1, NULL, WNOHANG) > 0) continue;
     children_seen = 1;
 }
@@ -149,7 +134,6 @@ static void handle_children(const char *how) {
 
 static void hold_signals_back(const char *word) {
     sigset_t some;
-    (void)word;
     sigemptyset(&some);
     sigaddset(&some, SIGTERM);
     sigprocmask(SIG_BLOCK, &some, NULL);
@@ -174,7 +158,6 @@ static void kill_keepers(const char *path) {
 
 /* Whether it has a child, also one of which no signal tells. */
 static void show_offspring(const char *word) {
-    (void)word;
     dprintf(OUT, "%s\n", waitpid(-1, NULL, WNOHANG | __WALL) < 0 ? "no child" : "a child");
 }
 
@@ -192,7 +175,6 @@ static void interrupt_often(const char *word) {
 /* A SIGPIPE that is there already, and held back. */
 static void hold_pipe_signal(const char *word) {
     sigset_t broken;
-    (void)word;
     sigemptyset(&broken);
     sigaddset(&broken, SIGPIPE);
     sigprocmask(SIG_BLOCK, &broken, NULL);
@@ -201,7 +183,6 @@ static void hold_pipe_signal(const char *word) {
 
 static void show_pipe_signal(const char *word) {
     sigset_t pending;
-    (void)word;
     sigpending(&pending);
     dprintf(OUT, "SIGPIPE %s\n", sigismember(&pending, SIGPIPE) == 1 ? "held back" : "taken away");
 }
@@ -236,7 +217,6 @@ static void *stay_busy(void *unused) {
 }
 
 static void start_threads(const char *word) {
-    (void)word;
     for (int i = 0; i < THREADS; i++) {
         pthread_t thread;
         pthread_create(&thread, NULL, stay_busy, NULL);
@@ -254,27 +234,13 @@ static const struct {
     const char *name;
     void (*does)(const char *word);
 } acts[] = {
-    { "open", open_session },
-    { "close", close_session },
-    { "end", end },
-    { "show", show_variable },
-    { "run", run_command },
-    { "child", in_child },
-    { "repeat", repeat },
-    { "close-standard", close_standard },
-    { "close-everything", close_everything },
-    { "show-everything", show_everything },
-    { "descriptors", count_descriptors },
-    { "children", handle_children },
-    { "block", hold_signals_back },
-    { "kill-keepers", kill_keepers },
-    { "signals", show_signals },
-    { "offspring", show_offspring },
-    { "interrupts", interrupt_often },
-    { "hold-pipe", hold_pipe_signal },
-    { "show-pipe", show_pipe_signal },
-    { "threads", start_threads },
-    { "become", become },
+    { "open", open_session }, { "close", close_session }, { "end", end }, { "show", show_variable },
+    { "run", run_command }, { "child", in_child }, { "repeat", repeat }, { "close-standard", close_standard },
+    { "close-everything", close_everything }, { "show-everything", show_everything },
+    { "descriptors", count_descriptors }, { "children", handle_children }, { "block", hold_signals_back },
+    { "kill-keepers", kill_keepers }, { "signals", show_signals }, { "offspring", show_offspring },
+    { "interrupts", interrupt_often }, { "hold-pipe", hold_pipe_signal }, { "show-pipe", show_pipe_signal },
+    { "threads", start_threads }, { "become", become },
 };
 
 /* NAME or NAME:WORD */

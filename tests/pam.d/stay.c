@@ -1,11 +1,7 @@
 /* stay [FILE]: a program of a login. It says which session it is in; with a file it waits until that is there, and says
  * what its session keyring has come to. */
 #define _GNU_SOURCE
-#include <errno.h>
-#include <stdio.h>
-#include <string.h>
-#include <unistd.h>
-
+#include "check.h"
 #include "keyutils.h"
 
 enum { LOOK_MICROSECONDS = 20000, LOOKS = 3000 };

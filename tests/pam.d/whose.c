@@ -1,14 +1,10 @@
 /* whose: of each call of libkeyutils, whether the kernel answers it, or somebody else: what the system call itself
  * answers is compared. The kernel's session keyring has the key `ours` for that, and keyretaind's has not. */
 #define _GNU_SOURCE
-#include <errno.h>
 #include <linux/keyctl.h>
-#include <stdio.h>
-#include <stdlib.h>
-#include <string.h>
 #include <sys/syscall.h>
-#include <unistd.h>
 
+#include "check.h"
 #include "keyutils.h"
 
 static int kernel_answers, others_answer;
