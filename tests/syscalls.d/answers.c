@@ -1,7 +1,6 @@
 /* answers [executed SERIAL]: calls whose answers are known, a line each: on the kernel's keyrings and on keyretaind
  * they must be those of answers.text. It needs no library, and is linked statically too. */
 #define _GNU_SOURCE
-#include <pthread.h>
 #include <sys/mman.h>
 
 #include "calls.h"
@@ -210,7 +209,6 @@ static bool child_says(bool (*says)(long), long known) {
 }
 
 static bool has_no_process_keyring(long unused) {
-    (void)unused;
     return ring_of(KEY_SPEC_PROCESS_KEYRING, 0) == -1 && errno == ENOKEY;
 }
 
@@ -223,7 +221,6 @@ static bool joins_its_own(long session) {
 
 /* Its parent's is another one from the parent's next return from the kernel on. */
 static bool gives_its_own(long unused) {
-    (void)unused;
     return join(NULL) > 0 && keyctl(KEYCTL_SESSION_TO_PARENT, 0, 0, 0, 0) == 0;
 }
 

@@ -2,12 +2,9 @@
  * which call an answer is kept for; and which ids a container's are. It calls the supervisor's parts as the loop does,
  * as process 1 of a PID namespace in which it may choose numbers. */
 #define _GNU_SOURCE
-#include <fcntl.h>
 #include <linux/sched.h>
 #include <linux/seccomp.h>
-#include <pthread.h>
 #include <sched.h>
-#include <signal.h>
 #include <stdint.h>
 #include <sys/epoll.h>
 #include <sys/mman.h>
@@ -189,7 +186,6 @@ static int orders[2], reports[2];
 static void *wait_for_order(void *unused) {
     char byte;
     bool is_it = gettid() == THREAD; /* else the one before has not quite ended */
-    (void)unused;
     if (is_it && (write(reports[1], "b", 1) != 1 || read(orders[0], &byte, 1) != 1)) _exit(2);
     return NULL;
 }

@@ -2,15 +2,10 @@
 #ifndef KEYRETAIN_CALLS_H
 #define KEYRETAIN_CALLS_H
 
-#include <errno.h>
 #include <linux/keyctl.h>
-#include <stdbool.h>
-#include <stdio.h>
-#include <stdlib.h>
-#include <string.h>
 #include <sys/syscall.h>
-#include <sys/wait.h>
-#include <unistd.h>
+
+#include "check.h"
 
 static inline long add_key(const void *type, const void *description, const void *payload, size_t length, int ring) {
     return syscall(SYS_add_key, type, description, payload, length, (long)ring);
@@ -36,6 +31,11 @@ static inline long join(const char *name) {
 
 static inline long read_key(long key, void *buffer, size_t room) {
     return keyctl(KEYCTL_READ, (unsigned long)key, (unsigned long)buffer, room, 0);
+}
+
+/* The key of type user and of that name that a keyring reaches. */
+static inline long find(int id, const char *name) {
+    return keyctl(KEYCTL_SEARCH, (unsigned long)(long)id, (unsigned long)"user", (unsigned long)name, 0);
 }
 
 /* The status of a child, -1 for one that did not end by itself. */

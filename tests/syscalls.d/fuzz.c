@@ -1,7 +1,6 @@
 /* fuzz SECONDS: calls at random by many threads of many processes, which end, are killed and execute something else.
  * The supervisor is built with sanitizers, and must be there afterwards. */
 #define _GNU_SOURCE
-#include <pthread.h>
 #include <stdint.h>
 #include <sys/mman.h>
 #include <time.h>

@@ -5,7 +5,6 @@
  *
  * stopped: the daemon is stopped by SIGSTOP, a signal arrives in the midst of the call, and the daemon goes on. */
 #define _GNU_SOURCE
-#include <signal.h>
 #include <sys/time.h>
 
 #include "calls.h"
@@ -15,7 +14,6 @@ enum { TIMER_MICROSECONDS = 200, AWHILE_MICROSECONDS = 300000 };
 static volatile sig_atomic_t arrived;
 
 static void note(int number) {
-    (void)number;
     arrived = 1;
 }
 
@@ -51,8 +49,7 @@ static int storm_restarted(int count) {
 }
 
 static bool is_there(const char *description) {
-    return keyctl(KEYCTL_SEARCH, (unsigned long)(long)KEY_SPEC_PROCESS_KEYRING, (unsigned long)"user",
-                  (unsigned long)description, 0) > 0;
+    return find(KEY_SPEC_PROCESS_KEYRING, description) > 0;
 }
 
 /* Without it the call answers EINTR: then nothing was done. */

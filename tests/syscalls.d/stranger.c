@@ -6,9 +6,7 @@
  * there gives the session to its parent, which is killed half a second later and whose number another process gets.
  * Says whether that one has the session. */
 #define _GNU_SOURCE
-#include <fcntl.h>
 #include <linux/sched.h>
-#include <signal.h>
 #include <stdint.h>
 #include <sys/mman.h>
 

@@ -1,10 +1,6 @@
 /* tree-ends.c: of the program tree: what is killed, executes something else, or lives for long. */
 #define _GNU_SOURCE
-#include <sched.h>
-#include <signal.h>
-#include <sys/prctl.h>
 #include <sys/ptrace.h>
-#include <sys/resource.h>
 #include <time.h>
 
 #include "tree.h"
@@ -126,8 +122,7 @@ static int leave_session(void) {
         if (fork() == 0) {
             sleep(5);
             long found = request_key("user", "left", NULL, 0);
-            give(found > 0 ? ring : found);
-            _exit(0);
+            end_with(found > 0 ? ring : found);
         }
         _exit(0);
     }
@@ -144,9 +139,7 @@ static int keep_by_tag(void) {
     pid_t owner = fork();
     if (owner == 0) {
         long joined = join(NULL);
-        give(joined < 0 ? joined : add_key("user", "left", "x", 1, KEY_SPEC_SESSION_KEYRING));
-        wait_at_gate();
-        _exit(0);
+        live_on(joined < 0 ? joined : add_key("user", "left", "x", 1, KEY_SPEC_SESSION_KEYRING));
     }
     key = take().value;
     pid_t other = fork();
@@ -221,8 +214,6 @@ static int ask_in_vain(int count) {
 static int ask_for_tracing(void) { return ptrace(PTRACE_TRACEME, 0, 0, 0) == 0 && raise(SIGCONT) == 0 ? 7 : 2; }
 
 int ends_modes(const char *mode, int many, int count, char **words) {
-    (void)count;
-    (void)words;
     if (strcmp(mode, "killed") == 0) return kill_in_calls(many);
     if (strcmp(mode, "killed-joining") == 0) return kill_in_joins(many);
     if (strcmp(mode, "executed") == 0) return execute_in_processes(many);

@@ -1,14 +1,8 @@
 /* tree-keys.c: of the program tree: keys and keyrings of one program, and a session for its parent. */
 #define _GNU_SOURCE
-#include <pthread.h>
-#include <grp.h>
 #include <linux/capability.h>
-#include <signal.h>
 #include <sys/fsuid.h>
 #include <sys/mman.h>
-#include <sys/prctl.h>
-#include <sys/resource.h>
-#include <sys/syscall.h>
 
 #include "tree.h"
 
@@ -60,10 +54,15 @@ static int ask_serial(long serial) {
     return puts(length > 0 ? "a key" : strerror(errno)) < 0;
 }
 
-void describe(int id, unsigned *owner, unsigned *mask) {
-    char text[4200] = "";
+const char *text_of(int id) {
+    static char text[4200];
+    memset(text, 0, sizeof text);
     keyctl(KEYCTL_DESCRIBE, (unsigned long)(long)id, (unsigned long)text, sizeof text - 1, 0);
-    if (sscanf(text, "keyring;%u;%*u;%x;", owner, mask) != 2) exit(2);
+    return text;
+}
+
+void describe(int id, unsigned *owner, unsigned *mask) {
+    if (sscanf(text_of(id), "keyring;%u;%*u;%x;", owner, mask) != 2) exit(2);
 }
 
 /* The uid that the user keyring has, after the file system's uid was changed to this one, or the real one. */
@@ -159,8 +158,7 @@ static int give_to_parent(const char *how) {
         long joined = is_ready ? join(NULL) : -1;
         errno = 0;
         long given = joined < 0 ? -1 : keyctl(KEYCTL_SESSION_TO_PARENT, 0, 0, 0, 0);
-        give(given < 0 ? -1 : joined);
-        _exit(0);
+        end_with(given < 0 ? -1 : joined);
     }
     struct answer answer = take();
     long after = ring_of(KEY_SPEC_SESSION_KEYRING, 0);

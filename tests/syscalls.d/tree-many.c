@@ -1,8 +1,5 @@
 /* tree-many.c: of the program tree: processes and threads that ask at one time, and one after the other. */
 #define _GNU_SOURCE
-#include <pthread.h>
-#include <sys/resource.h>
-
 #include "tree.h"
 
 int answers[2], gates[2];
@@ -18,6 +15,26 @@ void wait_at_gate(void) {
     char byte;
     close(gates[1]);
     if (read(gates[0], &byte, 1) < 0) _exit(2);
+}
+
+/* The last that a child does: behind the second it lives until the gate is opened. */
+void end_with(long value) {
+    give(value);
+    _exit(0);
+}
+
+void live_on(long value) {
+    give(value);
+    wait_at_gate();
+    _exit(0);
+}
+
+/* As one whose mode is told where to give its answers. */
+void execute_to_give(const char *file, const char *mode) {
+    char number[16];
+    snprintf(number, sizeof number, "%d", answers[1]);
+    execl(file, "tree", mode, number, (char *)NULL);
+    _exit(2);
 }
 
 struct answer take(void) {
@@ -39,8 +56,7 @@ static int ask_in_processes(int count, int id) {
         if (fork() == 0) {
             give(ring_of(id, 1));
             wait_at_gate();
-            give(ring_of(id, 0));
-            _exit(0);
+            end_with(ring_of(id, 0));
         }
     for (int i = 0; i < count; i++) {
         struct answer answer = take();
@@ -50,11 +66,9 @@ static int ask_in_processes(int count, int id) {
     close(gates[1]);
     for (int i = 0; i < count; i++) {
         struct answer answer = take();
-        for (int j = 0; j < served; j++)
-            if (answer.value == first[j]) {
-                kept++;
-                break;
-            }
+        bool is_kept = false;
+        for (int j = 0; j < served; j++) is_kept = is_kept || answer.value == first[j];
+        kept += is_kept;
     }
     while (wait(NULL) > 0) continue;
     printf("served %s, refused %s, kept %s, then %s\n", served == count ? "all" : served >= 50 ? "50 or more" : "few",
@@ -212,8 +226,6 @@ static int join_with_low_limit(int count) {
 }
 
 int many_modes(const char *mode, int many, int count, char **words) {
-    (void)count;
-    (void)words;
     if (strcmp(mode, "processes") == 0) return ask_in_processes(many, KEY_SPEC_SESSION_KEYRING);
     if (strcmp(mode, "keyrings") == 0) return ask_in_processes(many, KEY_SPEC_PROCESS_KEYRING);
     if (strcmp(mode, "threads") == 0) return ask_in_threads(many, KEY_SPEC_SESSION_KEYRING);

@@ -1,13 +1,6 @@
 /* tree-users.c: of the program tree: processes that become another user's, and those below them. */
 #define _GNU_SOURCE
-#include <fcntl.h>
-#include <grp.h>
 #include <linux/securebits.h>
-#include <sched.h>
-#include <signal.h>
-#include <sys/prctl.h>
-#include <sys/resource.h>
-#include <sys/syscall.h>
 
 #include "tree.h"
 
@@ -42,8 +35,7 @@ static int join_late(void) {
         become_nobody();
         give(0);
         wait_at_gate();
-        give(own_session());
-        _exit(0);
+        end_with(own_session());
     }
     take();
     if (join(NULL) < 0) return 2;
@@ -83,9 +75,7 @@ static int crowd(int count, bool joins) {
     for (int i = 0; i < count; i++)
         if (fork() == 0) {
             become_nobody();
-            give(joins && join(NULL) < 0 ? -1 : ring_of(KEY_SPEC_PROCESS_KEYRING, 1));
-            wait_at_gate();
-            _exit(0);
+            live_on(joins && join(NULL) < 0 ? -1 : ring_of(KEY_SPEC_PROCESS_KEYRING, 1));
         }
     for (int i = 0; i < count; i++) served += take().value > 0;
     for (int i = 0; i < 10; i++) {
@@ -104,8 +94,7 @@ static bool is_left(bool leaves) {
     if (child > 0) return status_of(child) == 0;
     become_nobody();
     if (leaves) _exit(add_key("user", "left", "x", 1, KEY_SPEC_USER_KEYRING) < 0);
-    _exit(keyctl(KEYCTL_SEARCH, (unsigned long)(long)KEY_SPEC_USER_KEYRING, (unsigned long)"user",
-                 (unsigned long)"left", 0) < 0);
+    _exit(find(KEY_SPEC_USER_KEYRING, "left") < 0);
 }
 
 /* It ends, and this user has many processes that ask: each in another group where they differ. */
@@ -113,11 +102,7 @@ static int leave_key(int count, bool differ) {
     if (!is_left(true)) return 2;
     begin();
     for (int i = 0; i < count; i++)
-        if (fork() == 0) {
-            give(differ && setgid(NOBODY + (gid_t)i) < 0 ? -1 : ring_of(KEY_SPEC_PROCESS_KEYRING, 0));
-            wait_at_gate();
-            _exit(0);
-        }
+        if (fork() == 0) live_on(differ && setgid(NOBODY + (gid_t)i) < 0 ? -1 : ring_of(KEY_SPEC_PROCESS_KEYRING, 0));
     for (int i = 0; i < count; i++) take();
     puts(is_left(false) ? "kept" : "gone");
     close(gates[1]);
@@ -134,9 +119,7 @@ static int outlast(void) {
         if (join(NULL) < 0 || add_key("user", "kept", "x", 1, KEY_SPEC_SESSION_KEYRING) < 0) _exit(2);
         if (fork() != 0) _exit(0);
         sleep(6); /* some sweeps */
-        give(keyctl(KEYCTL_SEARCH, (unsigned long)(long)KEY_SPEC_SESSION_KEYRING, (unsigned long)"user",
-                    (unsigned long)"kept", 0) > 0);
-        _exit(0);
+        end_with(find(KEY_SPEC_SESSION_KEYRING, "kept") > 0);
     }
     if (status_of(child) != 0) return 2;
     for (int i = 0; i < 200; i++)
@@ -204,8 +187,7 @@ static int keep_in_session(void) {
     sleep(8); /* some sweeps */
     if ((child = fork()) == 0) {
         become_nobody();
-        _exit(keyctl(KEYCTL_SEARCH, (unsigned long)(long)KEY_SPEC_USER_SESSION_KEYRING, (unsigned long)"user",
-                     (unsigned long)"kept", 0) < 0);
+        _exit(find(KEY_SPEC_USER_SESSION_KEYRING, "kept") < 0);
     }
     return puts(status_of(child) == 0 ? "kept" : "gone") < 0;
 }
@@ -216,9 +198,7 @@ static int flood(int count, bool stays) {
     begin();
     if (fork() == 0) {
         become_nobody();
-        give(0);
-        wait_at_gate();
-        _exit(0);
+        live_on(0);
     }
     if (take().value != 0 || !is_left(true)) return 2;
     for (int i = 0; i < count; i++) {
@@ -244,9 +224,7 @@ static int log_in_beside(int count) {
     begin();
     for (int i = 0; i < count; i++)
         if (fork() == 0) {
-            give(setresuid(NOBODY + 1, NOBODY + 1, NOBODY + 1) < 0 ? -1 : ring_of(KEY_SPEC_PROCESS_KEYRING, 0));
-            wait_at_gate();
-            _exit(0);
+            live_on(setresuid(NOBODY + 1, NOBODY + 1, NOBODY + 1) < 0 ? -1 : ring_of(KEY_SPEC_PROCESS_KEYRING, 0));
         }
     for (int i = 0; i < count; i++) take();
     bool is_in = ring_of(KEY_SPEC_SESSION_KEYRING, 0) == joined;
@@ -263,8 +241,7 @@ static int become_other(void) {
     if (joined < 0) return 2;
     if (fork() == 0) {
         become_nobody();
-        give(own_session());
-        _exit(0);
+        end_with(own_session());
     }
     return tell_session(take(), joined);
 }
@@ -293,10 +270,7 @@ static void take_tag(pid_t other) {
     give(0);
     wait_at_gate();
     copy_tag(other);
-    if (fork() == 0) {
-        give(ring_of(KEY_SPEC_SESSION_KEYRING, 0));
-        _exit(0);
-    }
+    if (fork() == 0) end_with(ring_of(KEY_SPEC_SESSION_KEYRING, 0));
     wait(NULL);
     _exit(0);
 }
@@ -314,15 +288,12 @@ static int take_others_tag(void) {
 
 /* The same of a program that runs set-uid, which that user has started. */
 static int take_set_uid_tag(const char *file) {
-    char number[16];
     begin();
-    snprintf(number, sizeof number, "%d", answers[1]);
     pid_t program = fork();
     if (program == 0) {
         close(gates[1]);
         become_nobody();
-        execl(file, "tree", "joins", number, (char *)NULL);
-        _exit(2);
+        execute_to_give(file, "joins");
     }
     long joined = take().value;
     if (fork() == 0) take_tag(program);
@@ -334,11 +305,6 @@ static int take_set_uid_tag(const char *file) {
 }
 
 /* ---- What a process finds below it that it hasn't forked since ---- */
-
-static void give_session(void) {
-    give(ring_of(KEY_SPEC_SESSION_KEYRING, 0));
-    _exit(0);
-}
 
 /* Another user's child makes one more child of its own parent, or leaves one to it. */
 static void leave_to_parent(pid_t parent, bool is_orphan) {
@@ -357,7 +323,7 @@ static void follow(pid_t parent, bool is_orphan, bool copies) {
         copy_tag(parent);
     else if (!set_soft_limit(0))
         _exit(2);
-    give_session();
+    end_with(ring_of(KEY_SPEC_SESSION_KEYRING, 0));
 }
 
 static int tell_followers(long joined) {
@@ -378,7 +344,6 @@ static int follow_root(bool is_orphan) {
 
 /* Below a program that runs set-uid, which the same process has executed then. */
 static int follow_set_uid(const char *file, bool is_orphan) {
-    char number[16];
     begin();
     pid_t child = fork();
     if (child == 0) {
@@ -386,9 +351,7 @@ static int follow_set_uid(const char *file, bool is_orphan) {
         if (prctl(PR_SET_CHILD_SUBREAPER, is_orphan, 0, 0, 0) < 0) _exit(2);
         for (int copies = 0; copies < 2; copies++) follow(getpid(), is_orphan, copies);
         close(gates[1]);
-        snprintf(number, sizeof number, "%d", answers[1]);
-        execl(file, "tree", "joins", number, (char *)NULL);
-        _exit(2);
+        execute_to_give(file, "joins");
     }
     long joined = take().value;
     int status = joined > 0 ? tell_followers(joined) : 2;
@@ -418,7 +381,7 @@ static int join_among(int count) {
         }
         wait_at_gate();
         copy_tag(parent);
-        give_session();
+        end_with(ring_of(KEY_SPEC_SESSION_KEYRING, 0));
     }
     usleep(550000);
     long joined = join(NULL);
@@ -462,8 +425,7 @@ static void ask_as_two(void) {
     give(ring_of(KEY_SPEC_SESSION_KEYRING, 0));
     wait_at_gate();
     change_to(0);
-    give(keyctl(KEYCTL_SESSION_TO_PARENT, 0, 0, 0, 0));
-    _exit(0);
+    end_with(keyctl(KEYCTL_SESSION_TO_PARENT, 0, 0, 0, 0));
 }
 
 /* A child asks in two sessions of two users, of which each is the only one to have the first meanwhile. */
@@ -491,9 +453,7 @@ static int take_name(const char *name, uid_t uid, char **words) {
     if (fork() == 0) {
         if (uid != geteuid()) become_nobody();
         long joined = join(name);
-        give(joined < 0 ? -1 : keyctl(KEYCTL_SETPERM, (unsigned long)joined, EVERYBODY_ALL, 0, 0));
-        wait_at_gate();
-        _exit(0);
+        live_on(joined < 0 ? -1 : keyctl(KEYCTL_SETPERM, (unsigned long)joined, EVERYBODY_ALL, 0, 0));
     }
     if (take().value != 0) return 2; /* it has the name as long as the words have the gate */
     execvp(*words, words);
@@ -502,21 +462,19 @@ static int take_name(const char *name, uid_t uid, char **words) {
 
 /* The name and the owner of the session's keyring. */
 static int print_whose(void) {
-    char text[4200] = "", name[64] = "";
+    char name[64] = "";
     unsigned owner = 0;
-    keyctl(KEYCTL_DESCRIBE, (unsigned long)(long)KEY_SPEC_SESSION_KEYRING, (unsigned long)text, sizeof text - 1, 0);
-    if (sscanf(text, "keyring;%u;%*u;%*x;%63s", &owner, name) != 2) return puts(strerror(errno)) < 0;
+    if (sscanf(text_of(KEY_SPEC_SESSION_KEYRING), "keyring;%u;%*u;%*x;%63s", &owner, name) != 2)
+        return puts(strerror(errno)) < 0;
     return printf("%s %u\n", name, owner) < 0;
 }
 
 /* Joins a session that isn't joined in time, and tells whether it is in another user's then. */
 static int join_too_late(const char *name) {
-    char text[4200] = "";
     unsigned owner = getuid();
     const char *refusal = join(name) < 0 ? strerrorname_np(errno) : "joined";
     sleep(3);
-    keyctl(KEYCTL_DESCRIBE, (unsigned long)(long)KEY_SPEC_SESSION_KEYRING, (unsigned long)text, sizeof text - 1, 0);
-    sscanf(text, "keyring;%u", &owner);
+    sscanf(text_of(KEY_SPEC_SESSION_KEYRING), "keyring;%u", &owner);
     return printf("%s, %s\n", refusal, owner == getuid() ? "in no other" : "in another user's") < 0;
 }
 

@@ -2,6 +2,11 @@
 #ifndef KEYRETAIN_TREE_H
 #define KEYRETAIN_TREE_H
 
+#include <grp.h>
+#include <sched.h>
+#include <sys/prctl.h>
+#include <sys/resource.h>
+
 #include "calls.h"
 
 enum { MOST = 1000, LOOK_MICROSECONDS = 20000, PAGE = 4096, NOBODY = 4105 };
@@ -15,8 +20,12 @@ extern int answers[2], gates[2]; /* children write to the one, and wait on the o
 
 void give(long value);
 void wait_at_gate(void);
+_Noreturn void end_with(long value);
+_Noreturn void live_on(long value);
+_Noreturn void execute_to_give(const char *file, const char *mode);
 struct answer take(void);
 void begin(void);
+const char *text_of(int id);
 void describe(int id, unsigned *owner, unsigned *mask);
 void become_nobody(void);
 long own_session(void);
