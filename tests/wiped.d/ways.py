@@ -51,22 +51,21 @@ def add(c: Raw, secret: Secret, ring=U, desc="token") -> int:
 
 # Each takes a connection and a secret, and says how many copies may be left: the key's own, or none.
 
+KEY, PAYLOAD = object(), object()  # they stand for the key that was added, and for the secret
 
-def update(c, s):
-    c.ask("UPDATE", add(c, s), b"other")
+
+def asks(*rows, ring=None, wants=0):
+    """A way of these asks, behind an ADD to a ring if one is named. The last one has this status."""
+    def way(c, s):
+        stands = {KEY: ring and add(c, s, ring), PAYLOAD: s.payload}
+        for at, (name, *values) in enumerate(rows, 1):
+            c.ask(name, *[stands.get(it, it) for it in values], wants=wants if at == len(rows) else 0)
+
+    return way
 
 
 def update_longer(c, s):
     c.ask("UPDATE", add(c, s), b"z" * (2 * len(s.payload) % 32767 + 1))
-
-
-def update_shorter(c, s):
-    c.ask("UPDATE", add(c, s), b"z")
-
-
-def add_over(c, s):
-    add(c, s)
-    c.ask("ADD", "user", "token", b"other", U)
 
 
 def displaced(c, s):
@@ -75,29 +74,6 @@ def displaced(c, s):
     c.ask("SET_TIMEOUT", key, 1)
     time.sleep(1.1)
     c.ask("ADD", "user", "token", b"other", U)
-
-
-def revoke(c, s):
-    c.ask("REVOKE", add(c, s))
-
-
-def revoke_unlink(c, s):
-    key = add(c, s)
-    c.ask("REVOKE", key)
-    c.ask("UNLINK", key, U)
-
-
-def invalidate(c, s):
-    c.ask("INVALIDATE", add(c, s))
-
-
-def unlink(c, s):
-    c.ask("UNLINK", add(c, s), U)
-
-
-def clear(c, s):
-    add(c, s)
-    c.ask("CLEAR", U)
 
 
 def move_over(c, s):
@@ -131,21 +107,6 @@ def join(c, s):
     c.ask("JOIN", "")
 
 
-def exec_(c, s):
-    add(c, s, P)
-    c.ask("EXEC")
-
-
-def exit_(c, s):
-    add(c, s, T)
-    c.ask("EXIT")
-
-
-def leave(c, s):
-    add(c, s, P)
-    c.ask("LEAVE")
-
-
 def close(c, s):
     add(c, s, P)
     c.close()
@@ -171,18 +132,6 @@ def cut(c, s):
     time.sleep(0.2)
     c.close()
     time.sleep(0.3)
-
-
-def refused_add(c, s):
-    c.ask("ADD", "nosuch", "token", s.payload, U, wants=19)
-
-
-def refused_ring(c, s):
-    c.ask("ADD", "user", "token", s.payload, 2_000_000_000, wants=126)
-
-
-def refused_update(c, s):
-    c.ask("UPDATE", 2_000_000_000, s.payload, wants=126)
 
 
 def refused_fault(c, s):
@@ -265,12 +214,19 @@ def batch(c, s):
         assert c.reply()[0] == 0
 
 
+OVER = "ADD", "user", "token", b"other", U
 WAYS = {"kept: ADD": kept, "kept: ADD in three parts": pieces, "kept: READ": read, "kept: 20 READs ahead": read_many,
-        "UPDATE": update, "UPDATE, longer": update_longer, "UPDATE, one byte": update_shorter, "ADD over it": add_over,
-        "expired, ADD over it": displaced, "REVOKE": revoke, "REVOKE, UNLINK": revoke_unlink, "INVALIDATE": invalidate,
-        "UNLINK": unlink, "CLEAR": clear, "MOVE over it": move_over, "expired, UNLINK": expire_unlink,
-        "expired": expire, "JOIN": join, "EXEC": exec_, "EXIT": exit_, "LEAVE": leave, "close": close,
-        "readers close, REVOKE": close_readers,
-        "close amid ADD": cut, "fault in ADD": refused_fault, "ADD: ENODEV": refused_add, "ADD: ENOKEY": refused_ring,
-        "UPDATE: ENOKEY": refused_update, "READ, REVOKE": read_revoke, "READs not taken, close": read_unread,
-        "READs, a long READ, REVOKE": read_behind, "UPDATE, REVOKE ahead": batch}
+        "UPDATE": asks(("UPDATE", KEY, b"other"), ring=U), "UPDATE, longer": update_longer,
+        "UPDATE, one byte": asks(("UPDATE", KEY, b"z"), ring=U), "ADD over it": asks(OVER, ring=U),
+        "expired, ADD over it": displaced, "REVOKE": asks(("REVOKE", KEY), ring=U),
+        "REVOKE, UNLINK": asks(("REVOKE", KEY), ("UNLINK", KEY, U), ring=U),
+        "INVALIDATE": asks(("INVALIDATE", KEY), ring=U), "UNLINK": asks(("UNLINK", KEY, U), ring=U),
+        "CLEAR": asks(("CLEAR", U), ring=U), "MOVE over it": move_over, "expired, UNLINK": expire_unlink,
+        "expired": expire, "JOIN": join, "EXEC": asks(("EXEC",), ring=P), "EXIT": asks(("EXIT",), ring=T),
+        "LEAVE": asks(("LEAVE",), ring=P), "close": close, "readers close, REVOKE": close_readers,
+        "close amid ADD": cut, "fault in ADD": refused_fault,
+        "ADD: ENODEV": asks(("ADD", "nosuch", "token", PAYLOAD, U), wants=19),
+        "ADD: ENOKEY": asks(("ADD", "user", "token", PAYLOAD, 2_000_000_000), wants=126),
+        "UPDATE: ENOKEY": asks(("UPDATE", 2_000_000_000, PAYLOAD), wants=126), "READ, REVOKE": read_revoke,
+        "READs not taken, close": read_unread, "READs, a long READ, REVOKE": read_behind,
+        "UPDATE, REVOKE ahead": batch}
