@@ -1,12 +1,11 @@
 """Of the guard: daemons that are busy, gone, slow, or lie."""
 import fcntl
 import os
-import socket
 import struct
 import termios
 import time
 
-from daemons import PATIENCE, received
+from daemons import PATIENCE, listening, received
 from versions import number, reply
 from stage import (
     EINVAL, EPERM, ESRCH, GID, NOBODY, UID, WHO, Running, asked, check, descriptors, hello, read_key, ticks)
@@ -15,9 +14,7 @@ from stage import (
 def try_busy_daemon():
     """A daemon whose queue of connections is full: clients wait for it, and waiting costs nothing."""
     run = Running(daemon=False)
-    listener = socket.socket(socket.AF_UNIX)
-    listener.bind(run.private)
-    listener.listen(0)
+    listener = listening(run.private, 0)
     clients = [run.one(*WHO) for _ in range(3)]
     for client in clients:
         client.send(hello(UID, GID))
@@ -56,10 +53,7 @@ class Liar:
     """A daemon that answers what it is told to."""
 
     def __init__(self, path, answers):
-        self.listener = socket.socket(socket.AF_UNIX)
-        self.listener.bind(path)
-        self.listener.listen(4)
-        self.answers = answers
+        self.listener, self.answers = listening(path), answers
 
     def serve(self):
         end, _ = self.listener.accept()

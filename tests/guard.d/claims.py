@@ -11,6 +11,16 @@ from stage import (
     ticks)
 
 
+def unshare(uids, gids):
+    """Has a user namespace with these numbers; whether it may."""
+    if ctypes.CDLL(None, use_errno=True).unshare(0x10000000) != 0:
+        return False
+    for name, text in ('setgroups', 'deny'), ('uid_map', uids), ('gid_map', gids):
+        with open(f'/proc/self/{name}', 'w') as file:
+            file.write(text)
+    return True
+
+
 def try_own():
     run = Running()
     me, group = os.geteuid(), os.getegid()
@@ -90,19 +100,15 @@ def try_namespace():
     """A client in a user namespace of its own, in which it is uid 0."""
     if not ROOT:
         return skipped('user namespaces: not root')
-    libc = ctypes.CDLL(None, use_errno=True)
 
-    def unshare():
-        libc.prctl(4, 1, 0, 0, 0)
-        if libc.unshare(0x10000000) != 0:
+    def be_root():
+        ctypes.CDLL(None).prctl(4, 1, 0, 0, 0)
+        if not unshare(f'0 {USER_A} 1', f'0 {GROUP_A} 1'):
             raise OSError(ctypes.get_errno(), 'unshare')
-        open('/proc/self/setgroups', 'w').write('deny')
-        open('/proc/self/uid_map', 'w').write(f'0 {USER_A} 1')
-        open('/proc/self/gid_map', 'w').write(f'0 {GROUP_A} 1')
         assert os.geteuid() == 0
 
     run = Running()
-    made = run.many(1, USER_A, GROUP_A, [GROUP_A], before=unshare)
+    made = run.many(1, USER_A, GROUP_A, [GROUP_A], before=be_root)
     if not made:
         return skipped('user namespaces: not allowed here')
     check('uid 0 of a namespace', made[0].status(hello(0, 0)), EPERM)
@@ -141,16 +147,7 @@ def try_strangers():
     """A guard in a user namespace that has one id alone: all others have one number there, and are refused."""
     if not ROOT:
         return skipped('a guard in a user namespace: not root')
-    libc = ctypes.CDLL(None, use_errno=True)
-
-    def unshare():
-        if libc.unshare(0x10000000) != 0:
-            os._exit(77)
-        open('/proc/self/setgroups', 'w').write('deny')
-        open('/proc/self/uid_map', 'w').write('0 0 1')
-        open('/proc/self/gid_map', 'w').write('0 0 1')
-
-    run = Running(limit=unshare)
+    run = Running(limit=lambda: unshare('0 0 1', '0 0 1') or os._exit(77))
     if run.guard.poll() is not None or not run.line:
         skipped('a guard in a user namespace: not allowed here')
     else:

@@ -8,7 +8,7 @@ import struct
 import subprocess
 import time
 
-from daemons import PATIENCE
+from daemons import PATIENCE, listening
 from stage import (
     EPERM, GID, GUARD, IS_SANITIZED, NO_FILTER, ROOT, TMP, UID, WHO, Running, add, check, connect_as, hello,
     read_key, skipped, wait_for_replies)
@@ -52,9 +52,7 @@ def try_paths():
     check('a killed one leaves its path', os.path.exists(run.public), True)
     run.start_guard()
     check('it is taken over', run.one(*WHO).status(hello(UID, GID)), 0)
-    busy = socket.socket(socket.AF_UNIX)
-    busy.bind(f'{TMP}/busy')
-    busy.listen(0)
+    busy = listening(f'{TMP}/busy', 0)
     waiting = [socket.socket(socket.AF_UNIX, socket.SOCK_STREAM | socket.SOCK_NONBLOCK) for _ in range(4)]
     for it in waiting:
         it.connect_ex(f'{TMP}/busy')
@@ -115,20 +113,10 @@ def passed_to_guard(passed, *words, count='1', others=0):
     return child
 
 
-def listening_at(path, backlog):
-    """A socket that anybody may connect to."""
-    listening = socket.socket(socket.AF_UNIX)
-    listening.bind(path)
-    os.chmod(path, 0o666)
-    listening.listen(backlog)
-    return listening
-
-
 def try_passed_socket():
     run = Running()
     path = f'{TMP}/passed'
-    listening = listening_at(path, 8)
-    child = passed_to_guard(listening, '--daemon', run.private)
+    child = passed_to_guard(listening(path), '--daemon', run.private)
     check('a passed socket', connect_as(path, *WHO)[0].status(hello(UID, GID)), 0)
     check('a passed socket: another uid', connect_as(path, *WHO)[0].status(hello(UID + 1, GID)), EPERM)
     os.kill(child, signal.SIGTERM)
@@ -140,9 +128,9 @@ def try_killed():
     """It is killed in the midst, and begun again on the same socket, as systemd does: nobody's places are lost."""
     run = Running()
     path = f'{TMP}/killed'
-    listening = listening_at(path, 64)
+    passed = listening(path, 64)
     for _ in range(3):
-        child = passed_to_guard(listening, '--daemon', run.private, '--per-uid', '4')
+        child = passed_to_guard(passed, '--daemon', run.private, '--per-uid', '4')
         made = connect_as(path, *WHO, count=6)
         check('4 of 6', [client.status(hello(UID, GID)) for client in made].count(0), 4)
         check('one is served', made[0].status(hello(UID, GID)), 0)
@@ -163,13 +151,10 @@ def refuses_passed(name, passed, **told):
 
 def try_passed_nonsense():
     """What is passed is a socket of another kind, or doesn't listen, or is another process's, or not the only one."""
-    of_packets = socket.socket(socket.AF_UNIX, socket.SOCK_SEQPACKET)
-    of_packets.bind(f'{TMP}/packets')
-    of_packets.listen(8)
     refuses_passed('one of the network', socket.create_server(('127.0.0.1', 0)))
     refuses_passed('one that does not listen', socket.socket(socket.AF_UNIX))
-    refuses_passed('one of packets', of_packets)
-    good = listening_at(f'{TMP}/good', 8)
+    refuses_passed('one of packets', listening(f'{TMP}/packets', kind=socket.SOCK_SEQPACKET))
+    good = listening(f'{TMP}/good')
     refuses_passed("another process's", good, others=1)
     refuses_passed('one of two', good, count='2')
     refuses_passed('none', good, count='0')

@@ -106,6 +106,13 @@ class Client:
             return status, rest[4:]
         return status, struct.unpack('<Q', rest[4:12])[0], rest[12:]
 
+    def rest(self):
+        """The statuses of all replies that come, and what ends them."""
+        statuses = []
+        while not isinstance(reply := self.reply(), str):
+            statuses.append(reply[0])
+        return statuses, reply
+
     def status(self, *frames, tagged=False):
         self.send(*frames)
         reply = self.reply(tagged)

@@ -94,10 +94,7 @@ def try_many_refused():
     run = Running('--hello-seconds', '600')
     client, began = run.one(*WHO), time.monotonic()
     client.send(*[hello(UID + 1, GID) for _ in range(1000)])
-    replies = []
-    while not isinstance(reply := client.reply(), str):
-        replies.append(reply[0])
-    check('1000 refused at once', set(replies), {EPERM})
+    check('1000 refused at once', set(client.rest()[0]), {EPERM})
     def told():
         return open(run.errors.name).read().count('refused:')
 
@@ -140,10 +137,7 @@ def try_bad_frames():
                 client.send_apart(good + frame)
             else:
                 client.send(good, frame, hello(UID, GID) * 3)
-            got = []
-            while not isinstance(reply := client.reply(), str):
-                got.append(reply[0])
-            check(name, (got, reply), ([0, EPERM, ESRCH], 'end'))
+            check(name, client.rest(), ([0, EPERM, ESRCH], 'end'))
             client.close()
             client = run.one(*WHO)
             client.send(frame)
@@ -155,10 +149,7 @@ def try_halves():
     client = run.one(*WHO)
     client.send(hello(UID, GID), hello(UID + 1, GID), ask(EXEC, 1 << 31), hello(UID, GID)[:-1])
     client.sock.shutdown(socket.SHUT_WR)
-    got = []
-    while not isinstance(reply := client.reply(), str):
-        got.append(reply[0])
-    check('half-closed within a frame', (got, reply), ([0, EPERM, ESRCH], 'end'))
+    check('half-closed within a frame', client.rest(), ([0, EPERM, ESRCH], 'end'))
     client = run.one(*WHO)
     client.sock.shutdown(socket.SHUT_WR)
     check('half-closed at once', client.reply(), 'end')

@@ -109,6 +109,15 @@ def connect(path):
     return end
 
 
+def listening(path, backlog=8, kind=socket.SOCK_STREAM):
+    """A socket that anybody may connect to."""
+    end = socket.socket(socket.AF_UNIX, kind)
+    end.bind(os.fspath(path))
+    os.chmod(path, 0o666)
+    end.listen(backlog)
+    return end
+
+
 def received(end, count):
     """So many bytes, or those that came before the end."""
     got = b""
