@@ -1,5 +1,7 @@
-"""The frames of asks and replies for attacks.py: those of the Python client, and what a daemon answers to any bytes."""
+"""The frames of asks and replies for attacks.py and memory.py: those of the Python client, and what a daemon answers to
+any bytes; and a client for mesh.py and wakes.py."""
 import struct
+import sys
 
 from versions import decode_reply, encode_ask, frame, keyretain, number, reply
 
@@ -12,6 +14,23 @@ def accepted(answer):
 
 def refused(status):
     return reply(0, b"", status, 1)
+
+
+class Client(keyretain.Client):
+    """A connection to the daemon at the first word, and its context. An answer comes within some milliseconds."""
+
+    def __init__(self, uid):
+        super().__init__(sys.argv[1], 10)
+        self.context = self.hello(uid, uid)
+
+    def many(self, name, rows, ahead=64):
+        """The answers to such asks of these values, so many of which are sent before replies are taken."""
+        answers = []
+        for begin in range(0, len(rows), ahead):
+            for row in rows[begin:begin + ahead]:
+                self.send(name, self.context, *row)
+            answers += [self.receive() for _ in rows[begin:begin + ahead]]
+        return answers
 
 
 class Ask:

@@ -2,34 +2,16 @@
 then asks what has the daemon walk over all of them. Prints `walked` if each answer is right and comes soon: there are
 4,096,000,000 ways down, so a walk that comes to a keyring once for each way would not end. Nor would a search in time
 that looks for each key of its name anew whether it is possessed. Else prints what was wrong."""
-import sys
-
+import asks
 from asks import keyretain
 
 LEVELS, WIDTH = 6, 40
 MATCHES, OWN = 4000, 16000
-AHEAD = 64  # asks that are sent before replies are taken
-SOON = 10  # seconds; an answer comes within some milliseconds
 
 
-class Client(keyretain.Client):
-    """A connection, and its context."""
-
-    def __init__(self, uid):
-        super().__init__(sys.argv[1], SOON)
-        self.context = self.hello(uid, uid)
-
+class Client(asks.Client):
     def keyring(self, name, ring):
         return self.add(self.context, "keyring", name, b"", ring)
-
-    def many(self, name, rows):
-        """The answers to such asks, of these values."""
-        answers = []
-        for begin in range(0, len(rows), AHEAD):
-            for row in rows[begin:begin + AHEAD]:
-                self.send(name, self.context, *row)
-            answers += [self.receive() for _ in rows[begin:begin + AHEAD]]
-        return answers
 
     def says(self, name, *values):
         """What an ask is refused with, or `ok`."""

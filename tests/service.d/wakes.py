@@ -4,30 +4,11 @@ all the same: its thread slept by then, and only who gave the turn back could wa
 import sys
 import time
 
-from asks import keyretain
+from asks import Client, keyretain
 
 RINGS = 20000  # a search of all of them takes some milliseconds
-AHEAD = 250  # asks that are sent before replies are taken
 ROUNDS = 20
 LATER = 0.001  # seconds after which the others ask
-SOON = 10  # seconds; an answer comes within some milliseconds
-
-
-class Client(keyretain.Client):
-    """A connection, and its context."""
-
-    def __init__(self):
-        super().__init__(sys.argv[1], SOON)
-        self.context = self.hello(1000, 1000)
-
-    def make_rings(self):
-        """Puts many keyrings into one, for searches to go over."""
-        ring = self.add(self.context, "keyring", "all", b"", keyretain.USER)
-        for begin in range(0, RINGS, AHEAD):
-            for number in range(begin, begin + AHEAD):
-                self.send("ADD", self.context, "keyring", str(number), b"", ring)
-            for _ in range(AHEAD):
-                self.receive()
 
 
 def wait_for_others(clients, searcher):
@@ -48,8 +29,9 @@ def wait_for_others(clients, searcher):
 
 
 def main():
-    clients = [Client() for _ in range(int(sys.argv[2]))]
-    clients[0].make_rings()
+    clients = [Client(1000) for _ in range(int(sys.argv[2]))]
+    ring = clients[0].add(clients[0].context, "keyring", "all", b"", keyretain.USER)
+    clients[0].many("ADD", [("keyring", str(number), b"", ring) for number in range(RINGS)])
     for searcher in clients:
         for _ in range(ROUNDS):
             wait_for_others(clients, searcher)
