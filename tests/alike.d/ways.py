@@ -130,19 +130,23 @@ class OfDaemon:
             self.daemon.end()
 
 
-class RemoteScript(OfDaemon):
-    """`keyretain --socket PATH script`."""
-
-    name = "a script over a socket"
-
-    def begin(self):
-        self.program = Process([Programs.keyretain, "--socket", self.daemon.path, "script"])
+class Piped(OfDaemon):
+    """By a program that is given the lines, which `begin` starts."""
 
     def play_piece(self, lines):
         return self.program.play(lines)
 
     def close(self):
         self.program.end()
+
+
+class RemoteScript(Piped):
+    """`keyretain --socket PATH script`."""
+
+    name = "a script over a socket"
+
+    def begin(self):
+        self.program = Process([Programs.keyretain, "--socket", self.daemon.path, "script"])
 
 
 class OneByOne(OfDaemon):
@@ -320,40 +324,26 @@ class Library(OneByOne):
 # ---- What programs ask that know nothing of keyretain: calls.py carries the lines out
 
 
-class Calls(OfDaemon):
-    """A program that makes the calls, in the one context that it has."""
+class Calls(Piped):
+    """A program that makes the calls, in the one context that it has: run by some words, and by a library or none."""
 
-    def begin(self):
-        env = environment(KEYRETAIN_SOCKET=self.daemon.path,
-                          PYTHONPATH=os.environ.get("PYTHONPATH", ""))
-        self.program = Process([*self.words(), "python3", "-B", f"{os.path.dirname(__file__)}/calls.py", self.by()],
-                               env)
-
-    def play_piece(self, lines):
-        return self.program.play(lines)
-
-    def close(self):
-        self.program.end()
+    def begin_by(self, words, library):
+        env = environment(KEYRETAIN_SOCKET=self.daemon.path, PYTHONPATH=os.environ.get("PYTHONPATH", ""))
+        self.program = Process([*words, "python3", "-B", f"{os.path.dirname(__file__)}/calls.py", library], env)
 
 
 class Keyutils(Calls):
     name = "libkeyutils"
 
-    def words(self):
-        return []
-
-    def by(self):
-        return Programs.keyutils
+    def begin(self):
+        self.begin_by([], Programs.keyutils)
 
 
 class SystemCalls(Calls):
     name = "system calls"
 
-    def words(self):
-        return [Programs.session, "--syscalls", "work", "--"]
-
-    def by(self):
-        return "-"
+    def begin(self):
+        self.begin_by([Programs.session, "--syscalls", "work", "--"], "-")
 
 
 class GuardedSystemCalls(SystemCalls):
