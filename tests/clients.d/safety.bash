@@ -249,12 +249,9 @@ try_hold() {
   sleep 2.5
   is 'hold: it is a key all the same' '1 1' "$("$dir/acts" links credentials) $(keepers | wc -l)"
   kill_daemon TERM
-  if python3 -c 1 2>/dev/null; then
+  where 'python3 -c 1' 'hold: what the daemon says of the keyring: no python3' \
     has_none 'hold: what the daemon says of the keyring' python3 -B "$parts/holding.py" \
       "$dir/keyretain/keyretain-keeper"
-  else
-    skipped 'hold: what the daemon says of the keyring: no python3'
-  fi
 }
 
 # What a command inherits, and enters.

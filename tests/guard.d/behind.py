@@ -1,6 +1,7 @@
 """Of the guard: daemons that are busy, gone, slow, or lie."""
 import fcntl
 import os
+import socket
 import struct
 import termios
 import time

@@ -87,6 +87,9 @@ has_none() {
   judge "$1" "$(<"$dir/judged")"
 }
 
+# where CONDITION TEXT COMMAND ..: carries out a command where a condition in the shell's words holds, or skips that
+where() { if eval "$1" >/dev/null 2>&1; then "${@:3}"; else skipped "$2"; fi; }
+
 # are_there PROGRAM ..: else this is the end
 are_there() {
   local program
@@ -214,7 +217,7 @@ can_sanitize() {
   cc "$dir/empty.c" "$@" -o "$dir/empty" 2>/dev/null && "$dir/empty" >/dev/null 2>&1
 }
 
-# compile_to PROGRAM WORD ..: what the words are compiled and linked to; a handler, or a thread, needn't use its argument
+# compile_to PROGRAM WORD ..: what the words are compiled and linked to. A handler needn't use its argument
 compile_to() {
   "${compiler:-cc}" -std=c11 -D_DEFAULT_SOURCE -g -O1 -Wall -Wextra -Wno-unused-parameter -Werror "${@:2}" -I"$lib" \
     -I"$top/clients/c" -pthread -ldl -o "$dir/$1"
@@ -229,6 +232,14 @@ make_clients() {
 make_installed() {
   make_clients c LIBDIR="$dir/lib" LIBEXECDIR="$dir/lib" &&
     install -D -t "$dir/lib/keyretain" "$dir/c/libkeyutils.so.1" "$dir/c/keyretain-keeper"
+}
+
+# make_helpers PYTHON: the keeper, keyretain-session with its library, and the package with its programs: in
+# $dir/installed
+make_helpers() {
+  local folders=(PREFIX="$dir/installed" LIBDIR="$dir/lib")
+  make_clients c LIBEXECDIR="$dir/installed/libexec" "${folders[@]}" install >"$dir/made" 2>&1 &&
+    make -s -C "$top/clients/python" "${folders[@]}" PYTHON="$1" install >>"$dir/made" 2>&1
 }
 
 # in_session WORD ..: keyretain-session of these
