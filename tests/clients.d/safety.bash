@@ -298,36 +298,24 @@ try_inherited() {
 
 # A process holds the session that it has joined last, and none that it has left, or failed to join.
 try_left() {
-  local input left
-  rm -f "$dir/leaves" "$dir/left"
-  mkfifo "$dir/leaves"
+  local input fed
   until_true has_no_keeper
-  "$dir/acts" left <"$dir/leaves" >"$dir/left" &
-  left=$!
-  exec {input}>"$dir/leaves"
-  until_true test -s "$dir/left"
+  feed left "$dir/acts" left
   until_true has_one_keeper
   is 'sessions that a process has left, or not entered, are held by nobody' 'ok, 1 keeper' \
     "$(<"$dir/left"), $(keepers | wc -l) keeper"
-  exec {input}>&-
-  finish "$left"
+  end_fed
 }
 
 # Where the environment names a session by another serial, its keys aren't possessed, nor is it the session.
 try_entered() {
-  local input holder ring key
-  rm -f "$dir/holds" "$dir/held"
-  mkfifo "$dir/holds"
-  "$dir/acts" hold entered <"$dir/holds" >"$dir/held" &
-  holder=$!
-  exec {input}>"$dir/holds"
-  until_true grep -q . "$dir/held"
+  local input fed ring key
+  feed held "$dir/acts" hold entered
   read -r ring key <"$dir/held"
   is 'a key of the session that the environment names' ok "$(KEYRETAIN_SESSION=$ring:entered "$dir/acts" read "$key")"
   is 'the same by another serial' EACCES "$(KEYRETAIN_SESSION=$((ring + 1)):entered "$dir/acts" read "$key")"
   is 'nor is that the session' EKEYREVOKED "$(KEYRETAIN_SESSION=$((ring + 1)):entered "$dir/acts" session)"
-  exec {input}>&-
-  finish "$holder"
+  end_fed
 }
 
 # ---- Places

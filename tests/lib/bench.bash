@@ -154,6 +154,23 @@ apart() {
   exec "$@"
 }
 
+# feed NAME COMMAND ..: a command that reads what goes to $input until end_fed, and what it prints is in $dir/NAME.
+# It has printed something then
+feed() {
+  rm -f "$dir/$1.fed"
+  : >"$dir/$1"
+  mkfifo "$dir/$1.fed"
+  "${@:2}" <"$dir/$1.fed" >"$dir/$1" 2>&1 &
+  fed=$!
+  exec {input}>"$dir/$1.fed"
+  until_true grep -q . "$dir/$1"
+}
+
+end_fed() {
+  exec {input}>&-
+  finish "$fed"
+}
+
 # as UID COMMAND ..: a command of another user
 as() { setpriv --reuid "$1" --regid "$1" --clear-groups "${@:2}"; }
 
