@@ -3,19 +3,11 @@ to name the folder where the package is installed."""
 import os
 
 import keyretain  # what is installed, before the next line finds that of the project
-from helpers import compare, conclude, daemon, keepers, looking, until
+from helpers import compare, conclude, daemon, keepers, looking, outcome, until
 import keyring
 from keyring import backend, errors
 
 NAME = "keyretain.credentials.backend"
-
-
-def error_of(run, *words):
-    """The name of what is raised, or what is answered."""
-    try:
-        return run(*words)
-    except errors.KeyringError as error:
-        return type(error).__name__
 
 
 def pair_of(credential):
@@ -40,7 +32,7 @@ def try_passwords(one):
     strange = ("se rvice=\u00e9\n%", "us er\0\u00e9", "pass\nword \u20ac\0\ud800=")
     with daemon(), looking("python-keyring") as look:
         compare("none", None, one.get_password("s", "u"))
-        compare("none to delete", "PasswordDeleteError", error_of(one.delete_password, "s", "u"))
+        compare("none to delete", "PasswordDeleteError", outcome(one.delete_password, "s", "u"))
         one.set_password("s", "u", "one")
         one.set_password("s", "v", "two")
         one.set_password("t", "u", "three")
@@ -60,7 +52,7 @@ def try_passwords(one):
         compare("and its name", strange[1:], pair_of(one.get_credential(strange[0], None)))
         one.set_password("s", "u", "")
         compare("no text", "", one.get_password("s", "u"))
-        compare("one that no key can have", "PasswordSetError", error_of(one.set_password, "s", "u", "x" * 32767))
+        compare("one that no key can have", "PasswordSetError", outcome(one.set_password, "s", "u", "x" * 32767))
         compare("the one before stays", "", one.get_password("s", "u"))
         one.delete_password("s", "u")
         compare("one that was deleted", None, one.get_password("s", "u"))
@@ -72,14 +64,14 @@ def try_no_daemon(one):
     """A program that has it already."""
     for what, run, words in (("get", one.get_password, ("s", "u")), ("credential", one.get_credential, ("s", None)),
                              ("delete", one.delete_password, ("s", "u"))):
-        compare(f"no daemon: {what}", "KeyringError", error_of(run, *words))
-    compare("no daemon: set", "PasswordSetError", error_of(one.set_password, "s", "u", "s3cret"))
+        compare(f"no daemon: {what}", "KeyringError", outcome(run, *words))
+    compare("no daemon: set", "PasswordSetError", outcome(one.set_password, "s", "u", "s3cret"))
     try:
         one.set_password("s", "u", "s3cret")
     except errors.KeyringError as error:
         compare("one line, without the password", (False, False), ("\n" in str(error), "s3cret" in str(error)))
     os.environ["PYTHON_KEYRING_BACKEND"] = "keyring.backends.fail.Keyring"
-    compare("no backend at all", "NoKeyringError", error_of(keyring.get_password, "s", "u"))
+    compare("no backend at all", "NoKeyringError", outcome(keyring.get_password, "s", "u"))
 
 
 chosen = try_found()

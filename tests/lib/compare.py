@@ -33,6 +33,14 @@ def compare(what, wanted, got):
     check(what, None if wanted == got else difference(wanted, got))
 
 
+def outcome(run, *words, **named):
+    """What a call answers, or the name of what it raises."""
+    try:
+        return run(*words, **named)
+    except Exception as error:
+        return type(error).__name__
+
+
 def skipped(what):
     print(f"skipped: {what}", flush=True)
 

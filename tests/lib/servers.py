@@ -5,17 +5,9 @@ import tempfile
 import threading
 from contextlib import contextmanager
 
-from compare import compare, conclude  # noqa: F401 # for who imports this
+from compare import compare, conclude, outcome  # noqa: F401 # for who imports this
 import keyretain
 from versions import number, reply
-
-
-def outcome(run, *words, **named):
-    """What a call answers, or the name of what it raises."""
-    try:
-        return run(*words, **named)
-    except Exception as error:
-        return type(error).__name__
 
 
 class End:

@@ -2,17 +2,9 @@
 alias."""
 import time
 
-from stage import SESSION_COLLECTION, bus, compare, conclude, daemon, secrets
-from jeepney import DBusErrorResponse
+from stage import SESSION_COLLECTION, bus, compare, conclude, daemon, outcome, secrets
 import secretstorage
 from secretstorage.collection import Collection, get_all_collections, get_any_collection, get_collection_by_alias
-
-
-def error_of(run, *words):
-    try:
-        return run(*words)
-    except (secretstorage.exceptions.SecretStorageException, TypeError, DBusErrorResponse) as error:
-        return type(error).__name__
 
 
 def try_collections(connection):
@@ -20,18 +12,18 @@ def try_collections(connection):
     compare("any collection", SESSION_COLLECTION, any_one.collection_path)
     compare("all collections", ["session"], [one.get_label() for one in get_all_collections(connection)])
     compare("its label stays", ("DBusErrorResponse", "session"),
-            (error_of(any_one.set_label, "new"), any_one.get_label()))
-    compare("another collection", "DBusErrorResponse", error_of(secretstorage.create_collection, connection, "new"))
-    compare("one that isn't there", "ItemNotFoundException", error_of(Collection, connection, f"{SESSION_COLLECTION}2"))
+            (outcome(any_one.set_label, "new"), any_one.get_label()))
+    compare("another collection", "DBusErrorResponse", outcome(secretstorage.create_collection, connection, "new"))
+    compare("one that isn't there", "ItemNotFoundException", outcome(Collection, connection, f"{SESSION_COLLECTION}2"))
     compare("it stays unlocked", (None, False), (any_one.lock(), any_one.is_locked()))
-    compare("it isn't deleted", ("DBusErrorResponse", False), (error_of(any_one.delete), any_one.is_locked()))
+    compare("it isn't deleted", ("DBusErrorResponse", False), (outcome(any_one.delete), any_one.is_locked()))
 
 
 def try_items(connection, collection):
     empty = collection.create_item("", {}, b"")
     compare("an empty item", (b"", "", {}), (empty.get_secret(), empty.get_label(), empty.get_attributes()))
     compare("its times", True, time.time() - 600 < empty.get_created() <= empty.get_modified() < time.time() + 1)
-    compare("a secret of another type", "TypeError", error_of(empty.set_secret, True))
+    compare("a secret of another type", "TypeError", outcome(empty.set_secret, True))
     same = secretstorage.Item(connection, empty.item_path)
     other = collection.create_item("", {"a": "b"}, b"")
     compare("equal, and unequal", (True, False, True), (same == empty, other == empty, other != empty))
@@ -43,7 +35,7 @@ with daemon(), bus(), secrets():
     connection = secretstorage.dbus_init()
     compare("is there", True, secretstorage.check_service_availability(connection))
     collection = get_collection_by_alias(connection, "session")
-    compare("no default", "ItemNotFoundException", error_of(get_collection_by_alias, connection, "default"))
+    compare("no default", "ItemNotFoundException", outcome(get_collection_by_alias, connection, "default"))
     compare("unlocked", (False, True), (collection.is_locked(), collection.ensure_not_locked() is None))
     try_collections(connection)
     try_items(connection, collection)
@@ -59,6 +51,6 @@ with daemon(), bus(), secrets():
     compare("changed", (b"two", "new", {"a": "c"}), (item.get_secret(), item.get_label(), item.get_attributes()))
     compare("not unlocked by anybody", False, item.unlock())
     item.delete()
-    compare("deleted", "ItemNotFoundException", error_of(item.get_label))
+    compare("deleted", "ItemNotFoundException", outcome(item.get_label))
     compare("all", [], list(collection.get_all_items()))
 conclude()
