@@ -3,7 +3,6 @@
 sent byte by byte, and whole ones behind them are answered all the same. Without the guard's own filter, in which a call
 that strace makes fail has the number -1."""
 
-import fcntl
 import os
 import shutil
 import signal
@@ -11,11 +10,10 @@ import struct
 import subprocess
 import sys
 import tempfile
-import termios
 import time
 
 from compare import compare, conclude
-from daemons import Daemon, Program, connect, received
+from daemons import Daemon, Program, connect, received, wait_until_read
 from versions import hello
 
 GUARD, DAEMON = sys.argv[1:3]
@@ -44,13 +42,9 @@ def status(client):
 def ask_often(path):
     """The statuses of the replies to a foreign HELLO and four own ones."""
     with connect(path) as client:
-        waiting, end = bytearray(4), time.monotonic() + 60
         for byte in own(os.geteuid() + 1) + own():
             client.sendall(bytes([byte]))
-            while time.monotonic() < end:  # until it has been read
-                fcntl.ioctl(client, termios.TIOCOUTQ, waiting)
-                if waiting == b"\0\0\0\0":
-                    break
+            wait_until_read(client)
         statuses = status(client), status(client)
         for _ in range(3):  # whole
             client.sendall(own())

@@ -75,11 +75,7 @@ class Client:
             self.wait_until_read()
 
     def wait_until_read(self):
-        waiting, end = bytearray(4), time.monotonic() + PATIENCE
-        while time.monotonic() < end:
-            fcntl.ioctl(self.sock, termios.TIOCOUTQ, waiting)
-            if waiting == b'\0\0\0\0':
-                break
+        daemons.wait_until_read(self.sock)
 
     def exactly(self, count):
         while len(self.have) < count:

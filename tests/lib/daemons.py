@@ -1,11 +1,13 @@
 """A folder and its end, one daemon and one guard, and connections of any user to these, for the tests in Python."""
 import contextlib
+import fcntl
 import os
 import shutil
 import signal
 import socket
 import subprocess
 import tempfile
+import termios
 import time
 
 ENDS = signal.SIGINT, signal.SIGTERM, signal.SIGHUP
@@ -107,6 +109,15 @@ def connect(path):
     end.settimeout(PATIENCE)
     end.connect(os.fspath(path))
     return end
+
+
+def wait_until_read(end):
+    """Until the other end has read all that was sent, as long as patience lasts."""
+    waiting, until_then = bytearray(4), time.monotonic() + PATIENCE
+    while time.monotonic() < until_then:
+        fcntl.ioctl(end, termios.TIOCOUTQ, waiting)
+        if waiting == b"\0\0\0\0":
+            break
 
 
 def listening(path, backlog=8, kind=socket.SOCK_STREAM):
