@@ -16,19 +16,14 @@ def config(folder, uids):
     if uids != 'host':
         mapping = [{'containerID': 0, 'hostID': int(uids), 'size': 65536}]
         linux.update(uidMappings=mapping, gidMappings=mapping)
-    return {
-        'ociVersion': '1.0.2',
-        'process': {
-            'terminal': False, 'user': {'uid': 0, 'gid': 0}, 'cwd': '/', 'env': ['PATH=/bin'], 'noNewPrivileges': True,
-            'args': ['/bin/calls', 'add', 'kept', 'v', '@s', 'describe', '@u', 'put', '/tmp/ready', 'await', '/tmp/go',
-                     'print', 'kept'],
-            'capabilities': {kind: CAPABILITIES for kind in ('bounding', 'effective', 'permitted')},
-        },
-        'root': {'path': 'rootfs', 'readonly': False},
-        'mounts': [{'destination': '/proc', 'type': 'proc', 'source': 'proc'},
-                   {'destination': '/dev', 'type': 'tmpfs', 'source': 'tmpfs', 'options': ['nosuid', 'mode=755']}],
-        'linux': linux,
-    }
+    calls = '/bin/calls add kept v @s describe @u put /tmp/ready await /tmp/go print kept'
+    process = {'terminal': False, 'user': {'uid': 0, 'gid': 0}, 'cwd': '/', 'env': ['PATH=/bin'],
+               'noNewPrivileges': True, 'args': calls.split(),
+               'capabilities': {kind: CAPABILITIES for kind in ('bounding', 'effective', 'permitted')}}
+    mounts = [{'destination': '/proc', 'type': 'proc', 'source': 'proc'},
+              {'destination': '/dev', 'type': 'tmpfs', 'source': 'tmpfs', 'options': ['nosuid', 'mode=755']}]
+    return {'ociVersion': '1.0.2', 'process': process, 'root': {'path': 'rootfs', 'readonly': False}, 'mounts': mounts,
+            'linux': linux}
 
 
 json.dump(config(*sys.argv[1:]), sys.stdout)

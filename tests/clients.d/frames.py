@@ -86,9 +86,8 @@ def late():
 def try_late():
     """Each call has its own answer all the same."""
     printed, _ = run("late", late())
-    compare("late replies",
-            ["hello: 77", "interrupted: EINTR", "the next: 77", "out of patience: ETIMEDOUT",
-             "out of patience again: ETIMEDOUT", "the next: 77"], printed)
+    compare("late replies", ["hello: 77", "interrupted: EINTR", "the next: 77", "out of patience: ETIMEDOUT",
+                             "out of patience again: ETIMEDOUT", "the next: 77"], printed)
 
 
 def try_first():
@@ -97,8 +96,7 @@ def try_first():
         time.sleep(0.2)
         return plain(tag, name, values)
 
-    compare("an interrupted first call", ["interrupted: EINTR", "the next: 77", "another: 77"],
-            run("first", answer)[0])
+    compare("an interrupted first call", ["interrupted: EINTR", "the next: 77", "another: 77"], run("first", answer)[0])
 
 
 def try_restarted():
@@ -111,8 +109,7 @@ def try_restarted():
 
 
 def try_child():
-    compare("a call in a child",
-            ["hello: 77", "in the child: ECONNRESET, broken", "in the parent: 77"],
+    compare("a call in a child", ["hello: 77", "in the child: ECONNRESET, broken", "in the parent: 77"],
             run("fork", plain)[0])
 
 
@@ -127,8 +124,7 @@ def try_broken():
     """Replies that are none, and servers that go: an error once, and then that the connection is lost."""
     four = b"\1\0\0\0"
     cases = {
-        "the end": (None, "ECONNRESET"),
-        "no status": (lambda tag: reply(tag, b"", 7), "EPROTO"),
+        "the end": (None, "ECONNRESET"), "no status": (lambda tag: reply(tag, b"", 7), "EPROTO"),
         "an error with a body": (lambda tag: reply(tag, b"x", 1), "EPROTO"),
         "no number": (lambda tag: reply(tag, b""), "EPROTO"),
         "a long number": (lambda tag: reply(tag, four + b"\0"), "EPROTO"),
@@ -144,8 +140,7 @@ def try_broken():
     }
     for case, (spell, error) in cases.items():
         printed, _ = run("one", lambda tag, *_: spell and spell(tag))
-        compare(case,
-                [f"one: {error}, broken", "one more: ECONNRESET, broken"], printed[:2])
+        compare(case, [f"one: {error}, broken", "one more: ECONNRESET, broken"], printed[:2])
 
 
 def try_python():

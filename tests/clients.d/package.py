@@ -30,8 +30,7 @@ def compare_installed(what, folder, programs):
     """Its files, that its commands run, and that programs find its backend of keyring."""
     compare(f"{what}: the files", FILES, files_of(folder + "/keyretain"))
     for name in HELPERS:
-        told = run(sys.executable, "-B", f"{programs}/{name}", "--version",
-                   env={**os.environ, "PYTHONPATH": folder})
+        told = run(sys.executable, "-B", f"{programs}/{name}", "--version", env={**os.environ, "PYTHONPATH": folder})
         compare(f"{what}: {name}", (0, f"{name} (keyretain) {sys.argv[1]}\n"), (told.returncode, told.stdout))
     told = run(sys.executable, "-B", "-c", FIND_BACKEND, folder)
     compare(f"{what}: the backend of keyring", "keyretain keyretain.credentials.backend\n", told.stdout)

@@ -308,8 +308,7 @@ def try_two_at_once():
                 client.send("READ", 1, key)
             return [outcome(client.receive), outcome(client.read, 1, 3), *[outcome(client.receive) for _ in range(2)]]
 
-    compare("an answer that came before the end", [b"1", "Lost", b"2", "Lost"],
-            outcomes(lambda tag: reply(tag, b"2")))
+    compare("an answer that came before the end", [b"1", "Lost", b"2", "Lost"], outcomes(lambda tag: reply(tag, b"2")))
     compare("one that came before noise", ["Malformed", "Lost", "Lost", "Lost"],
             outcomes(lambda tag: reply(tag + 1, b"2")))
 
@@ -389,12 +388,9 @@ def answering(*replies):
 def try_nonsense():
     """Replies that are none end the connection, which says so ever after."""
     cases = {
-        "bytes behind a reply": lambda tag: reply(tag, b"5") + b"\0",
-        "two replies": lambda tag: reply(tag, b"5") * 2,
-        "another's reply": lambda tag: reply(tag + 1, b"5"),
-        "an unknown status": lambda tag: reply(tag, b"", 4),
-        "an error with a body": lambda tag: reply(tag, b"x", 1),
-        "a short length": lambda tag: b"\3\0\0\0" + bytes(20),
+        "bytes behind a reply": lambda tag: reply(tag, b"5") + b"\0", "two replies": lambda tag: reply(tag, b"5") * 2,
+        "another's reply": lambda tag: reply(tag + 1, b"5"), "an unknown status": lambda tag: reply(tag, b"", 4),
+        "an error with a body": lambda tag: reply(tag, b"x", 1), "a short length": lambda tag: b"\3\0\0\0" + bytes(20),
         "a great length": lambda tag: b"\x09\0\4\0" + bytes(20),
     }
     decode, decoded = connection.decode_reply, []

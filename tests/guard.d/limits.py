@@ -284,8 +284,7 @@ def try_deaf():
 
 
 def try_few_files():
-    run = Running('--per-uid', '64',
-                  limit=lambda: resource.setrlimit(resource.RLIMIT_NOFILE, (24, 24)))
+    run = Running('--per-uid', '64', limit=lambda: resource.setrlimit(resource.RLIMIT_NOFILE, (24, 24)))
     made = []
     for _ in range(40):
         made += run.many(1, *WHO)
@@ -293,8 +292,7 @@ def try_few_files():
     time.sleep(0.2)
     cpu = ticks(run)
     time.sleep(0.5)
-    check('few descriptors: no spinning',
-          ticks(run) - cpu <= 2, True)
+    check('few descriptors: no spinning', ticks(run) - cpu <= 2, True)
     served = 0
     while made:
         client = made.pop(0)

@@ -133,8 +133,7 @@ def try_variables():
                        "activate = 1\n[e]\nactivate = 1\n")
         begun = subprocess.run([f"{FOLDER}/bin/keyretain-secrets", "--version"], capture_output=True, check=False,
                                env={**os.environ, "OPENSSL_CONF": settings}, timeout=PATIENCE)
-        compare("no code that variables of OpenSSL's name is run", (0, False),
-                (begun.returncode, os.path.exists(told)))
+        compare("no code that variables of OpenSSL's name is run", (0, False), (begun.returncode, os.path.exists(told)))
 
 
 with daemon(), bus() as broker:

@@ -228,5 +228,4 @@ WAYS = {"kept: ADD": kept, "kept: ADD in three parts": pieces, "kept: READ": rea
         "ADD: ENODEV": asks(("ADD", "nosuch", "token", PAYLOAD, U), wants=19),
         "ADD: ENOKEY": asks(("ADD", "user", "token", PAYLOAD, 2_000_000_000), wants=126),
         "UPDATE: ENOKEY": asks(("UPDATE", 2_000_000_000, PAYLOAD), wants=126), "READ, REVOKE": read_revoke,
-        "READs not taken, close": read_unread, "READs, a long READ, REVOKE": read_behind,
-        "UPDATE, REVOKE ahead": batch}
+        "READs not taken, close": read_unread, "READs, a long READ, REVOKE": read_behind, "UPDATE, REVOKE ahead": batch}

@@ -36,8 +36,7 @@ def row(number: int, fields: str, answer: str) -> Callable[[Method], Method]:
     return put
 
 
-NUMBERS = {"id": struct.Struct("<i"), "i32": struct.Struct("<i"), "u8": struct.Struct("<B"),
-           "u32": struct.Struct("<I")}
+NUMBERS = {"id": struct.Struct("<i"), "i32": struct.Struct("<i"), "u8": struct.Struct("<B"), "u32": struct.Struct("<I")}
 ENTRY = struct.Struct("<3I8I")
 HEAD = struct.Struct("<IHHIQ")
 COUNTED = {"text": ("<H", 1), "blob": ("<I", 1), "groups": ("<I", 4), "entries": ("<I", ENTRY.size)}
