@@ -16,7 +16,7 @@ import time
 
 import servers
 from keyretain import connection
-from servers import answer_all, client_of, compare, outcome, plain, reply, served
+from servers import answer_all, client_of, compare, outcome, plain, reply, served, told_by
 import keyretain
 
 
@@ -58,16 +58,7 @@ def bare_fork():
 
 def in_child(run, fork=os.fork):
     """What it answers in a child, as text."""
-    read, write = os.pipe()
-    child = fork()
-    if child == 0:
-        os.write(write, str(outcome(run)).encode())
-        os._exit(0)
-    os.close(write)
-    with os.fdopen(read) as answered:
-        text = answered.read()
-    os.waitpid(child, 0)
-    return text
+    return told_by(lambda write: os.write(write, str(outcome(run)).encode()), fork)
 
 
 # ---- Forks

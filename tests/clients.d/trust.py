@@ -13,34 +13,11 @@ from contextlib import contextmanager
 
 import daemons
 import servers
-from servers import compare, keyretain, outcome
+from servers import compare, in_child, keyretain, outcome, told_by
 
 OWN, DAEMON, OTHER = os.geteuid(), 65533, 65534  # uids
 CLONE_NEWUSER = 0x10000000  # unshare(2)
 places = getattr(keyretain, "places", keyretain)
-
-
-def in_child(run):
-    """A child that runs this, given the writing end of a pipe, and its reading end."""
-    read, write = os.pipe()
-    child = os.fork()
-    if child == 0:
-        os.close(read)
-        try:
-            run(write)
-        finally:
-            os._exit(0)
-    os.close(write)
-    return child, read
-
-
-def told_by(run):
-    """What a child that runs this writes."""
-    child, read = in_child(run)
-    with os.fdopen(read) as answered:
-        text = answered.read()
-    os.waitpid(child, 0)
-    return text
 
 
 def become(uid):

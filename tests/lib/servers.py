@@ -1,4 +1,5 @@
 """Servers that answer as a test says, for the tests of clients."""
+import os
 import socket
 import struct
 import tempfile
@@ -76,3 +77,26 @@ def client_of(serve=answer_all, timeout=20):
     """A client whose server is that."""
     with served(serve) as path, keyretain.Client(path, timeout) as client:
         yield client
+
+
+def in_child(run, fork=os.fork):
+    """A child that runs this, given the writing end of a pipe, and its reading end."""
+    read, write = os.pipe()
+    child = fork()
+    if child == 0:
+        os.close(read)
+        try:
+            run(write)
+        finally:
+            os._exit(0)
+    os.close(write)
+    return child, read
+
+
+def told_by(run, fork=os.fork):
+    """What a child that runs this writes."""
+    child, read = in_child(run, fork)
+    with os.fdopen(read) as answered:
+        text = answered.read()
+    os.waitpid(child, 0)
+    return text
