@@ -4,8 +4,7 @@
 # One connection keeps a uid's keys; single calls and another client of the uid reach them, other uids do not.
 try_sharing() {
   start
-  open_client keeper
-  answers keeper 'hello 1000 1000' 1
+  comes keeper 1
   answers keeper 'add user alpha a @u' 5
   calls 'a call to a kept key' 0 $'a\n' print 5
   prints 'a call by another uid' 1 $'error 13 EACCES\n' --socket "$path" --uid 2000 --gid 2000 print 5 </dev/null
@@ -17,8 +16,7 @@ try_sharing() {
   answers keeper 'print 5' b
   calls 'a call that adds' 0 $'8\n' add user spaced 'two words' @u
   answers keeper 'print 8' 'two words'
-  open_client second
-  answers second 'hello 1000 1000' 6
+  comes second 6
   answers second 'context 1' ok
   answers second 'print 5' 'error 3 ESRCH'
   answers second 'context 6' ok
@@ -47,8 +45,7 @@ is_left() {
 # one_by_one NAME: a second client is not accepted, and waits, until the first has ended
 one_by_one() {
   local waiting holding
-  open_client first
-  answers first 'hello 1000 1000' 1
+  comes first 1
   holding=$(held)
   apart "$keyretain" --socket "$path" --uid 1000 --gid 1000 rdescribe @u >"$dir/waits" 2>/dev/null </dev/null &
   waiting=$!
@@ -82,8 +79,7 @@ try_few_files() {
   limited with-few-files '-Sn 12'
   local keyretaind=$dir/with-few-files
   start --lanes 32 --accept 14
-  open_client first
-  answers first 'hello 1000 1000' 1
+  comes first 1
   answers first 'add user alpha a @u' 5
   for n in {1..13}; do open_client "more$n"; done
   sleep 0.5
@@ -177,11 +173,9 @@ passes() {
   injecting "with-$1" "$1" 2..4
   local keyretaind=$dir/with-$1
   start --accept 2
-  open_client first
-  answers first 'hello 1000 1000' 1
+  comes first 1
   answers first 'add user alpha a @u' 5
-  open_client second
-  answers second 'hello 1000 1000' 2
+  comes second 2
   answers second 'print 5' a
   close_client second 0
   close_client first 0
@@ -194,8 +188,7 @@ try_passing_causes() {
   injecting with-first-failing EMFILE 1..3
   local keyretaind=$dir/with-first-failing
   start --accept 1
-  open_client alone
-  answers alone 'hello 1000 1000' 1
+  comes alone 1
   close_client alone 0
   is_served 'accepts that failed while nobody was served' 1
 }
@@ -216,10 +209,8 @@ keyretaind: it may open no more files: raise LimitNOFILE= of its unit, or ulimit
   is 'accepts that all fail: the path is gone' gone "$(path_state)"
   keyretaind=$dir/with-many-failing
   start --accept 2
-  open_client first
-  answers first 'hello 1000 1000' 1
-  open_client second
-  answers second 'hello 1000 1000' 2
+  comes first 1
+  comes second 2
   close_client second 0
   close_client first 0
   is_served 'accepts that fail for longer' 2
@@ -231,8 +222,7 @@ try_failed_accept() {
   injecting with-failures EPERM 2
   local keyretaind=$dir/with-failures
   start --lanes 32
-  open_client first
-  answers first 'hello 1000 1000' 1
+  comes first 1
   calls 'the connection that is not accepted' 3 $'error: connection\n' id @u
   until_true has_told_accept
   is 'a failed accept is told at once' "listening $path"$'\nerror: accept' "$(<"$log")"
@@ -276,8 +266,7 @@ try_full_output() {
 # A client that is killed: what it had ends, and its lane serves the next.
 try_killed_client() {
   start --lanes 1 --accept 2
-  open_client victim
-  answers victim 'hello 1000 1000' 1
+  comes victim 1
   answers victim 'add user a x @u' 5
   kill -KILL "${client[victim]}"
   close_client victim 137
@@ -289,8 +278,7 @@ try_killed_client() {
 # A daemon that is killed: its client says that the connection has failed.
 try_killed_daemon() {
   start
-  open_client orphan
-  answers orphan 'hello 1000 1000' 1
+  comes orphan 1
   kill_daemon KILL
   answers orphan 'print 3' 'error: connection'
   close_client orphan 3

@@ -61,6 +61,12 @@ answers() {
   is "$1: $2" "$3" "$answer"
 }
 
+# comes NAME CONTEXT: a client of uid 1000, which is given this context
+comes() {
+  open_client "$1"
+  answers "$1" 'hello 1000 1000' "$2"
+}
+
 # close_client NAME STATUS: its lines end
 close_client() {
   local end=${to[$1]}
