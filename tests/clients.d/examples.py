@@ -9,7 +9,7 @@ import sys
 import tempfile
 import textwrap
 
-from compare import compare, conclude
+from compare import compare, conclude, write
 import keyretain
 
 path, built = sys.argv[1:]
@@ -73,8 +73,7 @@ with tempfile.TemporaryDirectory(prefix="keyretain.") as folder:
     compare("a program in the manual page", ["man/libkeyretain.3"], [where for where, _ in programs()])
     for where, text in programs():
         source, program = folder + "/example.c", folder + "/example"
-        with open(source, "w", encoding="utf-8") as file:
-            file.write(text)
+        write(source, text)
         compiled = subprocess.run(["cc", "-Wall", "-Wextra", "-Werror", "-I", os.path.join(TOP, "clients/c"), source,
                                    "-o", program,
                                    "-L", built, "-lkeyretain"], capture_output=True, text=True, check=False)

@@ -6,7 +6,8 @@ import subprocess
 import tempfile
 import time
 
-from helpers import FOLDER, compare, conclude, daemon, helper, is_one_line, keepers, keyretain, looking, run, until
+from helpers import (FOLDER, compare, conclude, daemon, helper, is_one_line, keepers, keyretain, looking, run, until,
+                     write)
 
 PROGRAM = "git-credential-keyretain"
 
@@ -224,9 +225,7 @@ def try_elsewhere():
     environment says."""
     with tempfile.TemporaryDirectory(prefix="keyretain.") as folder:
         for name in ("keyretain", "struct", "sys", "socket", "json", "urllib", "sitecustomize"):
-            os.mkdir(f"{folder}/{name}")
-            with open(f"{folder}/{name}/__init__.py", "w", encoding="ascii") as file:
-                file.write(f"open({folder + '/run'!r}, 'w')\nraise SystemExit(9)\n")
+            write(f"{folder}/{name}/__init__.py", f"open({folder + '/run'!r}, 'w')\nraise SystemExit(9)\n")
         status, out, err = run(helper("git", "--version"), cwd=folder, environment={"PYTHONPATH": folder})
         compare("where others have modules", (0, True, b"", False),
                 (status, out.startswith(PROGRAM.encode()), err, os.path.exists(folder + "/run")))
@@ -384,9 +383,7 @@ def try_no_keeper():
              "from keyretain.credentials.git import main\nsys.exit(main(sys.argv[3:]))")
     with daemon(), tempfile.TemporaryDirectory(prefix="keyretain.") as folder:
         silent = folder + "/keyretain-keeper"
-        with open(silent, "w", encoding="ascii") as file:
-            file.write("#!/bin/sh\nexec sleep 100\n")
-        os.chmod(silent, 0o755)
+        write(silent, "#!/bin/sh\nexec sleep 100\n", 0o755)
         for keeper in ("/nowhere/keyretain-keeper", "/bin/true", "/bin/cat", silent):
             status, _, err = run(["python3", "-I", "-B", "-c", words, package, keeper, "store"],
                                  lines("protocol=https host=a username=u password=p"))

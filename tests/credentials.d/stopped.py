@@ -7,7 +7,7 @@ import tempfile
 import time
 from contextlib import nullcontext
 
-from helpers import compare, conclude
+from helpers import compare, conclude, write
 from servers import plain, reply, served
 from keyretain.credentials import keeper, locker
 
@@ -20,9 +20,7 @@ def hangs(*_):
 
 def held(folder, word):
     """What holding comes to with a keeper that says this, and is stopped."""
-    with open(keeper.KEEPER, "w", encoding="ascii") as program:
-        program.write(ANSWER % word)
-    os.chmod(keeper.KEEPER, 0o755)
+    write(keeper.KEEPER, ANSWER % word, 0o755)
     signal.alarm(15)
     try:
         with keeper.holding("ring", folder + "/sock"):
@@ -37,9 +35,7 @@ def held(folder, word):
 
 def left_by(folder):
     """How many descriptors and children are left where a keeper answers and ends."""
-    with open(keeper.KEEPER, "w", encoding="ascii") as program:
-        program.write("#!/bin/sh\necho 5:ring\n")
-    os.chmod(keeper.KEEPER, 0o755)
+    write(keeper.KEEPER, "#!/bin/sh\necho 5:ring\n", 0o755)
     before = len(os.listdir("/proc/self/fd"))
     with keeper.holding("ring", folder + "/sock"):
         pass
@@ -56,9 +52,7 @@ def begun_by(folder, manager, uid=os.geteuid()):
     told = folder + "/told"
     for name, text in (("keyretain-keeper", f'#!/bin/sh\necho "keeper $* $XDG_RUNTIME_DIR" >>{told}\necho 5:ring\n'),
                        ("systemd-run", f'#!/bin/sh\necho "manager" >>{told}\n{manager}\n')):
-        with open(f"{folder}/{name}", "w", encoding="ascii") as program:
-            program.write(text)
-        os.chmod(f"{folder}/{name}", 0o755)
+        write(f"{folder}/{name}", text, 0o755)
     os.seteuid(uid)
     try:
         with keeper.holding("ring", "/sock"):
@@ -78,9 +72,7 @@ def try_managed(folder):
     keeper.MANAGERS, keeper.MANAGED, keeper.PATIENCE = folder, (folder + "/systemd-run", *keeper.MANAGED[1:]), 4
     words = "keeper --hold ring --socket /sock "
     compare("where there is no systemd", [words], begun_by(folder, "exit 1"))
-    os.makedirs(own + "/systemd")
-    with open(own + "/systemd/private", "w", encoding="ascii"):
-        pass
+    write(own + "/systemd/private", "")
     scope = '[ "$*" = "--user --scope --quiet --collect -- $6 --hold ring --socket /sock" ] || exit 1'
     compare("by systemd", ["manager", words + own], begun_by(folder, f'{scope}\nshift 5\nexec "$@"'))
     compare("one that fails", ["manager", words], begun_by(folder, "exit 1"))

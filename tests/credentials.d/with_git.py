@@ -9,7 +9,7 @@ import threading
 from contextlib import contextmanager
 from http.server import BaseHTTPRequestHandler, ThreadingHTTPServer
 
-from helpers import FOLDER, compare, conclude, daemon, keepers, run, until
+from helpers import FOLDER, compare, conclude, daemon, keepers, run, until, write
 
 USER, PASSWORD = "alice", "s3 \u20ac:"
 HELPER = ("-c", "credential.helper=", "-c", "credential.helper=keyretain --timeout 1000")
@@ -146,10 +146,8 @@ def try_push():
     with tempfile.TemporaryDirectory(prefix="keyretain.") as folder, daemon(), served(folder) as server:
         work, askpass, secret = folder + "/work", folder + "/askpass", folder + "/secret"
         answer = f"case $1 in User*) echo {USER} ;; *) cat {secret} ;; esac"
-        for path, text in ((secret, PASSWORD), (askpass, f"#!/bin/sh\necho >>{folder}/asked\n{answer}\n")):
-            with open(path, "w", encoding="utf-8") as file:
-                file.write(text)
-        os.chmod(askpass, 0o700)
+        write(secret, PASSWORD)
+        write(askpass, f"#!/bin/sh\necho >>{folder}/asked\n{answer}\n", 0o700)
         git("init", "-q", "--bare", folder + "/a.git")
         git("-C", folder + "/a.git", "config", "http.receivepack", "true")
         git("init", "-q", work)

@@ -8,7 +8,7 @@ import tempfile
 import threading
 from http.server import BaseHTTPRequestHandler, ThreadingHTTPServer
 
-from helpers import FOLDER, compare, conclude, daemon, helper, run
+from helpers import FOLDER, compare, conclude, daemon, helper, run, write
 
 PROGRAM = sys.argv[1] if len(sys.argv) > 1 else "skopeo"
 USER, PASSWORD = "alice", "s3 \u20ac:"
@@ -36,8 +36,7 @@ class Registry(BaseHTTPRequestHandler):
 
 def try_registry(server, folder):
     place = f"127.0.0.1:{server.server_port}"
-    with open(folder + "/auth.json", "w", encoding="ascii") as file:
-        json.dump({"credHelpers": {place: "keyretain"}}, file)
+    write(folder + "/auth.json", json.dumps({"credHelpers": {place: "keyretain"}}))
     environment = {"PATH": f"{FOLDER}/bin:{os.environ['PATH']}", "REGISTRY_AUTH_FILE": folder + "/auth.json",
                    "HOME": folder, "XDG_RUNTIME_DIR": folder, "DOCKER_CONFIG": folder}
 

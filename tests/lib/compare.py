@@ -41,6 +41,14 @@ def outcome(run, *words, **named):
         return type(error).__name__
 
 
+def write(path, text, mode=0o644):
+    """Writes a file, and the folders to it."""
+    os.makedirs(os.path.dirname(path), exist_ok=True)
+    with open(path, "w", encoding="utf-8") as file:
+        file.write(text)
+    os.chmod(path, mode)
+
+
 def skipped(what):
     print(f"skipped: {what}", flush=True)
 

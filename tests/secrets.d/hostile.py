@@ -5,7 +5,7 @@ import subprocess
 import tempfile
 
 from stage import (COLLECTION, FOLDER, ITEM, PATIENCE, ROOT, SESSION, SESSION_COLLECTION, Caller, bus, compare,
-                   conclude, daemon, secrets)
+                   conclude, daemon, secrets, write)
 from jeepney import DBusAddress, HeaderFields, new_signal
 
 SECRET = "s3cret-that-nobody-tells"
@@ -128,9 +128,8 @@ def try_variables():
         planted, settings, told = (f"{folder}/{name}" for name in ("planted.so", "planted.cnf", "has-run"))
         code = f'#include <stdio.h>\n__attribute__((constructor)) static void run(void) {{ fopen("{told}", "w"); }}\n'
         subprocess.run(["cc", "-shared", "-fPIC", "-x", "c", "-o", planted, "-"], check=True, input=code, text=True)
-        with open(settings, "w", encoding="ascii") as file:
-            file.write(f"openssl_conf = a\n[a]\nproviders = b\n[b]\nc = d\ndefault = e\n[d]\nmodule = {planted}\n"
-                       "activate = 1\n[e]\nactivate = 1\n")
+        write(settings, f"openssl_conf = a\n[a]\nproviders = b\n[b]\nc = d\ndefault = e\n[d]\nmodule = {planted}\n"
+              "activate = 1\n[e]\nactivate = 1\n")
         begun = subprocess.run([f"{FOLDER}/bin/keyretain-secrets", "--version"], capture_output=True, check=False,
                                env={**os.environ, "OPENSSL_CONF": settings}, timeout=PATIENCE)
         compare("no code that variables of OpenSSL's name is run", (0, False), (begun.returncode, os.path.exists(told)))

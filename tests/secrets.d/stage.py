@@ -7,7 +7,7 @@ import tempfile
 from contextlib import contextmanager
 
 sys.path.insert(0, os.path.join(os.path.dirname(os.path.abspath(__file__)), "../credentials.d"))
-from helpers import FOLDER, PATIENCE, compare, conclude, daemon, looking, outcome, run, until  # noqa: E402,F401
+from helpers import FOLDER, PATIENCE, compare, conclude, daemon, looking, outcome, run, until, write  # noqa: E402,F401
 from jeepney import DBusAddress, MessageType, new_method_call  # noqa: E402
 from jeepney.io.blocking import open_dbus_connection  # noqa: E402
 
@@ -31,8 +31,8 @@ def bus(everybody=False, services=""):
     """A bus that the environment names. In `services` are the files of those that it starts."""
     with tempfile.TemporaryDirectory(prefix="keyretain.") as folder:
         os.chmod(folder, 0o755)
-        with open(f"{folder}/configuration", "w", encoding="utf-8") as file:
-            file.write(CONFIGURATION.format(folder, '<allow user="*"/>' if everybody else "", services or folder))
+        write(f"{folder}/configuration",
+              CONFIGURATION.format(folder, '<allow user="*"/>' if everybody else "", services or folder))
         with subprocess.Popen(["dbus-daemon", f"--config-file={folder}/configuration", "--nofork", "--print-address"],
                               stdout=subprocess.PIPE, stderr=subprocess.DEVNULL) as process:
             os.environ["DBUS_SESSION_BUS_ADDRESS"] = process.stdout.readline().decode().strip()
