@@ -1,12 +1,10 @@
 """Of the guard: daemons that are busy, gone, slow, or lie."""
-import fcntl
 import os
 import socket
 import struct
-import termios
 import time
 
-from daemons import PATIENCE, listening, received
+from daemons import PATIENCE, listening, received, unread, until
 from versions import number, reply
 from stage import (
     EINVAL, EPERM, ESRCH, GID, NOBODY, UID, WHO, Running, asked, check, descriptors, hello, read_key, ticks)
@@ -159,10 +157,7 @@ def fill(sock, piece):
 
 def wait_for_bytes(sock, count):
     """Until so many have come, which stay unread."""
-    there, end = bytearray(4), time.monotonic() + PATIENCE
-    while struct.unpack('<I', there)[0] < count and time.monotonic() < end:
-        time.sleep(0.01)
-        fcntl.ioctl(sock, termios.FIONREAD, there)
+    until(lambda: unread(sock) >= count)
 
 
 def try_full_sides():

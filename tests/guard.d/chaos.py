@@ -10,7 +10,7 @@ import struct
 import sys
 import time
 
-from daemons import become, connect, received
+from daemons import become, connect, received, until
 from versions import frame, hello
 
 pid, path, seconds, seed = int(sys.argv[1]), sys.argv[2], float(sys.argv[3]), int(sys.argv[4])
@@ -153,10 +153,7 @@ while time.monotonic() < finish:
             clients.remove(client)
 for client in clients:
     client.sock.close()
-finish = time.monotonic() + 60
-while descriptors() > before and time.monotonic() < finish:
-    time.sleep(0.05)
-assert descriptors() <= before, (descriptors(), before)
+assert until(lambda: descriptors() <= before), (descriptors(), before)
 sock = makers[4001].make()
 sock.settimeout(60)
 sock.sendall(hello(4002, 1) + hello(4001, 4001))

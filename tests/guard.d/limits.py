@@ -1,15 +1,13 @@
 """Of the guard: places: how many a user has, who is ended, and that none is lost."""
-import fcntl
 import os
 import random
 import re
 import resource
 import select
 import signal
-import termios
 import time
 
-from daemons import PATIENCE
+from daemons import PATIENCE, unread
 from stage import (
     EDQUOT, EPERM, GID, GROUP_A, HELLO, IS_SANITIZED, NOBODY, ROOT, UID, USER_A, USER_B, WHO, Running, add, alive, ask,
     check, check_soon, connect_as, descriptors, hello, is_alive, read_key, skipped, ticks, wait_for_replies)
@@ -72,13 +70,12 @@ def try_too_many():
 
 def try_untaken():
     """What a client doesn't take, which counts as the guard's memory: of all places no more than its unit allows."""
-    run, there = Running(), bytearray(4)
+    run = Running()
     client = run.one(*WHO)
     context = client.context(UID, GID)
     client.send(read_key(context, client.serial(add(context, b'name', b'p' * 32767))) * 20)
     wait_for_replies(client)
-    fcntl.ioctl(client.sock, termios.FIONREAD, there)
-    check('bytes that are kept', int.from_bytes(there, 'little') < 100000, True)
+    check('bytes that are kept', unread(client.sock) < 100000, True)
     if not IS_SANITIZED:  # which runs long as it is
         ended = select.poll()
         ended.register(client.sock, select.POLLRDHUP)

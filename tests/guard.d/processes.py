@@ -8,7 +8,7 @@ import struct
 import subprocess
 import time
 
-from daemons import PATIENCE, listening
+from daemons import PATIENCE, listening, until
 from stage import (
     EPERM, GID, GUARD, IS_SANITIZED, NO_FILTER, ROOT, TMP, UID, WHO, Running, add, check, connect_as, hello,
     read_key, skipped, wait_for_replies)
@@ -140,13 +140,10 @@ def try_killed():
 
 
 def refuses_passed(name, passed, **told):
-    child, end = passed_to_guard(passed, '--daemon', f'{TMP}/none', **told), time.monotonic() + PATIENCE
-    while not (ended := os.waitpid(child, os.WNOHANG))[0] and time.monotonic() < end:
-        time.sleep(0.02)
-    if not ended[0]:
+    child = passed_to_guard(passed, '--daemon', f'{TMP}/none', **told)
+    if not until(lambda: os.waitid(os.P_PID, child, os.WEXITED | os.WNOHANG | os.WNOWAIT)):
         os.kill(child, signal.SIGKILL)
-        ended = os.waitpid(child, 0)
-    check(f'passed: {name}', os.waitstatus_to_exitcode(ended[1]), 3)
+    check(f'passed: {name}', os.waitstatus_to_exitcode(os.waitpid(child, 0)[1]), 3)
 
 
 def try_passed_nonsense():

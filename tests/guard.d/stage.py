@@ -1,5 +1,4 @@
 """The guard that is tried with a daemon behind it, clients of any user, and their frames, for the parts of guard.py."""
-import fcntl
 import os
 import re
 import select
@@ -9,7 +8,6 @@ import struct
 import subprocess
 import sys
 import tempfile
-import termios
 import time
 
 from compare import compare, conclude, skipped  # noqa: F401 # for who imports this
@@ -246,8 +244,8 @@ def ticks(run):
 
 def wait_for_replies(client):
     """Until no more come, since they aren't read."""
-    there, before, end = bytearray(4), None, time.monotonic() + PATIENCE
-    while (there != before or not any(there)) and time.monotonic() < end:
-        before = bytes(there)
+    there, before, end = 0, None, time.monotonic() + PATIENCE
+    while (there != before or not there) and time.monotonic() < end:
+        before = there
         time.sleep(0.1)
-        fcntl.ioctl(client.sock, termios.FIONREAD, there)
+        there = daemons.unread(client.sock)

@@ -6,6 +6,7 @@ import shutil
 import signal
 import socket
 import subprocess
+import sys
 import tempfile
 import termios
 import time
@@ -111,13 +112,18 @@ def connect(path):
     return end
 
 
+def unread(end, of=termios.FIONREAD):
+    """How many bytes have come and aren't read; of TIOCOUTQ, how many that were sent the other end hasn't read."""
+    count = bytearray(4)
+    fcntl.ioctl(end, of, count)
+    return int.from_bytes(count, sys.byteorder)
+
+
 def wait_until_read(end):
     """Until the other end has read all that was sent, as long as patience lasts."""
-    waiting, until_then = bytearray(4), time.monotonic() + PATIENCE
-    while time.monotonic() < until_then:
-        fcntl.ioctl(end, termios.TIOCOUTQ, waiting)
-        if waiting == b"\0\0\0\0":
-            break
+    until_then = time.monotonic() + PATIENCE
+    while time.monotonic() < until_then and unread(end, termios.TIOCOUTQ):
+        pass
 
 
 def listening(path, backlog=8, kind=socket.SOCK_STREAM):
