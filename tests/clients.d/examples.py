@@ -9,16 +9,10 @@ import sys
 import tempfile
 import textwrap
 
-from compare import compare, conclude, write
+from compare import TOP, compare, conclude, text_of, write
 import keyretain
 
 path, built = sys.argv[1:]
-TOP = os.path.join(os.path.dirname(os.path.abspath(__file__)), "../..")
-
-
-def text_of(name):
-    with open(os.path.join(TOP, name), encoding="utf-8") as file:
-        return file.read()
 
 
 def blocks(name, pattern):
@@ -33,8 +27,7 @@ def programs():
 
 def run(words, session="", libraries=built):
     environment = {**os.environ, "KEYRETAIN_SOCKET": path, "LD_LIBRARY_PATH": libraries, "KEYRETAIN_SESSION": session,
-                   "PATH": f"{built}:{os.environ['PATH']}",
-                   "PYTHONPATH": os.path.join(TOP, "clients/python")}
+                   "PATH": f"{built}:{os.environ['PATH']}", "PYTHONPATH": f"{TOP}/clients/python"}
     ended = subprocess.run(words, env=environment, stdout=subprocess.PIPE, stderr=subprocess.STDOUT, timeout=60,
                            text=True, check=False)
     return ended.returncode, ended.stdout
@@ -74,8 +67,7 @@ with tempfile.TemporaryDirectory(prefix="keyretain.") as folder:
     for where, text in programs():
         source, program = folder + "/example.c", folder + "/example"
         write(source, text)
-        compiled = subprocess.run(["cc", "-Wall", "-Wextra", "-Werror", "-I", os.path.join(TOP, "clients/c"), source,
-                                   "-o", program,
+        compiled = subprocess.run(["cc", "-Wall", "-Wextra", "-Werror", "-I", f"{TOP}/clients/c", source, "-o", program,
                                    "-L", built, "-lkeyretain"], capture_output=True, text=True, check=False)
         compare(f"{where}: its program is compiled", (0, ""), (compiled.returncode, compiled.stderr))
         if compiled.returncode == 0:

@@ -41,6 +41,12 @@ def outcome(run, *words, **named):
         return type(error).__name__
 
 
+def text_of(path):
+    """A file of this project."""
+    with open(f"{TOP}/{path}", encoding="utf-8") as file:
+        return file.read()
+
+
 def write(path, text, mode=0o644):
     """Writes a file, and the folders to it."""
     os.makedirs(os.path.dirname(path), exist_ok=True)

@@ -2,11 +2,10 @@
 answers and marks of the asks (krs_types), which of them look at the context (krs_model), words of the commands
 (krs_commands), numbers of the errors (krs_types). What no proof reaches is compared with these."""
 import glob
-import os
 import re
 from typing import NamedTuple
 
-TOP = os.path.join(os.path.dirname(os.path.abspath(__file__)), "../..")
+from compare import TOP, text_of
 
 
 class Ask(NamedTuple):
@@ -34,11 +33,6 @@ class Command(NamedTuple):
 def sources():
     """The files of Rattle, by their paths."""
     return sorted(glob.glob("crates/*/src/**/*.rt", root_dir=TOP, recursive=True))
-
-
-def text_of(path):
-    with open(os.path.join(TOP, path), encoding="utf-8") as file:
-        return file.read()
 
 
 def equations(text, function):
