@@ -41,9 +41,9 @@ def outcome(run, *words, **named):
         return type(error).__name__
 
 
-def text_of(path):
+def text_of(path, errors="strict"):
     """A file of this project."""
-    with open(f"{TOP}/{path}", encoding="utf-8") as file:
+    with open(f"{TOP}/{path}", encoding="utf-8", errors=errors) as file:
         return file.read()
 
 
