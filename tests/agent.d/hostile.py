@@ -1,4 +1,5 @@
 """hostile.py SOCKET SEED: runtimes that send what no runtime does. The agent ends each connection, and soon."""
+import contextlib
 import os
 import random
 import socket
@@ -19,13 +20,11 @@ def connect(path):
 
 
 def send(client, data, descriptors=()):
-    try:
+    with contextlib.suppress(OSError):  # the agent has had enough
         if descriptors:
             socket.send_fds(client, [data[:1]], descriptors)
             data = data[1:]
         client.sendall(data)
-    except OSError:
-        pass  # the agent has had enough
 
 
 def has_ended(client):
@@ -97,11 +96,9 @@ def drips(path):
 def descriptors_in_pieces(path, null):
     """Descriptors with each byte: too many in all."""
     client = connect(path)
-    try:
+    with contextlib.suppress(OSError):
         for byte in GOOD:
             socket.send_fds(client, [bytes([byte])], [null] * 3)
-    except OSError:
-        pass
     compare('descriptors with each byte', True, has_ended(client))
 
 

@@ -1,5 +1,6 @@
 """streams.py: what the Python client leaves on its connection when a call ends early, forks, waits or is told
 nonsense."""
+import contextlib
 import ctypes
 import importlib
 import os
@@ -436,11 +437,9 @@ def sockets():
     """The descriptors that are sockets."""
     found = set()
     for number in range(256):
-        try:
+        with contextlib.suppress(OSError):
             if stat.S_ISSOCK(os.fstat(number).st_mode):
                 found.add(number)
-        except OSError:
-            pass
     return found
 
 

@@ -9,7 +9,7 @@ import struct
 import subprocess
 import sys
 import tempfile
-from contextlib import contextmanager
+from contextlib import contextmanager, suppress
 
 import daemons
 import servers
@@ -307,12 +307,10 @@ print(client.enter_session(1))"""
 def python_for(uid):
     """A Python that this user may execute, or None."""
     for python in (sys.executable, "/usr/bin/python3"):
-        try:
+        with suppress(OSError, subprocess.CalledProcessError):
             subprocess.run([python, "-c", "1"], user=uid, group=uid, extra_groups=[], stdout=subprocess.DEVNULL,
                            stderr=subprocess.DEVNULL, check=True)
             return os.path.realpath(python)
-        except (OSError, subprocess.CalledProcessError):
-            pass
     return None
 
 

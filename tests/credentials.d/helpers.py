@@ -5,7 +5,7 @@ lies in PACKAGE. KEYRETAIND is the daemon."""
 import os
 import subprocess
 import tempfile
-from contextlib import contextmanager
+from contextlib import contextmanager, suppress
 
 from compare import compare, conclude, outcome, write  # noqa: F401 # for who imports this
 from daemons import PATIENCE, Daemon, until
@@ -67,10 +67,8 @@ def looking(ring):
                 return {}
             kept = {}
             for serial in client.read_ring(context, found):
-                try:
+                with suppress(keyretain.Refused):
                     kept[client.describe(context, serial).split(b";", 4)[4].decode()] = client.read(context, serial)
-                except keyretain.Refused:
-                    pass
             return kept
 
         yield look

@@ -1,4 +1,5 @@
 """Of the guard: daemons that are busy, gone, slow, or lie."""
+import contextlib
 import os
 import socket
 import struct
@@ -135,10 +136,8 @@ def try_sent_ahead():
     end.sendall(REFUSED + ACCEPTED)
     check('their replies', (client.reply()[0], client.reply()[0]), (EPERM, 0))
     end.settimeout(0.2)
-    try:
+    with contextlib.suppress(TimeoutError):
         check('nothing twice', end.recv(1), 'nothing')
-    except TimeoutError:
-        pass
 
 
 def fill(sock, piece):

@@ -1,4 +1,5 @@
 """Of the guard: places: how many a user has, who is ended, and that none is lost."""
+import contextlib
 import os
 import random
 import re
@@ -161,12 +162,10 @@ def try_sigterm_when_busy():
             context = client.context(UID, GID)
             serial = client.serial(add(context, b'k%d' % n, b'z' * 30000))
             client.sock.setblocking(False)
-            try:
+            with contextlib.suppress(BlockingIOError):
                 while n % 3 == 2:
                     client.sock.send(read_key(context, serial) * 100)
                 client.sock.send(read_key(context, serial))
-            except BlockingIOError:
-                pass
     check('SIGTERM', run.end(), 0)
     check('the path is gone', os.path.exists(run.public), False)
     for client in made:
@@ -190,10 +189,8 @@ def try_limit_of_all():
     root = run.one()
     root.send(hello(0, 0))
     root.sock.settimeout(0.5)
-    try:
+    with contextlib.suppress(TimeoutError):
         check('root waits too', root.reply(), 'nothing')
-    except TimeoutError:
-        pass
     check('waiting costs nothing', ticks(run) - cpu <= 2, True)
     check("the daemon's own socket", connect_as(run.private)[0].status(hello(1, 1)), 0)
     for client in made:

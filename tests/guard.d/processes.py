@@ -1,4 +1,5 @@
 """Of the guard: the guard as a process: its paths, words and sockets, its filter, and its memory."""
+import contextlib
 import os
 import re
 import resource
@@ -165,10 +166,8 @@ def count_in_memory(pid, text):
         if 'r' in rights and '[v' not in line:
             with open(f'/proc/{pid}/mem', 'rb', 0) as memory:
                 memory.seek(low)
-                try:
+                with contextlib.suppress(OSError):
                     found += memory.read(high - low).count(text)
-                except OSError:
-                    pass
     return found
 
 

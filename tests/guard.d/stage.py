@@ -1,4 +1,5 @@
 """The guard that is tried with a daemon behind it, clients of any user, and their frames, for the parts of guard.py."""
+import contextlib
 import os
 import re
 import select
@@ -61,10 +62,8 @@ class Client:
         sock.settimeout(PATIENCE)
 
     def send(self, *frames):
-        try:
+        with contextlib.suppress(BrokenPipeError, ConnectionResetError):  # what was answered before can still be read
             self.sock.sendall(b''.join(frames))
-        except (BrokenPipeError, ConnectionResetError):
-            pass                                    # what was answered before can still be read
 
     def send_apart(self, stream):
         """Sends each byte once the one before it has been read."""

@@ -59,17 +59,13 @@ def exchange(client, chance, stream, tags):
     client.sock.setblocking(False)
     while len(got) < len(tags):
         select.select([client.sock], [client.sock] if at < len(stream) else [], [], PATIENCE)
-        try:
+        with contextlib.suppress(BlockingIOError):
             at += client.sock.send(stream[at:at + chance.choice([1, 2, 3, 7, 20, 500, 5000])])
-        except BlockingIOError:
-            pass
-        try:
+        with contextlib.suppress(BlockingIOError):
             piece = client.sock.recv(chance.choice([1, 5, 100, 65536]))
             if not piece:
                 break
             client.have += piece
-        except BlockingIOError:
-            pass
         while len(client.have) >= 4 and len(client.have) >= 4 + struct.unpack('<I', client.have[:4])[0]:
             reply = client.reply(tags[len(got)] is not None)
             got.append(reply if len(reply) == 3 else (reply[0], None, reply[1]))
@@ -323,11 +319,9 @@ def try_never_reads():
         serial = client.serial(add(context, b'k', b'z' * 30000))
         client.sock.setblocking(False)
         sent = 0
-        try:
+        with contextlib.suppress(BlockingIOError):
             while sent < 4 << 20:
                 sent += client.sock.send(read_key(context, serial) * 100)
-        except BlockingIOError:
-            pass
         stuck.append(client)
     time.sleep(0.5)
     check('what never reads is held back', sent < 4 << 20, True)

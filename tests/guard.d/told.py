@@ -1,4 +1,5 @@
 """Of the guard: what is told on standard error, and where that is full, closed or gone."""
+import contextlib
 import os
 import re
 import socket
@@ -14,11 +15,9 @@ def try_full_log():
     """Refusals are told to a pipe that nobody reads and that is full."""
     reader, writer = os.pipe()
     os.set_blocking(writer, False)
-    try:
+    with contextlib.suppress(BlockingIOError):
         while os.write(writer, b'x' * 4096):
             pass
-    except BlockingIOError:
-        pass
     os.set_blocking(writer, True)
     run = Running()
     run.guard.kill()

@@ -4,7 +4,7 @@ import socket
 import struct
 import tempfile
 import threading
-from contextlib import contextmanager
+from contextlib import contextmanager, suppress
 
 from compare import compare, conclude, outcome  # noqa: F401 # for who imports this
 import keyretain
@@ -50,11 +50,8 @@ def answer_all(end):
 def served(serve=answer_all, backlog=8):
     """A path where each connection is served by `serve(end)`, in a thread of its own."""
     def run(end):
-        try:
-            with end:
-                serve(end)
-        except OSError:
-            pass
+        with suppress(OSError), end:
+            serve(end)
 
     def accept():
         while True:

@@ -1,5 +1,6 @@
 """attacks.py PATH CASE NUMBER: clients that mean a daemon harm, or want much of it. Each case prints how many answers
 were just what docs/FORMAT.md says, and what the first other one was. No other client may be there meanwhile."""
+import contextlib
 import itertools
 import random
 import select
@@ -31,11 +32,9 @@ def connect():
 def rest(end):
     """All that comes until the daemon ends the connection. It may do so with bytes of ours that it has not read."""
     got = b""
-    try:
+    with contextlib.suppress(ConnectionResetError):
         while piece := end.recv(1 << 20):
             got += piece
-    except ConnectionResetError:
-        pass
     return got
 
 
@@ -184,10 +183,8 @@ def noise():
     for i, piece in enumerate([*pieces, b"".join(pieces)]):
         assert not 8 <= int.from_bytes(piece[:4], "little") <= 65536
         with connect() as end:
-            try:
+            with contextlib.suppress(BrokenPipeError, ConnectionResetError):
                 end.sendall(HELLO + piece)
-            except (BrokenPipeError, ConnectionResetError):
-                pass
             answers.see(accepted(context + i), rest(end), f"piece {i}")
 
 

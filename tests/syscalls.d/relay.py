@@ -1,5 +1,6 @@
 """relay.py PATH DAEMON [NAME UID]: passes on what comes at PATH to a daemon, and its replies, as a guard does. Another
 user has made a keyring of that name, and opens it as the name is told again. That ask is passed on late."""
+import contextlib
 import os
 import socket
 import sys
@@ -20,18 +21,14 @@ def hold(asks):
 
 
 def pass_on(source, sink, is_asking):
-    try:
+    with contextlib.suppress(OSError):
         while data := source.recv(65536):
             if is_asking and NAME:
                 hold(data)
             sink.sendall(data)
-    except OSError:
-        pass
     for end in (source, sink):
-        try:
+        with contextlib.suppress(OSError):
             end.shutdown(socket.SHUT_RDWR)
-        except OSError:
-            pass
 
 
 def main(path, daemon):
