@@ -6,7 +6,7 @@ import subprocess
 import sys
 import tempfile
 
-from servers import compare, conclude
+from compare import compare, conclude, skipped
 import keyretain
 
 SOURCE = os.path.join(os.path.dirname(__file__), "../../clients/python")
@@ -57,8 +57,7 @@ def try_pip(folder):
     """On a copy, as setuptools writes into the source."""
     python, source, target = python_with_pip(), folder + "/source", folder + "/target"
     if not python:
-        print("skipped: the package by pip: no pip, setuptools or wheel")
-        return
+        return skipped("the package by pip: no pip, setuptools or wheel")
     shutil.copytree(SOURCE, source, ignore=shutil.ignore_patterns("__pycache__", "build", "*.egg-info"))
     ended = run(python, "-m", "pip", "install", "--no-build-isolation", "--no-index", "--no-deps", "--quiet",
                 "--disable-pip-version-check", "--no-compile", "--target", target, source,
@@ -71,8 +70,7 @@ def try_pip(folder):
 
 def try_make(folder):
     if not shutil.which("make"):
-        print("skipped: the package by make install: no make")
-        return
+        return skipped("the package by make install: no make")
     words = ["make", "-s", "-C", SOURCE, f"DESTDIR={folder}/root", "PREFIX=/usr/local", f"PYTHON={sys.executable}"]
     told = run(*words, "install")
     compare("make install", 0, told.returncode)

@@ -3,7 +3,7 @@ import os
 import subprocess
 import sys
 
-from compare import compare, conclude
+from compare import compare, conclude, skipped
 import keyretain
 from keyretain import SESSION
 
@@ -69,8 +69,7 @@ def try_sessions(path):
 def try_effective(path):
     """A program of root's that is another user for now enters that user's sessions."""
     if OWN != 0:
-        print("skipped: a session of another user's, whom root is for now: not root")
-        return
+        return skipped("a session of another user's, whom root is for now: not root")
     with keyretain.Client(path, timeout=20) as holder, keyretain.Client(path, timeout=20) as client:
         _, text = make(holder, holder.hello(OTHER, OTHER), "effective")
         os.seteuid(OTHER)
@@ -82,8 +81,7 @@ def try_effective(path):
 def try_groups(path):
     """The command has a context also where it has more groups than the daemon takes."""
     if OWN != 0:
-        print("skipped: the command with many groups: not root")
-        return
+        return skipped("the command with many groups: not root")
     environment = {**os.environ, "KEYRETAIN_SOCKET": path, "PYTHONPATH": sys.path[0]}
     with subprocess.Popen([sys.executable, "-B", "-m", "keyretain", "@u"], env=environment, stdout=subprocess.PIPE,
                           extra_groups=range(5000, 5040)) as command:

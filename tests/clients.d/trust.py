@@ -13,7 +13,7 @@ from contextlib import contextmanager, suppress
 
 import daemons
 import servers
-from servers import compare, in_child, keyretain, outcome, told_by
+from servers import compare, in_child, keyretain, outcome, skipped, told_by
 
 OWN, DAEMON, OTHER = os.geteuid(), 65533, 65534  # uids
 CLONE_NEWUSER = 0x10000000  # unshare(2)
@@ -334,8 +334,7 @@ def try_capabilities():
         python = python_for(OTHER)
         copy = with_capability(python, folder) if python else None
         if not copy:
-            print("skipped: a program with capabilities: no Python that another user may execute, or no such files")
-            return
+            return skipped("a program with capabilities: no Python that another user may execute, or no such files")
         package = shutil.copytree(os.path.dirname(keyretain.__file__), folder + "/package/keyretain")
         environment = {"KEYRETAIN_SOCKET": "/another", "PYTHONHOME": os.path.dirname(os.path.dirname(python))}
         told = subprocess.run([copy, "-B", "-c", words, os.path.dirname(package)], user=OTHER, group=OTHER,

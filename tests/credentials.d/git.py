@@ -6,8 +6,8 @@ import subprocess
 import tempfile
 import time
 
-from helpers import (FOLDER, compare, conclude, daemon, helper, is_one_line, keepers, keyretain, looking, run, until,
-                     write)
+from helpers import (FOLDER, compare, conclude, daemon, helper, is_one_line, keepers, keyretain, looking, run,
+                     skipped, until, write)
 
 PROGRAM = "git-credential-keyretain"
 
@@ -290,8 +290,7 @@ def try_keeper():
 def try_groups():
     """A user in more groups than the daemon takes."""
     if os.geteuid() != 0:
-        print("skipped: a user in many groups: not root")
-        return
+        return skipped("a user in many groups: not root")
     with daemon():
         compare("40 groups", (0, b"", b""),
                 run(helper("git", "get"), lines("protocol=https host=a"), extra_groups=range(5000, 5040)))
@@ -300,8 +299,7 @@ def try_groups():
 def try_other_user():
     """Another user of the daemon has a session by whose name a keeper would know another one."""
     if os.geteuid() != 0:
-        print("skipped: a session of another user's, of a keeper's name: not root")
-        return
+        return skipped("a session of another user's, of a keeper's name: not root")
     with daemon(), keyretain.Client() as client:
         context = client.hello(54321, 54321)
         client.setperm(context, client.join(context, "keyretain-keeper:git-credentials"), 0x3F3F3F3F)

@@ -9,7 +9,7 @@ import threading
 from contextlib import contextmanager
 from http.server import BaseHTTPRequestHandler, ThreadingHTTPServer
 
-from helpers import FOLDER, compare, conclude, daemon, keepers, run, until, write
+from helpers import FOLDER, compare, conclude, daemon, keepers, run, skipped, until, write
 
 USER, PASSWORD = "alice", "s3 \u20ac:"
 HELPER = ("-c", "credential.helper=", "-c", "credential.helper=keyretain --timeout 1000")
@@ -63,8 +63,7 @@ def try_timeouts():
         compare("it expires", True, until(lambda: credential("fill", *place) == 128))
         compare("and the keeper ends", True, until(lambda: not keepers()))
         if VERSION < (2, 40):
-            print("skipped: password_expiry_utc by git: it comes with 2.40, and this is %d.%d" % VERSION)
-            return
+            return skipped("password_expiry_utc by git: it comes with 2.40, and this is %d.%d" % VERSION)
         given = (*place, "username=u", "password=p", "password_expiry_utc=99999999999", "oauth_refresh_token=r")
         credential("approve", *given)
         compare("what came with a password", set(given), credential("fill", *place))
