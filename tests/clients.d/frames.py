@@ -179,9 +179,8 @@ def give_up(client, run, *words):
 def try_python_late():
     """Calls of the Python client that are out of patience, and an ask between others that were sent ahead."""
     with client_of(answering(late(), [])) as client:
-        answers = [give_up(client, client.revoke, 1, 5), give_up(client, client.revoke, 1, 6),
-                   client.read(1, 7), client.describe(1, 8), give_up(client, client.revoke, 1, 5),
-                   client.get_id(1, 9)]
+        answers = [give_up(client, client.revoke, 1, 5), give_up(client, client.revoke, 1, 6), client.read(1, 7),
+                   client.describe(1, 8), give_up(client, client.revoke, 1, 5), client.get_id(1, 9)]
         for name, values in (("READ", [7]), ("THREAD", [])):
             client.send(name, 1, *values)
         answers += [client.describe(1, 8), client.receive(), client.receive(), client.read(1, 7)]
@@ -199,7 +198,6 @@ def try_python_first():
 
 
 for case in (try_python, try_python_serials, try_python_late, try_python_first, try_all, try_late, try_first,
-             try_restarted, try_child,
-             try_statuses, try_broken):
+             try_restarted, try_child, try_statuses, try_broken):
     case()
 conclude()

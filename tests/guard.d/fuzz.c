@@ -134,8 +134,7 @@ static size_t make_replies(uint8_t *replies, size_t asks, const uint8_t *is_void
 
 /* Those come through in pieces, with EPERM where a HELLO was made void and nowhere else. */
 static void check_replies(struct screen *screen, const uint8_t *replies, size_t made, size_t asks,
-                          const uint8_t *is_void,
-                          const uint8_t *cuts, size_t cut_count) {
+                          const uint8_t *is_void, const uint8_t *cuts, size_t cut_count) {
     static uint8_t told[REPLIES_MAX];
     uint8_t buffer[64];
     size_t at = 0, cut = 0, held = 0, out = 0;

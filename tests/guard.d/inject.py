@@ -22,8 +22,7 @@ FAULTS = [*(f"accept4:error={error}:when=1..3" for error in ("EAGAIN", "ENOMEM",
           "connect:error=EAGAIN:when=1..3", "connect:error=ENOMEM:when=1..2",
           *(f"recvfrom:error={error}:when=2+3" for error in ("EINTR", "EAGAIN", "ENOBUFS")),
           *(f"sendto:error={error}:when=1..3" for error in ("EAGAIN", "EINTR", "ENOBUFS")),
-          "getsockopt:error=ENOPROTOOPT:when=2..3", "poll:error=EINTR:when=1..3",
-          "fcntl:error=ENOMEM:when=1"]
+          "getsockopt:error=ENOPROTOOPT:when=2..3", "poll:error=EINTR:when=1..3", "fcntl:error=ENOMEM:when=1"]
 folder = tempfile.mkdtemp(prefix="keyretain.")
 GUARD_HERE = GUARD, "--no-filter", "--daemon", f"{folder}/private"
 

@@ -3,12 +3,10 @@
 #include "krs_screen.h"
 
 size_t __real_krs_screen_c_ask(struct screen *screen, const struct screen_peer *peer, const uint32_t *groups,
-                               size_t count,
-                               uint8_t *bytes, size_t length);
+                               size_t count, uint8_t *bytes, size_t length);
 size_t __real_krs_screen_c_reply(struct screen *screen, uint8_t *bytes, size_t length);
 size_t __wrap_krs_screen_c_ask(struct screen *screen, const struct screen_peer *peer, const uint32_t *groups,
-                               size_t count,
-                               uint8_t *bytes, size_t length);
+                               size_t count, uint8_t *bytes, size_t length);
 size_t __wrap_krs_screen_c_reply(struct screen *screen, uint8_t *bytes, size_t length);
 
 static void change(struct screen *screen) {
@@ -17,8 +15,7 @@ static void change(struct screen *screen) {
 }
 
 size_t __wrap_krs_screen_c_ask(struct screen *screen, const struct screen_peer *peer, const uint32_t *groups,
-                               size_t count,
-                               uint8_t *bytes, size_t length) {
+                               size_t count, uint8_t *bytes, size_t length) {
     change(screen);
     return __real_krs_screen_c_ask(screen, peer, groups, count, bytes, length);
 }

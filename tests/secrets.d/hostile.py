@@ -16,8 +16,7 @@ def try_types(caller):
     for member, interface, path in (("OpenSession", None, ROOT), ("CreateItem", COLLECTION, SESSION_COLLECTION),
                                     ("GetSecret", ITEM, f"{SESSION_COLLECTION}/x"), ("Unlock", None, ROOT)):
         for signature, body in (("", ()), ("i", (1,)), ("s", (SECRET,)), ("aai", ([[1], [2]],)),
-                                ("v", (("v", ("s", SECRET)),)),
-                                ("(oayays)", (("/", b"", SECRET.encode(), "x"),))):
+                                ("v", (("v", ("s", SECRET)),)), ("(oayays)", (("/", b"", SECRET.encode(), "x"),))):
             named = {"path": path, **({"interface": interface} if interface else {})}
             compare(f"{member} of {signature!r}", "InvalidArgs", caller.call(member, signature, *body, **named))
     session = caller.open_plain()

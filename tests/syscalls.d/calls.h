@@ -15,8 +15,7 @@ static inline long request_key(const void *type, const void *description, const 
     return syscall(SYS_request_key, type, description, information, (long)ring);
 }
 
-static inline long keyctl(int command, unsigned long one, unsigned long two, unsigned long three,
-                          unsigned long four) {
+static inline long keyctl(int command, unsigned long one, unsigned long two, unsigned long three, unsigned long four) {
     return syscall(SYS_keyctl, (long)command, one, two, three, four);
 }
 
