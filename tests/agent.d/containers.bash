@@ -98,8 +98,7 @@ try_calls() {
   says 'a key in a container' 'ok secret ' calls a add k secret @s print k
   says 'its session' "keyring;$uid;$gid; _ses.a " session_of calls a
   says 'its user keyring' "keyring;$uid;$gid;1f3f0000;_uid.$uid " calls a describe @u
-  says "its user keyring isn't linked to the session" 'ok ENOKEY ' \
-    calls a add k secret @u print k
+  says "its user keyring isn't linked to the session" 'ok ENOKEY ' calls a add k secret @u print k
   says 'a session of its own' 'ok ok ENOKEY ' calls a add k secret @s join other print k
   says 'a session for its parent, which is the runtime and is not served' 'ok EPERM ' calls a join other to-parent
   says 'a child has the session' 'ok secret ' calls a add k secret @s exec "$dir/calls" print k
@@ -241,8 +240,7 @@ try_other_ids() {
   says 'another uid' 'keyring;4005;4005;1f3f0000;_uid.4005 ' calls a become 4005 describe @u
   says 'its session is none but its user-session keyring' 'keyring;4005;4005;1f3f0000;_uid_ses.4005 ' \
     calls a become 4005 describe @s
-  says "it doesn't find what root has in the container's session" 'ok ENOKEY ' \
-    calls a add k v @s become 4005 print k
+  says "it doesn't find what root has in the container's session" 'ok ENOKEY ' calls a add k v @s become 4005 print k
   says 'what it adds' 'ok v ' calls a become 4005 add k v @s print k
   says 'what executes something as another uid' 'ok v ' calls a become 4005 add k v @s exec "$dir/calls" print k
   unshare -U true 2>/dev/null || return 0

@@ -141,8 +141,7 @@ try_old_id() {
   says "one whose first process has that one's number" 'ENOKEY ' executes a print kept
   says 'one of which no process id is told' 'ENOKEY ' contain a --pid 0 -- "$dir/calls" print kept
   if unshare -U true 2>/dev/null; then
-    says 'one that has a user namespace' 'keyring;0;0;1f3f0000;_uid.0 ' \
-      contain a --uids own -- "$dir/calls" describe @u
+    says 'one that has a user namespace' 'keyring;0;0;1f3f0000;_uid.0 ' contain a --uids own -- "$dir/calls" describe @u
   fi
 }
 

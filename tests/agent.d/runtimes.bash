@@ -79,8 +79,7 @@ try_bundles() {
 podman_run() {
   timeout 120 "${first_cgroups[@]}" podman --storage-driver vfs --root "$dir/podman" --runroot "$dir/podman.run" \
     --cgroup-manager cgroupfs run --rm --cgroups=disabled --network none --ulimit nofile=1024:1024 \
-    --ulimit nproc=1000:1000 \
-    --security-opt "seccomp=$1" --rootfs "$dir/podman-root" "${@:2}" 2>&1
+    --ulimit nproc=1000:1000 --security-opt "seccomp=$1" --rootfs "$dir/podman-root" "${@:2}" 2>&1
 }
 
 try_podman() {

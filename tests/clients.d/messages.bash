@@ -88,8 +88,7 @@ try_variables() {
     exec "$0" --env TOKEN=%user:null --join -- true' "$dir/c/keyretain-session"
   # shellcheck disable=SC2016 # the command's own
   says "another user's key" 1 'planted: Required key not available' env PYTHONPATH="$top/clients/python" \
-    python3 -B "$parts/planted.py" "$path" "$dir/c/keyretain-session" -- \
-    sh -c 'keyctl link "$PLANTED" @s
+    python3 -B "$parts/planted.py" "$path" "$dir/c/keyretain-session" -- sh -c 'keyctl link "$PLANTED" @s
     exec "$0" --env TOKEN=%user:planted --join -- true' "$dir/c/keyretain-session"
   # shellcheck disable=SC2016 # the command's own
   says "another user's keyrings, nested too deeply" 0 '' env PYTHONPATH="$top/clients/python" \

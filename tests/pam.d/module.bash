@@ -400,8 +400,7 @@ try_users() {
   { [ "$(id -u)" = 0 ] && "${as[@]}" true 2>/dev/null && [ "$(id -un $nobody 2>/dev/null)" = nobody ]; } ||
     { skipped 'logins of another user: not root, or no setpriv or no user nobody'; return; }
   user=nobody
-  gives 'root lets nobody in' "open success KEYRETAIN_SOCKET=$path close success" \
-    one open show:KEYRETAIN_SOCKET close
+  gives 'root lets nobody in' "open success KEYRETAIN_SOCKET=$path close success" one open show:KEYRETAIN_SOCKET close
   try_given
   # to look for leaks it would have to trace itself, which the kernel no longer allows
   ASAN_OPTIONS=detect_leaks=0 gives 'closed as the user' 'open success close success EKEYREVOKED' \

@@ -67,8 +67,7 @@ try_causes() {
     'keyretain: --socket PATH is missing: where a daemon listens, which a single command is for' print 5 </dev/null
   tells 'a script of a uid' \
     'keyretain: --uid and --gid are for a single command: a script names its caller by hello' --uid 0 script </dev/null
-  tells 'a word that is no text' \
-    "keyretain: an argument isn't UTF-8: hex: and digits spell any bytes of a payload" \
+  tells 'a word that is no text' "keyretain: an argument isn't UTF-8: hex: and digits spell any bytes of a payload" \
     --socket "$path" add user a $'\xe9' @u </dev/null
   tells 'a call that is no command' "$(two 'no such command: frobnicate' 'keyretain --help lists the commands')" \
     --socket "$path" frobnicate 5 </dev/null
