@@ -512,7 +512,7 @@ int users_modes(const char *mode, int many, int count, char **words) {
     if (strcmp(mode, "taken") == 0 && count > 4) return take_name(words[2], (uid_t)atol(words[3]), words + 4);
     if (strcmp(mode, "mask") == 0) return print_mask();
     if (strcmp(mode, "whose") == 0) return print_whose();
-    if (strcmp(mode, "whose-joined") == 0) return join(NULL) < 0 ? 2 : print_whose();
+    if (strcmp(mode, "whose-joined") == 0) return join(count > 2 ? words[2] : NULL) < 0 ? 2 : print_whose();
     if (strcmp(mode, "joins-late") == 0 && count == 3) return join_too_late(words[2]);
     if (strcmp(mode, "joining") == 0 && count > 2) return execute_in_session(words + 2);
     return -1;

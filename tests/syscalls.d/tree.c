@@ -13,7 +13,7 @@ int main(int count, char **words) {
     for (size_t i = 0; i < sizeof of_any_number / sizeof *of_any_number; i++)
         if (strcmp(mode, of_any_number[i]) == 0) is_any = true;
     if (!is_any) return 2;
-    if (strcmp(mode, "sleep") == 0) return pause();
+    if (strcmp(mode, "sleep") == 0) return count > 2 && ring_of(KEY_SPEC_PROCESS_KEYRING, 1) < 0 ? 2 : pause();
     if (strcmp(mode, "session") == 0) return printf("%ld\n", ring_of(KEY_SPEC_SESSION_KEYRING, 0)) < 0;
     for (size_t i = 0; i < sizeof parts / sizeof *parts && status < 0; i++) status = parts[i](mode, many, count, words);
     return status < 0 ? 2 : status;

@@ -94,8 +94,10 @@ try_deputies() {
     prints "who has joined a session, and has another real uid: $how" EACCES "$dir/tree" leaves-joined "$how"
   done
   install -m 4755 "$dir/tree" "$dir/tree-set-uid"
-  prints 'a session that a set-uid program begins, which nobody finds by a name' '_ses 4105' \
-    setpriv --reuid 4105 --regid 4105 --clear-groups "$dir/tree-set-uid" whose-joined
+  for how in '' work; do
+    prints "a session that a set-uid program begins, which nobody finds by a name${how:+, though it wants one}" \
+      '_ses 4105' setpriv --reuid 4105 --regid 4105 --clear-groups "$dir/tree-set-uid" whose-joined ${how:+"$how"}
+  done
   prints 'a set-uid program of a user below a session of root' "$wanted" "$dir/tree" deputy "$dir/tree-set-uid"
   prints 'a set-uid program of a user that has joined a session' "EKEYREVOKED, then its user's" "$dir/tree" \
     joined-deputy "$dir/tree-set-uid"
@@ -144,7 +146,7 @@ try_set_uid_session() {
   for who in real effective; do
     [ "$who" = real ] && wanted='_ses 4105' || wanted='_uid_ses.0 0'
     is "a session that a set-uid program begins: who is its $who user is in" "$wanted" \
-      "$(in_session_of_set_uid as "$who" "$dir/tree" whose | sed 's/_ses[.][0-9a-f]\{32\}/_ses/')"
+      "$(in_session_of_set_uid as "$who" "$dir/tree" whose)"
   done
   is 'a session that a set-uid program begins: who has a copied tag of its command' 'kept out' \
     "$(in_session_of_set_uid first)"
