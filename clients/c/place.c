@@ -2,7 +2,9 @@
  * change between two looks: so they only say where to connect. Who listens is asked of the kernel, after connect(2). */
 #include "connection.h"
 
+#include <linux/magic.h>
 #include <sys/auxv.h>
+#include <sys/vfs.h>
 
 #define SYSTEM_FOLDER "/run/keyretain"
 #define SOCKET_NAME "/keyretain.sock"
@@ -52,17 +54,28 @@ int kr_default_path(char *path, size_t room) {
 
 unsigned kr_unknown_uid(void) { return number_of_file("/proc/sys/kernel/overflowuid", "%u", OVERFLOW_ID); }
 
-/* Whether it is the number of one user: not of all who have none in a user namespace, which hasn't all uids then. */
+/* Whether it is the number of one user: not of all who have none in a user namespace, which hasn't all uids then. Below
+ * another user's root directory any file may stand in place of proc(5). */
 static bool is_one_user(uid_t uid) {
+    struct statfs proc;
+    if (statfs("/proc", &proc) < 0 || proc.f_type != PROC_SUPER_MAGIC) return uid != OVERFLOW_ID;
     return uid != kr_unknown_uid() || number_of_file("/proc/self/uid_map", "%*u %*u %u", 0) == UINT32_MAX;
 }
 
-/* The system's daemon runs as who owns its folder, which only root can make there. Neither may have a number in a user
- * namespace, and then others look like it: they can't listen in that folder, but anywhere else. */
+/* Whether it is no other user's than this one's or root's, who may have no number in a user namespace. */
+static bool is_no_others(const char *folder, uid_t user) {
+    struct stat status;
+    return lstat(folder, &status) == 0 && (status.st_uid == 0 || status.st_uid == user || !is_one_user(status.st_uid));
+}
+
+/* The system's daemon runs as who owns its folder, which only root can make, unless /run or all is another user's.
+ * Neither may have a number in a user namespace, and then others look like it: they can't listen in that folder, but
+ * anywhere else. */
 bool kr_is_trusted(enum kr_place place, const char *path, uid_t user, uid_t peer) {
     struct stat status;
     if (peer == user && place != KR_SYSTEM) return true;
     if (place == KR_OWN) return false;
-    return peer == 0 || (lstat(SYSTEM_FOLDER, &status) == 0 && S_ISDIR(status.st_mode) && status.st_uid == peer &&
+    return peer == 0 || (is_no_others("/", user) && is_no_others("/run", user) && lstat(SYSTEM_FOLDER, &status) == 0 &&
+                         S_ISDIR(status.st_mode) && status.st_uid == peer &&
                          (strcmp(path, SYSTEM_FOLDER SOCKET_NAME) == 0 || is_one_user(peer)));
 }

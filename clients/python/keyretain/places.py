@@ -127,20 +127,29 @@ def place_of(path: Optional[Path], trust: Optional[str]) -> Place:
 def _is_one_user(uid: int) -> bool:
     """Whether it is the number of one user, and not of all who have none: in a user namespace that hasn't all uids."""
     try:
+        if os.statvfs("/proc").f_blocks:  # not proc(5), as below another user's root directory
+            return uid != OVERFLOW_UID
         with open("/proc/sys/kernel/overflowuid", "rb") as unknown, open("/proc/self/uid_map", "rb") as numbers:
             return uid != int(unknown.read()) or int(numbers.readline().split()[2]) == ALL_UIDS
     except (OSError, ValueError, IndexError):
         return uid != OVERFLOW_UID
 
 
+def _is_no_others(folder: str) -> bool:
+    """Whether it is no other user's than this one's or root's, who may have no number in a user namespace."""
+    owner = os.stat(folder).st_uid
+    return owner in (0, os.geteuid()) or not _is_one_user(owner)
+
+
 def is_system_daemon(uid: int, path: Path) -> bool:
-    """Root, or who owns the folder of the system's socket, which only root can make there. Neither may have a number in
-    a user namespace, and then others look like it: they can't listen in that folder, but anywhere else."""
+    """Root, or who owns the folder of the system's socket, which only root can make, unless /run or all is another
+    user's. Neither may have a number in a user namespace, and then others look like it: they can't listen in that
+    folder, but anywhere else."""
     try:
         status = os.lstat(os.path.dirname(SYSTEM_PATH))
+        is_its = _is_no_others("/") and _is_no_others("/run") and stat.S_ISDIR(status.st_mode) and status.st_uid == uid
     except OSError:
         return uid == 0
-    is_its = stat.S_ISDIR(status.st_mode) and status.st_uid == uid
     return uid == 0 or is_its and (os.fsencode(path) == os.fsencode(SYSTEM_PATH) or _is_one_user(uid))
 
 
