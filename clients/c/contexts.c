@@ -46,9 +46,9 @@ static void close_line(struct line *line) {
     free(line);
 }
 
-/* Whether a daemon answers there: an ask in no context is EINVAL. */
+/* Whether a daemon answers there: that there is no such context. */
 static bool is_answered(struct kr *connection) {
-    return kr_get_id(connection, 0, KEY_SPEC_USER_KEYRING, 0) >= 0 || (errno == EINVAL && !kr_is_broken(connection));
+    return kr_get_id(connection, 0, KEY_SPEC_USER_KEYRING, 0) < 0 && errno == ESRCH;
 }
 
 /* Another daemon has none of what there is on the other connections, and it may listen in the same process: behind a
