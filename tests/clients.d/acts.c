@@ -9,7 +9,6 @@
 #include <sys/socket.h>
 #include <sys/stat.h>
 #include <sys/syscall.h>
-#include <sys/time.h>
 #include <time.h>
 
 #include "check.h"
@@ -264,17 +263,12 @@ static void join(void) {
         join_now(words[0]);
 }
 
-static void on_alarm(int unused) { (void)unused; }
-
 /* interrupted NAME: joins a session while a signal comes each two milliseconds. */
 static void join_interrupted(void) {
-    struct sigaction action = { .sa_handler = on_alarm };
-    struct itimerval often = { .it_value.tv_usec = 2000, .it_interval.tv_usec = 2000 }, never = { 0 };
-    sigaction(SIGALRM, &action, NULL);
-    setitimer(ITIMER_REAL, &often, NULL);
+    interrupt_after(2000, 2000);
     bool is_joined = keyctl_join_session_keyring(words[0]) > 0;
     int error = errno;
-    setitimer(ITIMER_REAL, &never, NULL);
+    interrupt_after(0, 0);
     errno = error;
     printf("%s, %s\n", word_of(is_joined), waitpid(-1, NULL, WNOHANG) < 0 ? "no child" : "a child is left");
 }

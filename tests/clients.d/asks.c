@@ -4,7 +4,6 @@
  * */
 #define _GNU_SOURCE
 #include <inttypes.h>
-#include <sys/time.h>
 
 #include "check.h"
 #include "keyretain.h"
@@ -91,16 +90,11 @@ static void ask_all(void) {
     ask_what_fits_no_frame();
 }
 
-static void on_alarm(int signal) { (void)signal; }
-
 /* The server keeps the replies to the asks that revoke, and sends them before that to the next one. */
 static void ask_late(void) {
-    struct sigaction action = { .sa_handler = on_alarm };
-    struct itimerval soon = { .it_value.tv_usec = 50000 };
-    sigaction(SIGALRM, &action, NULL);
     say("hello", kr_hello(connection, 1, 1, 0, NULL));
     kr_set_interruptible(connection, 1);
-    setitimer(ITIMER_REAL, &soon, NULL);
+    interrupt_after(50000, 0);
     say("interrupted", kr_revoke(connection, 1, 5));
     say("the next", kr_get_id(connection, 1, -4, 0));
     kr_set_interruptible(connection, 0);
@@ -113,11 +107,8 @@ static void ask_late(void) {
 
 /* An interrupted call that is the first. */
 static void ask_first(void) {
-    struct sigaction action = { .sa_handler = on_alarm };
-    struct itimerval soon = { .it_value.tv_usec = 50000 };
-    sigaction(SIGALRM, &action, NULL);
     kr_set_interruptible(connection, 1);
-    setitimer(ITIMER_REAL, &soon, NULL);
+    interrupt_after(50000, 0);
     say("interrupted", kr_hello(connection, 1, 1, 0, NULL));
     say("the next", kr_hello(connection, 1, 1, 0, NULL));
     say("another", kr_get_id(connection, 1, -4, 0));
@@ -125,11 +116,8 @@ static void ask_first(void) {
 
 /* A signal whose handler returns doesn't end a call unless that was asked for. */
 static void ask_restarted(void) {
-    struct sigaction action = { .sa_handler = on_alarm };
-    struct itimerval often = { .it_value.tv_usec = 20000, .it_interval.tv_usec = 20000 };
     say("hello", kr_hello(connection, 1, 1, 0, NULL));
-    sigaction(SIGALRM, &action, NULL);
-    setitimer(ITIMER_REAL, &often, NULL);
+    interrupt_after(20000, 20000);
     say("signals", kr_clear(connection, 1, 5));
 }
 

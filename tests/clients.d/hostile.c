@@ -21,8 +21,6 @@ static void on_alarm(int unused) {
     _exit(9);
 }
 
-static void on_timer(int unused) { (void)unused; }
-
 static void make_secret(uint8_t *secret) {
     for (int i = 0; i < SECRET; i++) secret[i] = (uint8_t)(i * 7 + 0x41);
 }
@@ -108,7 +106,7 @@ static const char *hello(struct kr *connection) {
 
 /* A signal each 300 milliseconds. */
 static void begin_timer(void) {
-    struct sigaction action = { .sa_handler = on_timer, .sa_flags = SA_RESTART };
+    struct sigaction action = { .sa_handler = do_nothing, .sa_flags = SA_RESTART };
     struct sigevent event = { .sigev_notify = SIGEV_SIGNAL, .sigev_signo = SIGUSR1 };
     struct itimerspec often = { .it_value.tv_nsec = 300000000, .it_interval.tv_nsec = 300000000 };
     timer_t timer;

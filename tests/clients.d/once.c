@@ -1,23 +1,13 @@
 /* once [signals]: one call, the name of its error, and how many whole seconds it took; with signals meanwhile. */
 #define _GNU_SOURCE
-#include <sys/time.h>
 #include <time.h>
 
 #include "check.h"
 #include "keyutils.h"
 
-static void on_alarm(int unused) { (void)unused; }
-
-static void begin_signals(void) {
-    struct sigaction action = { .sa_handler = on_alarm };
-    struct itimerval often = { .it_value.tv_usec = 300000, .it_interval.tv_usec = 300000 };
-    sigaction(SIGALRM, &action, NULL);
-    setitimer(ITIMER_REAL, &often, NULL);
-}
-
 int main(int count, char **words) {
     struct timespec before, after;
-    if (count == 2 && strcmp(words[1], "signals") == 0) begin_signals();
+    if (count == 2 && strcmp(words[1], "signals") == 0) interrupt_after(300000, 300000);
     clock_gettime(CLOCK_MONOTONIC, &before);
     key_serial_t ring = keyctl_get_keyring_ID(KEY_SPEC_USER_KEYRING, 0);
     int error = ring < 0 ? errno : 0;

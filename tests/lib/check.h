@@ -11,6 +11,7 @@
 #include <stdio.h>
 #include <stdlib.h>
 #include <string.h>
+#include <sys/time.h>
 #include <sys/wait.h>
 #include <unistd.h>
 
@@ -36,6 +37,16 @@ static inline void *in_thread(void *(*run)(void *), void *data) {
     void *returned = NULL;
     if (pthread_create(&thread, NULL, run, data) == 0) pthread_join(thread, &returned);
     return returned;
+}
+
+static inline void do_nothing(int unused) { (void)unused; }
+
+/* SIGALRM, whose handler returns, comes after so many microseconds, and again each `every`; no more for 0. */
+static inline void interrupt_after(int microseconds, int every) {
+    struct sigaction action = { .sa_handler = do_nothing };
+    struct itimerval times = { .it_value.tv_usec = microseconds, .it_interval.tv_usec = every };
+    sigaction(SIGALRM, &action, NULL);
+    setitimer(ITIMER_REAL, &times, NULL);
 }
 
 static inline int conclude(const char *name) {

@@ -7,7 +7,6 @@
 #include <security/pam_ext.h>
 #include <stdarg.h>
 #include <sys/stat.h>
-#include <sys/time.h>
 
 #include "check.h"
 
@@ -161,15 +160,9 @@ static void show_offspring(const char *word) {
     dprintf(OUT, "%s\n", waitpid(-1, NULL, WNOHANG | __WALL) < 0 ? "no child" : "a child");
 }
 
-static void on_interrupt(int unused) { (void)unused; }
-
 /* A signal each two milliseconds, by which calls are interrupted; or no more. */
 static void interrupt_often(const char *word) {
-    struct sigaction action = { .sa_handler = on_interrupt };
-    struct itimerval often = { .it_value.tv_usec = 2000, .it_interval.tv_usec = 2000 };
-    if (*word) often = (struct itimerval){ 0 };
-    sigaction(SIGALRM, &action, NULL);
-    setitimer(ITIMER_REAL, &often, NULL);
+    interrupt_after(*word ? 0 : 2000, *word ? 0 : 2000);
 }
 
 /* A SIGPIPE that is there already, and held back. */
