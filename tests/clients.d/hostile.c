@@ -159,24 +159,22 @@ static const char *look_for_secret(void) {
     return found ? "left" : "gone";
 }
 
-/* A reply of which a half has come, and that isn't awaited any more; the connection goes on. */
-static const char *try_half(void) {
+/* Whether a READ, of whose reply a half comes, is given up. */
+static bool reads_half(int patience) {
     char buffer[SECRET];
     mallopt(M_MMAP_THRESHOLD, 1 << 30);
-    struct kr *connection = connect_to(answer_half, 700);
+    struct kr *connection = connect_to(answer_half, patience);
     int64_t context = kr_hello(connection, 0, 0, 0, NULL);
-    if (context < 0 || kr_read(connection, (uint32_t)context, 5, buffer, sizeof buffer) >= 0) return "answered";
-    return look_for_secret();
+    return context >= 0 && kr_read(connection, (uint32_t)context, 5, buffer, sizeof buffer) < 0;
 }
+
+/* A reply of which a half has come, and that isn't awaited any more; the connection goes on. */
+static const char *try_half(void) { return reads_half(700) ? look_for_secret() : "answered"; }
 
 /* The same, where the server ends the connection, which its client keeps. */
 static const char *try_lost(void) {
-    char buffer[SECRET];
-    mallopt(M_MMAP_THRESHOLD, 1 << 30);
     then_closes = true;
-    struct kr *connection = connect_to(answer_half, 2000);
-    int64_t context = kr_hello(connection, 0, 0, 0, NULL);
-    if (context < 0 || kr_read(connection, (uint32_t)context, 5, buffer, sizeof buffer) >= 0) return "answered";
+    if (!reads_half(2000)) return "answered";
     return errno == ECONNRESET ? look_for_secret() : strerrorname_np(errno);
 }
 
