@@ -1,15 +1,7 @@
 # The toolchain's command `rt` is on PATH; TOOLCHAIN has its logic. README.md says what else is needed.
 
-PREFIX = /usr/local
-DESTDIR =
-BINDIR = $(PREFIX)/bin
-SBINDIR = $(PREFIX)/sbin
-MANDIR = $(PREFIX)/share/man
-UNITDIR = $(PREFIX)/lib/systemd/system
-USERUNITDIR = $(PREFIX)/lib/systemd/user
+include tools/folders.mk
 PRESETDIR = $(PREFIX)/lib/systemd
-SYSUSERSDIR = $(PREFIX)/lib/sysusers.d
-DATADIR = $(PREFIX)/share/keyretain
 COMPLETIONDIR = $(PREFIX)/share/bash-completion/completions
 ZSHDIR = $(PREFIX)/share/zsh/site-functions
 FISHDIR = $(PREFIX)/share/fish/vendor_completions.d
