@@ -20,9 +20,9 @@ INSTALLED = 'bin/keyretain:$(BINDIR)/keyretain:755' 'bin/keyretaind:$(SBINDIR)/k
   'contrib/systemd/user-quota.conf:$(DATADIR)/user-quota.conf:644' \
   $(foreach kind,system user,\
     'contrib/systemd/80-keyretain.preset:$(PRESETDIR)/$(kind)-preset/80-keyretain.preset:644') \
-  $(foreach name,keyretain keyretaind keyretain-session,\
+  $(foreach name,keyretain keyretain-session,\
     'contrib/bash-completion/$(name):$(COMPLETIONDIR)/$(name):644') \
-  $(foreach name,guard agent status,'keyretain-session:$(COMPLETIONDIR)/keyretain-$(name):link') \
+  $(foreach name,d -guard -agent -status,'keyretain-session:$(COMPLETIONDIR)/keyretain$(name):link') \
   'contrib/zsh-completion/_keyretain:$(ZSHDIR)/_keyretain:644' \
   'contrib/fish-completion/keyretain.fish:$(FISHDIR)/keyretain.fish:644' \
   $(foreach name,keyretaind keyretain-session keyretain-guard keyretain-agent keyretain-status,\
