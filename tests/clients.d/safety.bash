@@ -5,7 +5,6 @@
 
 try_hangs() {
   local name mode wanted
-  serve --lanes 32
   for name in hangs hangs-address,undefined hangs-thread; do
     [ -x "$dir/$name" ] || continue
     while read -r mode wanted; do
@@ -25,7 +24,6 @@ halves cut
 environment changed alone
 END
   done
-  kill_daemon TERM
 }
 
 try_hostile() {

@@ -216,6 +216,13 @@ start_again() {
   start_on "$path" "$@"
 }
 
+# on_daemon LANES COMMAND ..: a command while there is a daemon with so many lanes
+on_daemon() {
+  serve --lanes "$1"
+  "${@:2}"
+  kill_daemon TERM
+}
+
 # guard_before_it GUARD OPTION ..: that guard before the daemon, which listens at $public
 guard_before_it() {
   public=$dir/$runs.public

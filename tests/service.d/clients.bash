@@ -3,7 +3,6 @@
 
 # One connection keeps a uid's keys; single calls and another client of the uid reach them, other uids do not.
 try_sharing() {
-  start
   comes keeper 1
   answers keeper 'add user alpha a @u' 5
   calls 'a call to a kept key' 0 $'a\n' print 5
@@ -34,7 +33,6 @@ try_sharing() {
   calls 'a call after the last context of the uid' 1 $'error 126 ENOKEY\n' print 5
   calls 'its user keyring is empty' 0 $'\n' rlist @u
   calls 'its user keyring is a new one' 0 $'keyring;1000;1000;1f3f0000;_uid.1000\n' rdescribe @u
-  kill_daemon TERM
 }
 
 # The daemon may serve a new connection before it has seen the end of an earlier one.
@@ -120,16 +118,12 @@ try_others() {
 
 # Keyrings that are nested crosswise are walked each once, whatever the number of ways to them.
 try_crosswise() {
-  start
   is 'keyrings that are nested crosswise' walked "$(python3 -B "$top/tests/service.d/mesh.py" "$path" 2>/dev/null)"
-  kill_daemon KILL
 }
 
 # are_woken CLIENTS: each of them is answered that asked while another had the turn for long, though nobody asks then
 are_woken() {
-  start --lanes "$1"
   is "$1 clients, whose threads sleep" woken "$(python3 -B "$top/tests/service.d/wakes.py" "$path" "$1" 2>/dev/null)"
-  kill_daemon KILL
 }
 
 # keeps_all SIZE CLIENTS [ASK]: so many clients fill the memory of a daemon with payloads of so many bytes, and then

@@ -103,7 +103,6 @@ try_causes() {
 
 # What is told of a connection that was made.
 try_told_answers() {
-  start
   tells 'a remote line that is no command' "$(two 'line 2: no such command: frobnicate' \
     'keyretain --help lists the commands')" --socket "$path" script < <(printf '%s\n' 'hello 1 1' 'frobnicate 5')
   tells 'a remote line that fits no frame' "$(two 'line 2: no command here: add' "$frame")" --socket "$path" script \
@@ -128,7 +127,6 @@ try_told_answers() {
   tells 'a refusal' '' --socket "$path" --uid 1 print 99 </dev/null
   tells 'a key that a call adds' '' --socket "$path" add user a a @u </dev/null
   tells 'an accepted call' '' --socket "$path" id @u </dev/null
-  kill_daemon TERM
 }
 
 # Standard input, output and error that are closed: no socket gets their numbers.
