@@ -8,7 +8,7 @@ import time
 from daemons import PATIENCE, listening, received, unread, until
 from versions import number, reply
 from stage import (
-    EINVAL, EPERM, ESRCH, GID, NOBODY, UID, WHO, Running, asked, check, descriptors, hello, read_key, ticks)
+    EINVAL, EPERM, ESRCH, GID, NOBODY, UID, WHO, Running, asked, check, descriptors, hello, kill, read_key, ticks)
 
 
 def try_busy_daemon():
@@ -41,8 +41,7 @@ def try_daemon_gone():
     run.start_daemon()
     client = run.one(*WHO)
     check('a daemon', client.status(hello(UID, GID)), 0)
-    run.daemon.kill()
-    run.daemon.wait()
+    kill(run.daemon)
     check('the daemon is killed', client.reply(), 'end')
     os.unlink(run.private)
     run.start_daemon()
@@ -102,14 +101,14 @@ class Told(Liar):
         self.client, self.hello = self.run.one(*WHO), hello(UID, GID)
 
     def meet(self):
-        """The daemon's end, once the client has greeted and is answered."""
+        """The daemon's end and the client, once that has greeted and is answered."""
         self.client.send(self.hello)
         end, asked = self.serve()
         check('the first ask', asked, self.hello)
         end.sendall(ACCEPTED)
         check('the first reply', self.client.reply()[0], 0)
         self.client.wait_until_read()
-        return end
+        return end, self.client
 
     def end(self):
         self.listener.close()
@@ -118,8 +117,7 @@ class Told(Liar):
 
 def try_sent_ahead():
     """What a client sends while it waits for a reply goes on behind what it sent before, once, and nothing is lost."""
-    told = Told()
-    end, client = told.meet(), told.client
+    end, client = (told := Told()).meet()
     first, second, third = read_key(1, 5), read_key(2, 6, 7), hello(UID + 1, GID)
     client.send(first)
     check('one ask', received(end, len(first)), first)
@@ -162,8 +160,7 @@ def wait_for_bytes(sock, count):
 def try_full_sides():
     """While one side takes nothing, what goes to the other goes on."""
     refusal = reply(0, b'', ESRCH, 1)
-    told = Told()
-    end, client = told.meet(), told.client
+    end, client = (told := Told()).meet()
     client.send(read_key(1, 5) * 100)
     wait_for_bytes(end, 100 * len(read_key(1, 5)))
     end.sendall(refusal)  # from then on the guard reads both sides
@@ -172,8 +169,7 @@ def try_full_sides():
     end.sendall(refusal * 999)
     check('and its replies go on', [client.reply()[0] for _ in range(1000)], [ESRCH] * 1000)
     told.end()
-    told = Told()
-    end, client = told.meet(), told.client
+    end, client = (told := Told()).meet()
     client.send(read_key(1, 5) * 100)
     wait_for_bytes(end, 100 * len(read_key(1, 5)))
     long = reply(0, bytes(200000), version=1)
@@ -185,8 +181,7 @@ def try_full_sides():
 
 def try_late_reply():
     """A reply that comes before its ask is nobody's, and is not taken for that of the next."""
-    told = Told()
-    end, client = told.meet(), told.client
+    end, client = (told := Told()).meet()
     end.sendall(ACCEPTED)
     time.sleep(0.1)
     client.send(told.hello)
@@ -195,15 +190,13 @@ def try_late_reply():
 
 def try_ends():
     """Where one side ends the other sees an end, and no reset."""
-    told = Told()
-    end, client = told.meet(), told.client
+    end, client = (told := Told()).meet()
     client.send(told.hello)
     check('asked', received(end, len(told.hello)), told.hello)
     end.close()
     check('a daemon that ends', client.sock.recv(1), b'')
     told.end()
-    told = Told()
-    end, client = told.meet(), told.client
+    end, client = (told := Told()).meet()
     client.close()
     check('a client that ends', end.recv(1), b'')
     end.close()

@@ -11,7 +11,7 @@ import time
 
 from daemons import PATIENCE, listening, until
 from stage import (
-    EPERM, GID, GUARD, IS_SANITIZED, NO_FILTER, ROOT, TMP, UID, WHO, Running, add, check, connect_as, hello,
+    EPERM, GID, GUARD, IS_SANITIZED, NO_FILTER, ROOT, TMP, UID, WHO, Running, add, check, connect_as, hello, kill,
     read_key, skipped, wait_for_replies)
 
 
@@ -48,8 +48,7 @@ def try_paths():
     check('mode', oct(os.stat(run.public).st_mode & 0o777), '0o666')
     no_socket = (3, b'error: socket\n')
     check('a second one', begun('--listen', run.public, '--daemon', run.private), no_socket)
-    run.guard.kill()
-    run.guard.wait()
+    kill(run.guard)
     check('a killed one leaves its path', os.path.exists(run.public), True)
     run.start_guard()
     check('it is taken over', run.one(*WHO).status(hello(UID, GID)), 0)
@@ -67,8 +66,7 @@ def try_paths():
     open(run.public, 'w').close()
     check('a file is no stale socket', begun('--listen', run.public, '--daemon', run.private), no_socket)
     check('it is left there', os.path.exists(run.public), True)
-    words = [GUARD, '--listen', run.public, '--daemon', run.private, *NO_FILTER]
-    told = subprocess.run(words, capture_output=True, timeout=PATIENCE).stderr
+    told = subprocess.run(run.words, capture_output=True, timeout=PATIENCE).stderr
     check('what is told of it', told, f'keyretain-guard: {run.public}: Address already in use\n'.encode())
 
 

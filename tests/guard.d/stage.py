@@ -174,6 +174,7 @@ class Running:
         if daemon:
             self.start_daemon()
         self.options, self.limit = options, limit
+        self.words = [GUARD, '--listen', self.public, '--daemon', self.private, *NO_FILTER]
         self.start_guard()
 
     def start_daemon(self):
@@ -195,8 +196,7 @@ class Running:
         self.guard.send_signal(signal.SIGTERM)
         status = self.guard.wait(PATIENCE)
         if self.daemon:
-            self.daemon.kill()
-            self.daemon.wait()
+            kill(self.daemon)
         ALL.discard(self)
         errors = open(self.errors.name).read()
         if 'Sanitizer' in errors or 'runtime error' in errors:
@@ -219,6 +219,11 @@ def is_alive(client):
         return False
 
 
+def kill(process):
+    process.kill()
+    process.wait()
+
+
 def alive(clients):
     return sum(map(is_alive, clients))
 
@@ -227,8 +232,7 @@ def kill_all():
     """Ends the runs that a fault has left."""
     for run in list(ALL):
         for process in filter(None, (run.guard, run.daemon)):
-            process.kill()
-            process.wait()
+            kill(process)
     ALL.clear()
 
 

@@ -11,7 +11,7 @@ import time
 from daemons import PATIENCE
 from stage import (
     EINVAL, EPERM, ESRCH, EXEC, GID, HELLO, IS_SANITIZED, NOBODY, ROOT, UID, WHO, Running, add, ask, check,
-    check_soon, descriptors, hello, read_key, skipped, ticks, wait_for_replies)
+    check_soon, descriptors, hello, kill, read_key, skipped, ticks, wait_for_replies)
 
 
 SO_PASSRIGHTS = 83
@@ -303,8 +303,7 @@ def try_waiting():
     serial = deaf.serial(add(context, b'k', b'y' * 30000))
     deaf.send(*[read_key(context, serial)] * 100)
     wait_for_replies(deaf)
-    run.daemon.kill()
-    run.daemon.wait()
+    kill(run.daemon)
     spends_nothing('a daemon that ends before its replies are taken', run)
     check('they can be taken still', deaf.reply(), (0, b'y' * 30000))
 

@@ -7,8 +7,7 @@ import subprocess
 import time
 
 from stage import (
-    EDQUOT, EPERM, GID, GUARD, NO_FILTER, ROOT, TMP, UID, USER_A, USER_B, WHO, Running, check, check_soon, hello,
-    skipped)
+    EDQUOT, EPERM, GID, ROOT, TMP, UID, USER_A, USER_B, WHO, Running, check, check_soon, hello, kill, skipped)
 
 
 def try_full_log():
@@ -20,10 +19,8 @@ def try_full_log():
             pass
     os.set_blocking(writer, True)
     run = Running()
-    run.guard.kill()
-    run.guard.wait()
-    words = [GUARD, '--listen', run.public, '--daemon', run.private, *NO_FILTER]
-    run.guard = subprocess.Popen(words, stdout=subprocess.PIPE, stderr=writer)
+    kill(run.guard)
+    run.guard = subprocess.Popen(run.words, stdout=subprocess.PIPE, stderr=writer)
     run.guard.stdout.readline()
     client = run.one(*WHO)
     check('refused, with a log that is full', client.status(hello(UID + 1, GID)), EPERM)
@@ -105,8 +102,7 @@ def try_few_lines():
         check('refused at once', {client.reply()[0] for _ in range(60)}, {EPERM})
     told = told_by(run).splitlines()
     check('eight lines in each second at most', 8 <= len(told) <= 8 * (time.monotonic() - begun + 2), True)
-    run.daemon.kill()
-    run.daemon.wait()
+    kill(run.daemon)
     os.unlink(run.private)
     for _ in range(20):
         run.one(*WHO).status(*[hello(UID + 1, GID)] * 60)
@@ -118,13 +114,11 @@ def try_outputs():
     """Standard output and error that are files, devices, full, closed: the filter of system calls is on."""
     for name in ('/dev/null', '/dev/full', f'{TMP}/out', None):
         run = Running(daemon=False)
-        run.guard.kill()
-        run.guard.wait()
+        kill(run.guard)
         run.start_daemon()
         out = open(name, 'w') if name else None
-        words = [GUARD, '--listen', run.public, '--daemon', run.private, *NO_FILTER]
-        run.guard = subprocess.Popen(words, stdout=out, stderr=out) if name else subprocess.Popen(
-            ['sh', '-c', 'exec "$@" >&- 2>&-', 'sh', *words])
+        run.guard = subprocess.Popen(run.words, stdout=out, stderr=out) if name else subprocess.Popen(
+            ['sh', '-c', 'exec "$@" >&- 2>&-', 'sh', *run.words])
         check_soon(f'output {name}: listens', lambda: os.path.exists(run.public) and is_open(run.public), True)
         client = run.one(*WHO)
         check(f'output {name}', client.status(hello(UID + 1, GID)), EPERM)
