@@ -82,8 +82,8 @@ def tells(*words, uid=OWN, environment=None, is_apart=False, **named):
 
 
 @contextmanager
-def folders():
-    """A runtime directory, and a folder for the system's socket."""
+def folders(owner=None):
+    """A runtime directory, and a folder for the system's socket. An owner has the first, with a folder for a daemon."""
     with tempfile.TemporaryDirectory(prefix="keyretain.") as folder:
         os.chmod(folder, 0o755)
         runtime, system = folder + "/runtime", folder + "/system"
@@ -91,6 +91,10 @@ def folders():
         os.mkdir(system)
         places.SYSTEM_PATH = places.DEFAULT_PATH = system + "/keyretain.sock"
         os.environ["XDG_RUNTIME_DIR"] = runtime
+        if owner is not None:
+            os.mkdir(runtime + "/keyretain")
+            for it in (runtime, runtime + "/keyretain"):
+                os.chown(it, owner, owner)
         yield runtime, system
 
 
@@ -158,10 +162,7 @@ def try_found():
 
 def try_found_root():
     """Root at another user's own path isn't that user."""
-    with folders() as (runtime, _):
-        os.mkdir(runtime + "/keyretain")
-        for folder in (runtime, runtime + "/keyretain"):
-            os.chown(folder, OTHER, OTHER)
+    with folders(OTHER) as (runtime, _):
         with listening(runtime + "/keyretain/keyretain.sock", 0):
             compare("root listens at one's own path", "PermissionError", tells(uid=OTHER))
         with listening(runtime + "/keyretain/keyretain.sock", OTHER):
@@ -178,12 +179,9 @@ def try_effective():
         os.environ["KEYRETAIN_SOCKET"] = own
         os.write(write, str([*answers, outcome(hello, (), {})]).encode())
 
-    with folders() as (runtime, _):
+    with folders(OTHER) as (runtime, _):
         own, others = runtime + "/keyretain/keyretain.sock", os.path.dirname(runtime) + "/others.sock"
-        os.mkdir(runtime + "/keyretain")
         os.chmod(os.path.dirname(runtime), 0o777)
-        for folder in (runtime, runtime + "/keyretain"):
-            os.chown(folder, OTHER, OTHER)
         with listening(own, OTHER), listening(others, DAEMON):
             compare("root, another user for now: its path, found and named, a third one's, by the environment",
                     str([own, "told", "told", "PermissionError", "told"]), told_by(ask))
@@ -202,10 +200,7 @@ def try_another_runtime_directory():
 
 def try_closed():
     """One's own folder that can't be looked into isn't replaced by the system's daemon."""
-    with folders() as (runtime, system):
-        os.mkdir(runtime + "/keyretain")
-        for folder in (runtime, runtime + "/keyretain"):
-            os.chown(folder, OTHER, OTHER)
+    with folders(OTHER) as (runtime, system):
         os.chown(system, DAEMON, DAEMON)
         os.chmod(runtime, 0)
         with listening(system + "/keyretain.sock", DAEMON):
