@@ -7,7 +7,6 @@
 #include <sched.h>
 #include <sys/prctl.h>
 #include <sys/socket.h>
-#include <sys/stat.h>
 #include <sys/syscall.h>
 #include <time.h>
 
@@ -28,14 +27,6 @@ static const char *word_of(bool holds) { return holds ? "ok" : strerrorname_np(e
 static void wait_for_end(void) {
     char byte;
     while (read(STDIN_FILENO, &byte, 1) > 0) continue;
-}
-
-/* How many descriptors are sockets. */
-static int count_sockets(void) {
-    int sockets = 0;
-    struct stat status;
-    for (int i = 0; i < 1024; i++) sockets += fstat(i, &status) == 0 && S_ISSOCK(status.st_mode);
-    return sockets;
 }
 
 /* sockets: how many are open. */

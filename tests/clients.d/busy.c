@@ -5,14 +5,13 @@
 #include <spawn.h>
 #include <stdatomic.h>
 #include <sys/socket.h>
-#include <sys/stat.h>
 #include <time.h>
 
 #include "check.h"
 #include "keyretain.h"
 #include "keyutils.h"
 
-enum { THREADS = 32, LOOKS = 100, STALLED = 200, AGAIN = 9, SOCKETS = 64, OFTEN = 20 };
+enum { THREADS = 32, LOOKS = 100, STALLED = 200, AGAIN = 9, OFTEN = 20 };
 
 #define OURS(name) ((__typeof__(&(name)))dlsym(RTLD_NEXT, #name)) /* the function that one here stands before */
 
@@ -21,13 +20,6 @@ static char **words; /* behind the mode */
 static long ask(void) { return keyctl_get_keyring_ID(KEY_SPEC_USER_KEYRING, 0); }
 
 static const char *word_of(bool holds) { return holds ? "answered" : strerrorname_np(errno); }
-
-static int sockets(void) {
-    struct stat status;
-    int count = 0;
-    for (int i = 0; i < SOCKETS; i++) count += fstat(i, &status) == 0 && S_ISSOCK(status.st_mode);
-    return count;
-}
 
 /* ---- Turns ---- */
 
@@ -205,9 +197,9 @@ static void fall_silent(int told, int end) {
     clock_gettime(CLOCK_MONOTONIC, &now);
     stands = &now;
     while (said[0] < OFTEN && ask() > 0) said[0]++;
-    said[1] = (char)sockets();
+    said[1] = (char)count_sockets();
     pid_t child = fork();
-    if (child == 0) _exit(sockets());
+    if (child == 0) _exit(count_sockets());
     waitpid(child, &status, 0);
     said[2] = (char)WEXITSTATUS(status);
     (void)!write(told, said, sizeof said);
@@ -240,19 +232,19 @@ static void ask_beside_silent(void) {
 static void hold(void) {
     struct timespec now;
     ask();
-    printf("%d", sockets());
+    printf("%d", count_sockets());
     clock_gettime(CLOCK_MONOTONIC, &now);
     stands = &now;
     for (int i = 0; i < 200; i++) ask();
     stands = NULL;
-    printf(" %d", sockets());
+    printf(" %d", count_sockets());
     usleep(1200000);
     ask();
-    printf(" %d", sockets());
+    printf(" %d", count_sockets());
     add_key("user", "held", "s3", 2, KEY_SPEC_PROCESS_KEYRING);
     usleep(1200000);
     ask();
-    printf(" %d %s\n", sockets(), word_of(request_key("user", "held", NULL, 0) > 0));
+    printf(" %d %s\n", count_sockets(), word_of(request_key("user", "held", NULL, 0) > 0));
 }
 
 static void *keep_ring(void *barrier) {
@@ -271,11 +263,11 @@ static void hold_for_thread(void) {
     pthread_create(&thread, NULL, keep_ring, &barrier);
     pthread_barrier_wait(&barrier);
     ask();
-    printf("%d", sockets());
+    printf("%d", count_sockets());
     pthread_barrier_wait(&barrier);
     pthread_join(thread, &is_same);
     ask();
-    printf(" %d %s\n", sockets(), is_same ? "the same" : "another");
+    printf(" %d %s\n", count_sockets(), is_same ? "the same" : "another");
 }
 
 /* ---- No process can be made ---- */

@@ -1,8 +1,6 @@
 /* life: what libkeyutils.so.1 does where threads, forks, exec, closed descriptors and other identities come in. Wants a
  * daemon with some ten lanes. Run again by itself as `life after SESSION KEY`. */
 #define _GNU_SOURCE
-#include <sys/stat.h>
-
 #include "check.h"
 #include "keyutils.h"
 

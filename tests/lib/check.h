@@ -11,6 +11,7 @@
 #include <stdio.h>
 #include <stdlib.h>
 #include <string.h>
+#include <sys/stat.h>
 #include <sys/time.h>
 #include <sys/wait.h>
 #include <unistd.h>
@@ -37,6 +38,14 @@ static inline void *in_thread(void *(*run)(void *), void *data) {
     void *returned = NULL;
     if (pthread_create(&thread, NULL, run, data) == 0) pthread_join(thread, &returned);
     return returned;
+}
+
+/* How many descriptors are sockets. */
+static inline int count_sockets(void) {
+    int sockets = 0;
+    struct stat status;
+    for (int i = 0; i < 1024; i++) sockets += fstat(i, &status) == 0 && S_ISSOCK(status.st_mode);
+    return sockets;
 }
 
 static inline void do_nothing(int unused) { (void)unused; }

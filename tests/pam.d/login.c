@@ -6,7 +6,6 @@
 #include <security/pam_appl.h>
 #include <security/pam_ext.h>
 #include <stdarg.h>
-#include <sys/stat.h>
 
 #include "check.h"
 
