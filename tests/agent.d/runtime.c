@@ -16,7 +16,6 @@
 #define _GNU_SOURCE
 #include <sched.h>
 #include <sys/prctl.h>
-#include <sys/socket.h>
 #include <sys/un.h>
 
 #include "check.h"

@@ -1,14 +1,11 @@
 /* acts MODE [WORD ..]: what programs do whose descriptors, identity or session the tests look at. */
 #define _GNU_SOURCE
-#include <dlfcn.h>
 #include <grp.h>
 #include <limits.h>
 #include <linux/capability.h>
 #include <sched.h>
 #include <sys/prctl.h>
-#include <sys/socket.h>
 #include <sys/syscall.h>
-#include <time.h>
 
 #include "check.h"
 #include "keyretain.h"
@@ -16,8 +13,6 @@
 
 enum { OTHER = 65533, GROUP_MAY_READ = 0x3f3f0200, POSSESSOR_MAY_READ = 0x02000000, FILES = 300 };
 enum { HANDED_ON = 200 };
-
-#define OURS(name) ((__typeof__(&(name)))dlsym(RTLD_NEXT, #name)) /* the function that one here stands before */
 
 static char **words; /* behind the mode */
 

@@ -1,19 +1,14 @@
 /* busy MODE [WORD ..]: what libkeyutils.so.1 does with many threads and processes, and a daemon that is slow or full.
  * Prints what became of it. */
 #define _GNU_SOURCE
-#include <dlfcn.h>
 #include <spawn.h>
 #include <stdatomic.h>
-#include <sys/socket.h>
-#include <time.h>
 
 #include "check.h"
 #include "keyretain.h"
 #include "keyutils.h"
 
 enum { THREADS = 32, LOOKS = 100, STALLED = 200, AGAIN = 9, OFTEN = 20 };
-
-#define OURS(name) ((__typeof__(&(name)))dlsym(RTLD_NEXT, #name)) /* the function that one here stands before */
 
 static char **words; /* behind the mode */
 

@@ -2,7 +2,6 @@
  * became of it in one word, and `hangs` where that takes 15 seconds, or where of many calls none ends for so long. */
 #define _GNU_SOURCE
 #include <stdatomic.h>
-#include <time.h>
 
 #include "check.h"
 #include "keyutils.h"

@@ -3,9 +3,7 @@
 #define _GNU_SOURCE
 #include <malloc.h>
 #include <stdint.h>
-#include <sys/socket.h>
 #include <sys/un.h>
-#include <time.h>
 
 #include "check.h"
 #include "keyretain.h"

@@ -1,7 +1,5 @@
 /* once [signals]: one call, the name of its error, and how many whole seconds it took; with signals meanwhile. */
 #define _GNU_SOURCE
-#include <time.h>
-
 #include "check.h"
 #include "keyutils.h"
 

@@ -1,7 +1,5 @@
 /* symbols: each symbol of libkeyutils.so.1 is there under its version, and each function is called once. */
 #define _GNU_SOURCE
-#include <dlfcn.h>
-
 #include "check.h"
 #include "keyutils.h"
 

@@ -1,7 +1,5 @@
 /* tree: libkeyutils.so.1, a second copy of it, and libkeyretain side by side in a process and its children. */
 #define _GNU_SOURCE
-#include <dlfcn.h>
-
 #include "check.h"
 #include "keyretain.h"
 #include "keyutils.h"

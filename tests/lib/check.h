@@ -3,6 +3,7 @@
 #ifndef KEYRETAIN_CHECK_H
 #define KEYRETAIN_CHECK_H
 
+#include <dlfcn.h>
 #include <errno.h>
 #include <fcntl.h>
 #include <pthread.h>
@@ -11,10 +12,15 @@
 #include <stdio.h>
 #include <stdlib.h>
 #include <string.h>
+#include <sys/socket.h>
 #include <sys/stat.h>
 #include <sys/time.h>
 #include <sys/wait.h>
+#include <time.h>
 #include <unistd.h>
+
+/* The function that one here of its name stands before. */
+#define OURS(name) ((__typeof__(&(name)))dlsym(RTLD_NEXT, #name))
 
 static int failed_checks, passed_checks;
 
