@@ -10,9 +10,11 @@
 #include "server.h"
 #include "connection.h"
 
+enum { UNTOUCHED = 0x5a /* what a buffer is filled with */ };
+
 int LLVMFuzzerTestOneInput(const uint8_t *input, size_t length);
 
-char *text_of(uint8_t length) {
+static char *text_of(uint8_t length) {
     char *text = malloc((size_t)length + 1);
     if (!text) abort();
     memset(text, 'a', length);
@@ -20,11 +22,27 @@ char *text_of(uint8_t length) {
     return text;
 }
 
-void *buffer_of(size_t room) {
+static void *buffer_of(size_t room) {
     void *buffer = malloc(room ? room : 1);
     if (!buffer) abort();
     memset(buffer, UNTOUCHED, room);
     return buffer;
+}
+
+struct words take_words(int32_t least, uint8_t longest, int more) {
+    struct words words = { .number = server_byte() };
+    words.id = words.number + least;
+    words.type = text_of(words.number & longest);
+    words.description = text_of(server_byte());
+    words.room = (size_t)words.number << more;
+    words.buffer = buffer_of(words.room);
+    return words;
+}
+
+void free_words(struct words *words) {
+    free(words->type);
+    free(words->description);
+    free(words->buffer);
 }
 
 int is_untouched(const void *buffer, size_t room) {

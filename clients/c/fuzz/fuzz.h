@@ -9,12 +9,20 @@ void fuzz_decoder(void);
 void fuzz_library(void);
 void fuzz_keyutils(void);
 
-/* A text of so many bytes, in memory that ends with it; to be freed. */
-char *text_of(uint8_t length);
+/* What a call is made with. Texts and the buffer lie in memory of their own length. */
+struct words {
+    uint8_t number;
+    int32_t id;
+    char *type, *description;
+    size_t room;
+    void *buffer;
+};
 
-/* What a buffer is filled with; whether all of it still is. */
-enum { UNTOUCHED = 0x5a };
-void *buffer_of(size_t room);
+/* As the input says: an id from the least on, a type of at most so many bytes, and so many bits more of room. */
+struct words take_words(int32_t least, uint8_t longest, int more);
+void free_words(struct words *words);
+
+/* Whether all of a buffer is as it was. */
 int is_untouched(const void *buffer, size_t room);
 
 #endif

@@ -12,14 +12,6 @@
 
 enum { CALLS = 8, PATIENCE = 30000, BODIES = 1 << 16 };
 
-struct words {
-    uint8_t number;
-    int32_t id;
-    char *type, *description;
-    size_t room;
-    char *buffer;
-};
-
 static int scanner(key_serial_t parent, key_serial_t key, char *description, int length, void *data) {
     (void)parent, (void)key, (void)data;
     if (length >= 0 && strlen(description) > (size_t)length) fault("a description longer than it says");
@@ -93,21 +85,14 @@ static void look_at_time(int64_t begun, bool is_one) {
 static void call(void) {
     int64_t begun = server_time();
     uint8_t which = server_byte();
-    struct words words = { .number = server_byte() };
+    struct words words = take_words(-10, 31, which & 128 ? 8 : 0);
     int chosen = which & 127;
-    words.id = (int32_t)words.number - 10;
-    words.type = text_of(words.number & 31);
-    words.description = text_of(server_byte());
-    words.room = which & 128 ? (size_t)words.number << 8 : words.number;
-    words.buffer = buffer_of(words.room);
     if (chosen < 2 * COMMANDS)
         call_command(chosen % COMMANDS, &words);
     else
         call_other(chosen % 8, &words);
     look_at_time(begun, !makes_several(chosen));
-    free(words.type);
-    free(words.description);
-    free(words.buffer);
+    free_words(&words);
 }
 
 void fuzz_keyutils(void) {

@@ -2,7 +2,6 @@
 #define _GNU_SOURCE
 #include <errno.h>
 #include <stdbool.h>
-#include <stdlib.h>
 #include <string.h>
 
 #include "fuzz.h"
@@ -12,33 +11,8 @@
 
 enum { CALLS = 12, PATIENCE = 30000, ANYBODY = 1, LONGEST_ANSWER = 262140 };
 
-/* What a call is made with. Texts and the buffer lie in memory of their own length. */
-struct words {
-    uint8_t number;
-    int32_t id;
-    char *type, *description;
-    size_t room;
-    uint8_t *buffer;
-    struct kr_entry entries[3];
-    uint32_t groups[40];
-};
-
-static struct words take_words(bool is_large) {
-    struct words words = { .number = server_byte() };
-    words.id = (int32_t)words.number - 6;
-    words.type = text_of(words.number & 63);
-    words.description = text_of(server_byte());
-    words.room = is_large ? (size_t)words.number << 10 : words.number;
-    words.buffer = buffer_of(words.room);
-    memset(words.entries, 1, sizeof words.entries);
-    return words;
-}
-
-static void free_words(struct words *words) {
-    free(words->type);
-    free(words->description);
-    free(words->buffer);
-}
+static struct kr_entry entries[3];
+static const uint32_t groups[40];
 
 /* An answer in bytes: it is as long as a frame may be, and a buffer that is too small stays as it was. */
 static void look_at_bytes(int64_t length, const struct words *words) {
@@ -55,8 +29,8 @@ static struct kr_field field_of(enum kr_field_form form, bool is_second, const s
     switch (form) {
     case KR_TEXT: return (struct kr_field){ .items = text, .count = strlen(text) };
     case KR_BLOB: return (struct kr_field){ .items = w->buffer, .count = w->room };
-    case KR_GROUPS: return (struct kr_field){ .items = w->groups, .count = w->number % 40 };
-    case KR_ENTRIES: return (struct kr_field){ .items = w->entries, .count = w->number % 3 };
+    case KR_GROUPS: return (struct kr_field){ .items = groups, .count = w->number % 40 };
+    case KR_ENTRIES: return (struct kr_field){ .items = entries, .count = w->number % 3 };
     default: return (struct kr_field){ .number = (uint32_t)w->id };
     }
 }
@@ -107,7 +81,7 @@ static void look_at_answer(const struct kr *connection, int64_t answer, int erro
 
 static int call(struct kr *connection, int patience) {
     uint8_t which = server_byte();
-    struct words words = take_words(which & 128);
+    struct words words = take_words(-6, 63, which & 128 ? 10 : 0);
     int64_t begun = server_time(), answer = 0;
     errno = 0;
     bool was_broken = kr_is_broken(connection);
@@ -141,6 +115,7 @@ static struct kr *open_some(void) {
 void fuzz_library(void) {
     const uint8_t *rest;
     int patience = PATIENCE;
+    memset(entries, 1, sizeof entries);
     server_enter();
     struct kr *connection = open_some();
     for (int i = 0; connection && i < CALLS && server_rest(&rest) > 0; i++) patience = call(connection, patience);
