@@ -52,13 +52,17 @@ def add(c: Raw, secret: Secret, ring=U, desc="token") -> int:
 # Each takes a connection and a secret, and says how many copies may be left: the key's own, or none.
 
 KEY, PAYLOAD = object(), object()  # they stand for the key that was added, and for the secret
+EXPIRES = ("SET_TIMEOUT", KEY, 1), ("SLEEP", 1.1)
 
 
 def asks(*rows, ring=None, wants=0):
-    """A way of these asks, behind an ADD to a ring if one is named. The last one has this status."""
+    """A way of these asks, or pauses, behind an ADD to a ring if one is named. The last one has this status."""
     def way(c, s):
         stands = {KEY: ring and add(c, s, ring), PAYLOAD: s.payload}
         for at, (name, *values) in enumerate(rows, 1):
+            if name == "SLEEP":
+                time.sleep(*values)
+                continue
             c.ask(name, *[stands.get(it, it) for it in values], wants=wants if at == len(rows) else 0)
 
     return way
@@ -68,27 +72,12 @@ def update_longer(c, s):
     c.ask("UPDATE", add(c, s), b"z" * (2 * len(s.payload) % 32767 + 1))
 
 
-def displaced(c, s):
-    """An expired key's name is taken by a new key."""
-    key = add(c, s)
-    c.ask("SET_TIMEOUT", key, 1)
-    time.sleep(1.1)
-    c.ask("ADD", "user", "token", b"other", U)
-
-
 def move_over(c, s):
     """MOVE displaces a link that was the last of a key."""
     ring = c.ask("ADD", "keyring", "other", b"", U)
     add(c, s, ring)
     key = c.ask("ADD", "user", "token", b"other", U)
     c.ask("MOVE", key, U, ring, 0)
-
-
-def expire_unlink(c, s):
-    key = add(c, s)
-    c.ask("SET_TIMEOUT", key, 1)
-    time.sleep(1.1)
-    c.ask("UNLINK", key, U)
 
 
 def expire(c, s):
@@ -218,10 +207,11 @@ OVER = "ADD", "user", "token", b"other", U
 WAYS = {"kept: ADD": kept, "kept: ADD in three parts": pieces, "kept: READ": read, "kept: 20 READs ahead": read_many,
         "UPDATE": asks(("UPDATE", KEY, b"other"), ring=U), "UPDATE, longer": update_longer,
         "UPDATE, one byte": asks(("UPDATE", KEY, b"z"), ring=U), "ADD over it": asks(OVER, ring=U),
-        "expired, ADD over it": displaced, "REVOKE": asks(("REVOKE", KEY), ring=U),
+        "expired, ADD over it": asks(*EXPIRES, OVER, ring=U), "REVOKE": asks(("REVOKE", KEY), ring=U),
         "REVOKE, UNLINK": asks(("REVOKE", KEY), ("UNLINK", KEY, U), ring=U),
         "INVALIDATE": asks(("INVALIDATE", KEY), ring=U), "UNLINK": asks(("UNLINK", KEY, U), ring=U),
-        "CLEAR": asks(("CLEAR", U), ring=U), "MOVE over it": move_over, "expired, UNLINK": expire_unlink,
+        "CLEAR": asks(("CLEAR", U), ring=U), "MOVE over it": move_over,
+        "expired, UNLINK": asks(*EXPIRES, ("UNLINK", KEY, U), ring=U),
         "expired": expire, "JOIN": join, "EXEC": asks(("EXEC",), ring=P), "EXIT": asks(("EXIT",), ring=T),
         "LEAVE": asks(("LEAVE",), ring=P), "close": close, "readers close, REVOKE": close_readers,
         "close amid ADD": cut, "fault in ADD": refused_fault,
