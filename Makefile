@@ -121,9 +121,7 @@ SECONDS = 30
 fuzz:
 	$(call wants,clang,jansson.h,clang and libjansson-dev)
 	$(call wants,clang,openssl/param_build.h,clang and libssl-dev)
-	$(MAKE) -C clients/c/fuzz fuzz SECONDS=$(SECONDS)
-	$(MAKE) -C clients/c/fuzz fuzz-supervisor SECONDS=$(SECONDS)
-	$(MAKE) -C clients/c/fuzz fuzz-agent SECONDS=$(SECONDS)
+	set -e; for part in fuzz fuzz-supervisor fuzz-agent; do $(MAKE) -C clients/c/fuzz $$part SECONDS=$(SECONDS); done
 	$(MAKE) -C ssh-agent/fuzz fuzz SECONDS=$(SECONDS)
 
 # Whether the man pages render without a warning.
@@ -137,6 +135,10 @@ check-keyutils:
 	$(MAKE) build
 	tests/keyutils-suite $(SUITE)
 
+# $(call part,TEST,FOLDER,NAME,WHY): installs a part where the test holds, and else says why it is not installed.
+part = +@if $(1); then $(MAKE) -s -C $(2) install PREFIX="$(PREFIX)" DESTDIR="$(DESTDIR)" PYTHON="$(PYTHON)"; \
+  else echo '$(3) not installed: $(4)'; fi
+
 # Puts what `make build` made, the man pages, the systemd units, the completions, the Python client, and what `make
 # clients`, `make guard`, `make pam` and `make ssh-agent` made if they were run, in their folders.
 install:
@@ -146,16 +148,11 @@ install:
 	  case $$1:$$3 in *:link) ln -sf "$$1" "$$to" ;; *.service:*) sed -e '/^ExecStart=/s|@sbindir@|$(SBINDIR)|' \
 	    -e '/^ExecCondition=/s|@bindir@|$(BINDIR)|' "$$1" >"$$to"; chmod "$$3" "$$to" ;; \
 	  *) install -m "$$3" "$$1" "$$to" ;; esac; done
-	@if [ -x guard/build/keyretain-guard ]; then $(MAKE) -s -C guard install PREFIX="$(PREFIX)" DESTDIR="$(DESTDIR)"; \
-	  else echo 'the guard is not installed: make guard builds it'; fi
-	@if [ -d clients/c/build ]; then $(MAKE) -s -C clients/c install PREFIX="$(PREFIX)" DESTDIR="$(DESTDIR)"; \
-	  else echo 'the C clients are not installed: make clients builds them'; fi
-	@if [ -e pam/build/pam_keyretain.so ]; then $(MAKE) -s -C pam install PREFIX="$(PREFIX)" DESTDIR="$(DESTDIR)"; \
-	  else echo 'the PAM module is not installed: make pam builds it'; fi
-	@if [ -x ssh-agent/build/keyretain-ssh-agent ]; then $(MAKE) -s -C ssh-agent install PREFIX="$(PREFIX)" \
-	  DESTDIR="$(DESTDIR)"; else echo 'the ssh-agent is not installed: make ssh-agent builds it'; fi
-	@if $(PYTHON) -c 1 2>/dev/null; then $(MAKE) -s -C clients/python install PREFIX="$(PREFIX)" DESTDIR="$(DESTDIR)" \
-	  PYTHON="$(PYTHON)"; else echo 'the Python client is not installed: no $(PYTHON)'; fi
+	$(call part,[ -x guard/build/keyretain-guard ],guard,the guard is,make guard builds it)
+	$(call part,[ -d clients/c/build ],clients/c,the C clients are,make clients builds them)
+	$(call part,[ -e pam/build/pam_keyretain.so ],pam,the PAM module is,make pam builds it)
+	$(call part,[ -x ssh-agent/build/keyretain-ssh-agent ],ssh-agent,the ssh-agent is,make ssh-agent builds it)
+	$(call part,$(PYTHON) -c 1 2>/dev/null,clients/python,the Python client is,no $(PYTHON))
 	@echo 'installed below $(DESTDIR)$(PREFIX)'
 
 # Packages for Debian 12, in the folder packages/, of the programs that `make build` proved. Wants debhelper, dh-python,
@@ -174,11 +171,8 @@ dist:
 # Takes away what `make install` has put there, and the links by which units were enabled for the system or for all
 # users. What users have enabled for themselves stays.
 uninstall:
-	@$(MAKE) -s -C clients/c uninstall PREFIX="$(PREFIX)" DESTDIR="$(DESTDIR)"
-	@$(MAKE) -s -C guard uninstall PREFIX="$(PREFIX)" DESTDIR="$(DESTDIR)"
-	@$(MAKE) -s -C pam uninstall PREFIX="$(PREFIX)" DESTDIR="$(DESTDIR)"
-	@$(MAKE) -s -C ssh-agent uninstall PREFIX="$(PREFIX)" DESTDIR="$(DESTDIR)"
-	@$(MAKE) -s -C clients/python uninstall PREFIX="$(PREFIX)" DESTDIR="$(DESTDIR)" PYTHON="$(PYTHON)"
+	@set -e; for part in clients/c guard pam ssh-agent clients/python; do \
+	  $(MAKE) -s -C $$part uninstall PREFIX="$(PREFIX)" DESTDIR="$(DESTDIR)" PYTHON="$(PYTHON)"; done
 	@IFS=:; for row in $(INSTALLED); do set -- $$row; rm -f "$(DESTDIR)$$2"; done
 	@for folder in "$(DESTDIR)$(PREFIX)/lib" "$(DESTDIR)$(PREFIX)/libexec" "$(DESTDIR)$(PREFIX)/share"; do \
 	  [ ! -d "$$folder/keyretain" ] || rmdir --ignore-fail-on-non-empty "$$folder/keyretain"; done
