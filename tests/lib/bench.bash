@@ -32,6 +32,7 @@ below() {
 
 # clean: ends what was begun here, also what its parent has left, which is known by its environment, and takes all away
 clean() {
+  set +e
   trap '' INT TERM HUP
   # shellcheck disable=SC2046 # these are words
   kill -KILL $(below $$; grep -lz "^TMPDIR=$dir/" /proc/[0-9]*/environ | tr -dc '0-9\n')
