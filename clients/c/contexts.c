@@ -88,10 +88,15 @@ void contexts_set_deadline(void) {
 
 static struct line *first_in_use(void) { return FIND(all.lines, line, !line->is_old); }
 
+/* Where it shows that the daemon of the other connections has ended, these are closed, and another counts alone. */
 int contexts_begin_call(void) {
     contexts_set_deadline();
-    if (first_in_use() || open_line(OPENING_MILLISECONDS)) return 0;
-    return errno == ENOMEM || errno == EACCES || errno == ETIMEDOUT ? -1 : fail_as(ENOSYS);
+    while (!first_in_use() && !open_line(OPENING_MILLISECONDS)) {
+        if (!FIND(all.lines, line, kr_is_broken(line->connection)))
+            return errno == ENOMEM || errno == EACCES || errno == ETIMEDOUT ? -1 : fail_as(ENOSYS);
+        contexts_set_deadline();
+    }
+    return 0;
 }
 
 int32_t contexts_daemon(void) {

@@ -150,8 +150,8 @@ has_no_keeper() { ! keepers >/dev/null; }
 
 # apart COMMAND ..: becomes the command, without the ends of clients that stand open here
 apart() {
-  local end
-  for end in "${to[@]}" "${from[@]}"; do exec {end}>&-; done
+  local each
+  for each in "${to[@]}" "${from[@]}" ${end:+"$end"}; do exec {each}>&-; done
   exec "$@"
 }
 
