@@ -25,9 +25,11 @@ static void put_status(struct admission_process *process, const struct proc_stat
     process->starter = UINT32_MAX;
 }
 
+/* Who has executed it is told as a number of its own user namespace: of another one that is nobody's number here. */
 void admission_read(struct admission_process *process, pid_t id, const struct proc_status *status) {
     put_status(process, status);
     process->has_auxv = proc_read_auxv(id, &process->is_secure, &process->starter);
+    if (maps_are_others(id)) process->starter = UINT32_MAX;
 }
 
 void admission_set(struct admission_process *process, uint32_t uid) {

@@ -117,11 +117,12 @@ static uint64_t sum_of(const struct key_row *row, const unsigned long *at) {
 
 /* ---- A call ---- */
 
-/* In a user namespace of its own a program has other user keyrings, which aren't there. */
+/* In a user namespace of its own a program has other user keyrings, which aren't there, and other numbers of users. */
 static long answer_tracee(const struct key_row *row, const unsigned long *given, struct arguments arguments) {
     bool names_users = key_row_names(row, given, KEY_SPEC_USER_KEYRING) ||
                        key_row_names(row, given, KEY_SPEC_USER_SESSION_KEYRING);
-    if (names_users && tracees_entered()->asker.is_elsewhere) return fail_as(EOPNOTSUPP);
+    bool is_elsewhere = tracees_entered()->asker.is_elsewhere;
+    if (is_elsewhere && (names_users || row->call == KEYCTL_CHOWN)) return fail_as(EOPNOTSUPP);
     switch (row->call) {
     case KEYCTL_SET_REQKEY_KEYRING: return key_set_reqkey(&tracees_entered()->task->reqkey, (int)arguments.at[0]);
     case KEYCTL_SESSION_TO_PARENT: return tracees_session_to_parent();

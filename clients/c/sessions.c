@@ -138,7 +138,8 @@ struct session *session_join(struct context *context, struct user *user, const c
                              const struct admission_process *begun, bool *has_left) {
     struct kr_session named;
     struct context trial;
-    if (!is_for_others(begun)) return begin_alone(context, user, begun, has_left);
+    bool is_set_uid = begun->is_secure || !begun->has_auxv;
+    if ((!name || is_set_uid) && !is_for_others(begun)) return begin_alone(context, user, begun, has_left);
     if (kr_name_session(&named, name) < 0 || context_fork(&trial, &user->context) < 0) return NULL;
     struct session *session = join(&trial, user, named.name, begun);
     if (session && !name && set_mask(session, MASK_WITHOUT_NAME) < 0) session = NULL;

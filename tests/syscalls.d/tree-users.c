@@ -469,6 +469,11 @@ static int print_whose(void) {
     return printf("%s %u\n", name, owner) < 0;
 }
 
+static long give_key(uid_t uid) {
+    long key = add_key("user", "given", "x", 1, KEY_SPEC_THREAD_KEYRING);
+    return keyctl(KEYCTL_CHOWN, (unsigned long)key, uid, (unsigned long)-1, 0);
+}
+
 /* Joins a session that isn't joined in time, and tells whether it is in another user's then. */
 static int join_too_late(const char *name) {
     unsigned owner = getuid();
@@ -513,6 +518,7 @@ int users_modes(const char *mode, int many, int count, char **words) {
     if (strcmp(mode, "mask") == 0) return print_mask();
     if (strcmp(mode, "whose") == 0) return print_whose();
     if (strcmp(mode, "whose-joined") == 0) return join(count > 2 ? words[2] : NULL) < 0 ? 2 : print_whose();
+    if (strcmp(mode, "gives") == 0) return puts(give_key((uid_t)many) < 0 ? strerror(errno) : "given") < 0;
     if (strcmp(mode, "joins-late") == 0 && count == 3) return join_too_late(words[2]);
     if (strcmp(mode, "joining") == 0 && count > 2) return execute_in_session(words + 2);
     return -1;

@@ -6,7 +6,7 @@ int main(int count, char **words) {
     int (*const parts[])(const char *, int, int, char **) = {
         many_modes, ends_modes, keys_modes, users_modes, logins_modes
     };
-    static const char *const of_any_number[] = { "serial", "putting", "owner", "often", "read", "others" };
+    static const char *const of_any_number[] = { "serial", "putting", "owner", "often", "read", "others", "gives" };
     const char *mode = count > 1 ? words[1] : "";
     int many = count > 2 ? atoi(words[2]) : 0, status = -1;
     bool is_any = many <= MOST;

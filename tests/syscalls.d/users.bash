@@ -87,6 +87,21 @@ try_keyinit() {
 }
 
 # A user's program, executed set-uid, that asks and becomes its user again; below a session of root's.
+# In a user namespace of several users who has executed a program is told by a number of that namespace.
+try_within() {
+  local within
+  unshare -U true 2>/dev/null || { skipped 'set-uid programs in a user namespace: none may be made'; return; }
+  unshare -U sleep 1000 &
+  within=$!
+  until_true has_maps "$within" 4200
+  install -o 4200 -g 4200 -m 4755 "$dir/tree" "$dir/tree-within"
+  prints 'a session that a program begins which is set-uid to the root of its user namespace' '_ses 4205' \
+    nsenter -t "$within" -U -S 5 -G 5 "$dir/tree-within" whose-joined
+  prints 'who owns a key, in a user namespace' 'Operation not supported' nsenter -t "$within" -U -S 5 -G 5 \
+    "$dir/tree" gives 4200
+  end_by TERM "$within"
+}
+
 try_deputies() {
   local wanted='EKEYREVOKED, then none' copied how
   [ "$(id -u)" = 0 ] || { skipped 'set-uid programs: not root'; return; }
@@ -101,6 +116,7 @@ try_deputies() {
   prints 'a set-uid program of a user below a session of root' "$wanted" "$dir/tree" deputy "$dir/tree-set-uid"
   prints 'a set-uid program of a user that has joined a session' "EKEYREVOKED, then its user's" "$dir/tree" \
     joined-deputy "$dir/tree-set-uid"
+  try_within
   begin_room || { skipped 'a set-uid program with a copied tag: no CAP_SYS_RESOURCE'; return; }
   copied=$("${in_room[@]}" timeout "$limit" "$dir/now/keyretain-session" --syscalls -- "$dir/tree" deputy \
     "$dir/tree-set-uid" copied 2>&1)
