@@ -74,7 +74,8 @@ static bool is_of_user(struct task *task, const struct key_row *row, const unsig
     if (row->is_of_user || key_row_names(row, given, KEY_SPEC_USER_KEYRING) ||
         key_row_names(row, given, KEY_SPEC_USER_SESSION_KEYRING))
         return true;
-    return task->has_joined && krs_admission_c_stays(&all.asker.process, task->session->user->identity.uid, false) &&
+    return task->has_joined && !session_is_lost(task->session) &&
+           krs_admission_c_stays(&all.asker.process, task->session->user->identity.uid, false) &&
            (key_row_names(row, given, KEY_SPEC_SESSION_KEYRING) || key_row_names(row, given, task->session->serial));
 }
 
