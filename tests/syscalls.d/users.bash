@@ -240,20 +240,20 @@ try_flood() {
 
 # Another daemon at the path gives the numbers of the last one again, to whom it will.
 try_kept_serial() {
-  local waits
+  local waits i
   [ "$(id -u)" = 0 ] || { skipped 'a serial that is told to another user: not root'; return; }
   serve --lanes 8
-  mkfifo -m 666 "$dir/kept.ready" "$dir/kept.go"
-  supervised -- "$dir/tree" kept-serial "$dir/kept.ready" "$dir/kept.go" >"$dir/kept.text" 2>&1 &
+  [ -p "$dir/kept.ready" ] || mkfifo -m 666 "$dir/kept.ready" "$dir/kept.go"
+  supervised -- "$dir/tree" kept-serial "$dir/kept.ready" "$dir/kept.go" "$@" >"$dir/kept.text" 2>&1 &
   waits=$!
-  for _ in first second; do
+  for ((i = $#; i < 2; i++)); do
     read -r _ <"$dir/kept.ready"
     kill_daemon KILL
     start_again --lanes 8
     : >"$dir/kept.go"
   done
   finish "$waits"
-  is 'a serial of the daemon before, told again to another user' EKEYREVOKED "$(<"$dir/kept.text")"
+  is "a serial of the daemon before, told again to another user${1+: of a session}" EKEYREVOKED "$(<"$dir/kept.text")"
   kill_daemon TERM
 }
 
