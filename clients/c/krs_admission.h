@@ -94,4 +94,7 @@ uint32_t krs_admission_c_asks_as(const struct admission_ids *ids, bool is_of_use
  * uid; where it revokes that session also while that is the uid of the file system. */
 bool krs_admission_c_stays(const struct admission_process *process, uint32_t uid, bool revokes);
 
+/* Whether a session that a process begins is its alone, so that it is to have no name. */
+bool krs_admission_c_begins_alone(const struct admission_process *process, bool has_name);
+
 #endif

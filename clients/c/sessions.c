@@ -109,19 +109,7 @@ static struct session *join(const struct context *context, struct user *user, co
     return NULL;
 }
 
-/* Whether another process of its real uid may come into a session that this one begins. */
-static bool is_for_others(const struct admission_process *begun) {
-    struct admission_process other;
-    struct admission_session told;
-    memset(&told, 0, sizeof told);
-    told.begun = *begun;
-    told.is_there = true;
-    admission_set(&other, begun->uids.real);
-    return krs_admission_c_keeps(&other, &told);
-}
-
-/* One for this context alone, as of a set-uid program, which has no name: by one its real user could come in, or link
- * it for some asks. */
+/* One for this context alone, which has no name. */
 static struct session *begin_alone(struct context *context, struct user *user, const struct admission_process *begun,
                                    bool *has_left) {
     struct kr *connection = context_connection(context);
@@ -138,8 +126,7 @@ struct session *session_join(struct context *context, struct user *user, const c
                              const struct admission_process *begun, bool *has_left) {
     struct kr_session named;
     struct context trial;
-    bool is_set_uid = begun->is_secure || !begun->has_auxv;
-    if ((!name || is_set_uid) && !is_for_others(begun)) return begin_alone(context, user, begun, has_left);
+    if (krs_admission_c_begins_alone(begun, name != NULL)) return begin_alone(context, user, begun, has_left);
     if (kr_name_session(&named, name) < 0 || context_fork(&trial, &user->context) < 0) return NULL;
     struct session *session = join(&trial, user, named.name, begun);
     if (session && !name && set_mask(session, MASK_WITHOUT_NAME) < 0) session = NULL;
@@ -244,7 +231,7 @@ int sessions_begin(const struct kr_identity *identity, const struct admission_pr
     struct user *user = users_find(identity);
     if (!user || kr_name_session(&named, name) < 0 || context_fork(&context, &user->context) < 0) return -1;
     struct kr *connection = context_connection(&context);
-    bool is_alone = !is_container && !is_for_others(begun);
+    bool is_alone = !is_container && krs_admission_c_begins_alone(begun, false);
     if (is_alone) *named.name = '\0';
     int32_t serial = is_alone ? kr_join(connection, context.number, NULL)
                               : kr_begin_session(connection, context.number, named.name, identity->uid);

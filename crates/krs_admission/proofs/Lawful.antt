@@ -1,10 +1,10 @@
 -- Where the rule lets a process come into a session, the law does.
 use Rattle.std.proofs.Common.{◌&&◌, ◌==◌, ◌||◌, ◌∙◌, ◌≡◌, ◌≢◌, ◌⊎◌, arith, Bool, cond, eq-eqb, eqb-true, false, inl}
 use Rattle.std.proofs.Common.{inr, nat_lt, not, refl, subst, sym, true, ℕ}
-use Rattle.krs_admission.specs.Law.{ComesLawfully, Is, IsLawful, IsOpen, IsShared, MayHave}
-use Rattle.krs_admission.specs.Rule.{are_all, has_tag_of, is_of, is_one, is_open, is_shared, is_tag, is_told}
-use Rattle.krs_admission.specs.Rule.{knows_again, may_be_given, may_enter, may_have, no_uid, number_of, place_above}
-use Rattle.krs_admission.specs.Rule.{place_of, place_tagged}
+use Rattle.krs_admission.specs.Law.{BeginsForOthers, ComesLawfully, Is, IsLawful, IsOpen, IsShared, MayHave}
+use Rattle.krs_admission.specs.Rule.{are_all, begins_alone, has_tag_of, is_of, is_one, is_open, is_shared, is_tag}
+use Rattle.krs_admission.specs.Rule.{is_told, knows_again, may_be_given, may_enter, may_have, no_uid, number_of}
+use Rattle.krs_admission.specs.Rule.{place_above, place_of, place_tagged}
 use Rattle.krs_admission.specs.declared.admitting.Place.{Place, TheVariants.{Above, Held, Lost, Tagged, UserSession}}
 use Rattle.krs_admission.specs.declared.facts.Arrival.{Arrival}
 use Rattle.krs_admission.specs.declared.{facts.{Ids.Ids, Process.Process, Session.Session}, giving.Parent.Parent}
@@ -123,6 +123,22 @@ pub known_again : (a : Arrival) → knows_again a ≡ true → MayHave a.process
 known_again a e =
     let two = both_true a.has_held (has_tag_of a a.held && may_enter a.process a.held) e in
     let last = both_true (has_tag_of a a.held) (may_enter a.process a.held) two.1 in entered a.process a.held last.1
+
+for_others_by : (traceable named secure read : Bool)
+    → (not traceable && (not named || (secure || not read))) ≡ false
+    → (traceable ≡ true) ⊎ ((named ≡ true) × (read ≡ true) × (secure ≡ false))
+for_others_by true named secure read e = inl refl
+for_others_by false false secure read e = absurd cc
+for_others_by false true true read e = absurd cc
+for_others_by false true false false e = absurd cc
+for_others_by false true false true e = inr (refl, refl, refl)
+
+pub for_others : (p : Process) (named : Bool) → begins_alone p named ≡ false → BeginsForOthers p named
+for_others p named e =
+    elim (for_others_by (is_told p p.uids.real && is_open p p.uids.real) named p.is_secure p.has_auxv e) [
+      | inl both ↦ inl (traced p p.uids.real (both_true (is_told p p.uids.real) (is_open p p.uids.real) both).1)
+      | inr called ↦ inr called
+    ]
 
 fifth_true : (a b c d e f : Bool) → (a && (b && (c && (d && (e && f))))) ≡ true → e ≡ true
 fifth_true a b c d e f h =

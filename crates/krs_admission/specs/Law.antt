@@ -1,6 +1,6 @@
 -- A process comes into no session but one that was begun as its own real uid; and only while all four of its uids are
 -- that one and its program isn't set-uid to another.
-use Rattle.std.specs.Prelude.{◌≡◌, ◌≢◌, ◌⊎◌, false, true, ℕ}
+use Rattle.std.specs.Prelude.{◌≡◌, ◌≢◌, ◌⊎◌, Bool, false, true, ℕ}
 use Rattle.krs_admission.specs.Rule.{no_uid, number_of}
 use Rattle.krs_admission.specs.declared.admitting.Place.{Place, TheVariants.{Above, Held, Lost, Tagged, UserSession}}
 use Rattle.krs_admission.specs.declared.facts.{Arrival.Arrival, Process.Process, Session.Session}
@@ -29,6 +29,12 @@ pub record IsOpen (p : Process) (uid : ℕ) : Type 0 where
 abbrev pub IsShared : Session → Type 0
 IsShared s =
     IsOpen s.begun s.begun.uids.real × ((s.has_beginner ≡ false) ⊎ IsOpen s.beginner s.begun.uids.real)
+
+-- another process of its uid may come into a session that it begins: its user could trace it, or it gives that a name
+-- and isn't set-uid
+abbrev pub BeginsForOthers : Process → (has_name : Bool) → Type 0
+BeginsForOthers p has_name =
+    IsOpen p p.uids.real ⊎ ((has_name ≡ true) × (p.has_auxv ≡ true) × (p.is_secure ≡ false))
 
 -- it has that which it holds, or its tag says, or the nearest process above has; else its uid's user-session keyring
 abbrev pub IsLawful : Arrival → Place → Type 0

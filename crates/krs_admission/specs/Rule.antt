@@ -86,6 +86,11 @@ asks_as i is_of_user = if is_of_user then i.real else i.files
 abbrev pub stays : Process → ℕ → Bool → Bool
 stays p uid revokes = p.uids.real == uid || (revokes && p.uids.files == uid)
 
+-- a session that it begins is its alone: its user couldn't trace it, and it gives no name or may be set-uid
+abbrev pub begins_alone : Process → (has_name : Bool) → Bool
+begins_alone p has_name =
+    not (is_told p p.uids.real && is_open p p.uids.real) && (not has_name || (p.is_secure || not p.has_auxv))
+
 -- as C has it
 abbrev pub number_of : Place → ℕ
 number_of Lost = 0

@@ -9,4 +9,4 @@ mod whose;
 pub use admitting::{Place, admit, keeps, knows_again};
 pub use facts::{Arrival, Ids, Process, Session};
 pub use giving::{Parent, may_be_given};
-pub use whose::{asks_as, stays};
+pub use whose::{asks_as, begins_alone, stays};

@@ -1,5 +1,6 @@
-ghost use Rattle.std.specs.Prelude.{◌&&◌, ◌==◌, ◌||◌, ◌≡◌};
-ghost use Rattle.krs_admission.specs.Rule.{are_all, asks_as, is_of, is_one, is_open, is_shared, is_told, stays};
+ghost use Rattle.std.specs.Prelude.{◌&&◌, ◌==◌, ◌||◌, ◌≡◌, false};
+ghost use Rattle.krs_admission.specs.{Law.BeginsForOthers, Rule.{are_all, asks_as, begins_alone, is_of, is_one}};
+ghost use Rattle.krs_admission.specs.Rule.{is_open, is_shared, is_told, stays};
 
 use crate::facts::{Ids, Process, Session};
 
@@ -68,4 +69,21 @@ pub fn stays(process: &Process, uid: u32, revokes: bool) -> bool
     ensures { result ≡ stays process.now uid revokes }
 {
     process.uids.real == uid || (revokes && process.uids.files == uid)
+}
+
+fn is_alone(process: &Process, has_name: bool) -> bool
+    ensures { result ≡ begins_alone process.now has_name }
+{
+    let uid = process.uids.real;
+    !(is_told(process, uid) && is_open(process, uid))
+        && (!has_name || process.is_secure || !process.has_auxv)
+}
+
+/// Whether a session that a process begins is its alone. By a name the real user of a set-uid program could come in, or
+/// link it for some asks.
+pub fn begins_alone(process: &Process, has_name: bool) -> bool
+    ensures exact { result ≡ begins_alone process.now has_name }
+    ensures lawful { result ≡ false → BeginsForOthers process.now has_name }
+{
+    is_alone(process, has_name)
 }

@@ -1,9 +1,10 @@
 //! krs_admission for C: `clients/c/krs_admission.h` declares it. No call requires anything of its arguments.
 #![tactic(auto)]
 
-ghost use Rattle.std.specs.Prelude.{◌≡◌, true};
-ghost use Rattle.krs_admission.specs.Law.{ComesLawfully, IsShared, MayHave};
-ghost use Rattle.krs_admission.specs.Rule.{asks_as, knows_again, may_be_given, may_enter, number_of, place_of, stays};
+ghost use Rattle.std.specs.Prelude.{◌≡◌, false, true};
+ghost use Rattle.krs_admission.specs.Law.{BeginsForOthers, ComesLawfully, IsShared, MayHave};
+ghost use Rattle.krs_admission.specs.Rule.{asks_as, begins_alone, knows_again, may_be_given, may_enter, number_of};
+ghost use Rattle.krs_admission.specs.Rule.{place_of, stays};
 
 use krs_admission::{Arrival, Ids, Parent, Process, Session};
 
@@ -65,4 +66,13 @@ pub extern "C" fn krs_admission_c_stays(process: &Process, uid: u32, revokes: bo
     ensures { result ≡ stays process.now uid revokes }
 {
     krs_admission::stays(process, uid, revokes)
+}
+
+/// Whether a session that a process begins is its alone, so that it is to have no name.
+#[unsafe(no_mangle)]
+pub extern "C" fn krs_admission_c_begins_alone(process: &Process, has_name: bool) -> bool
+    ensures exact { result ≡ begins_alone process.now has_name }
+    ensures lawful { result ≡ false → BeginsForOthers process.now has_name }
+{
+    krs_admission::begins_alone(process, has_name)
 }
