@@ -151,14 +151,25 @@ static long answer(struct caller *caller, int call, values at) {
     }
 }
 
-/* The serials of a keyring that was read. They are looked at only where others are stale, as that takes an ask. */
+static int32_t link_at(const uint8_t *links, long place) { return (int32_t)kr_get_u32(links + place); }
+
+/* Whether one of these would be new: above all that are known, or an earlier daemon's. */
+static bool tells_new(const struct serials *serials, const uint8_t *links, long length) {
+    for (long i = 0; i < length; i += SERIAL_WIDTH) {
+        int32_t link = link_at(links, i);
+        if (link > serials->highest || serials_is_stale(serials, link)) return true;
+    }
+    return false;
+}
+
+/* The serials of a keyring that was read. That it is one takes an ask. */
 static void know_links(struct caller *caller, values at, long length) {
     const uint8_t *links = (const uint8_t *)at[1];
     struct kr_attributes ring;
-    if (caller->serials->stale == 0 || !links || length < SERIAL_WIDTH || (unsigned long)length > at[2]) return;
+    if (!links || length % SERIAL_WIDTH != 0 || (unsigned long)length > at[2]) return;
+    if (!tells_new(caller->serials, links, length)) return;
     if (kr_read_attributes(caller->connection, caller->context, id_of(at[0]), &ring) != 0) return;
-    for (long i = 0; i + SERIAL_WIDTH <= length; i += SERIAL_WIDTH)
-        serials_add(caller->serials, (int32_t)kr_get_u32(links + i));
+    for (long i = 0; i < length; i += SERIAL_WIDTH) serials_add(caller->serials, link_at(links, i));
 }
 
 /* What this daemon has told, and what it was asked about and knew. */

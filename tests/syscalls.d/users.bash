@@ -238,22 +238,28 @@ try_flood() {
   kill_daemon TERM
 }
 
-# Another daemon at the path gives the numbers of the last one again, to whom it will.
+another_daemon() {
+  kill_daemon KILL
+  start_again --lanes 8
+}
+
+keys_elsewhere() { supervised -- "$dir/tree" numbered 30; }
+
+# try_kept_serial STEPS [WHAT]: another daemon at the path gives the numbers of the last one again, to whom it will.
 try_kept_serial() {
-  local waits i
+  local waits event
   [ "$(id -u)" = 0 ] || { skipped 'a serial that is told to another user: not root'; return; }
   serve --lanes 8
   [ -p "$dir/kept.ready" ] || mkfifo -m 666 "$dir/kept.ready" "$dir/kept.go"
-  supervised -- "$dir/tree" kept-serial "$dir/kept.ready" "$dir/kept.go" "$@" >"$dir/kept.text" 2>&1 &
+  supervised -- "$dir/tree" kept-serial "$dir/kept.ready" "$dir/kept.go" "${@:2}" >"$dir/kept.text" 2>&1 &
   waits=$!
-  for ((i = $#; i < 2; i++)); do
+  for event in $1; do
     read -r _ <"$dir/kept.ready"
-    kill_daemon KILL
-    start_again --lanes 8
+    "$event"
     : >"$dir/kept.go"
   done
   finish "$waits"
-  is "a serial of the daemon before, told again to another user${1+: of a session}" EKEYREVOKED "$(<"$dir/kept.text")"
+  is "a serial of the daemon before, told again to another user${2+: of a $2}" EKEYREVOKED "$(<"$dir/kept.text")"
   kill_daemon TERM
 }
 
