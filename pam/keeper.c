@@ -270,14 +270,20 @@ static void tell(int life, char word) {
     pthread_sigmask(SIG_SETMASK, &theirs, NULL);
 }
 
-static void wait_for_end(int answers) {
+static bool wait_for_end(int answers) {
     int64_t deadline = kr_now() + END_MILLISECONDS, left;
     struct pollfd wait = { .fd = answers };
-    while ((left = deadline - kr_now()) > 0 && poll(&wait, 1, (int)left) < 0 && errno == EINTR) continue;
+    int ended = 0;
+    while ((left = deadline - kr_now()) > 0 && (ended = poll(&wait, 1, (int)left)) < 0 && errno == EINTR) continue;
+    return ended > 0;
 }
 
-void end_keeper(const struct keeper *keeper, enum ending how) {
-    if (!has_keeper(keeper)) return;
-    tell(keeper->life.descriptor, how == ENDS_REVOKED ? 'r' : 'e');
-    wait_for_end(keeper->answers.descriptor);
+void revoke_at_end(const struct keeper *keeper) {
+    if (has_keeper(keeper)) tell(keeper->life.descriptor, 'r');
+}
+
+bool end_keeper(const struct keeper *keeper) {
+    if (!has_keeper(keeper)) return true;
+    tell(keeper->life.descriptor, 'e');
+    return wait_for_end(keeper->answers.descriptor);
 }

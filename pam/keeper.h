@@ -38,9 +38,11 @@ void start_keeper(struct keeper *keeper, const struct passwd *user, const char *
 /* Whether its pipes are still there. */
 bool has_keeper(const struct keeper *keeper);
 
-/* Has it end the session, which it revokes first if so, and waits a second at most until it has ended. */
-enum ending { ENDS, ENDS_REVOKED };
-void end_keeper(const struct keeper *keeper, enum ending how);
+/* Has it revoke the session as it ends, also where that is because this process has. */
+void revoke_at_end(const struct keeper *keeper);
+
+/* Has it end the session, and waits a second at most until it has: false where it goes on. */
+bool end_keeper(const struct keeper *keeper);
 
 /* Closes the descriptors of this process alone. */
 void let_go_of_keeper(struct keeper *keeper);

@@ -26,7 +26,7 @@ struct options {
 /* What a handle has from the first open to the last close; `keeper` is no_keeper where there is no session. */
 struct held {
     struct keeper keeper;
-    enum ending how;
+    bool revokes;
     int opens;
 };
 
@@ -124,6 +124,10 @@ static void begin(pam_handle_t *handle, const struct options *options, struct ke
         pam_syslog(handle, LOG_DEBUG, "session %s at %s", answer.session, answer.socket);
 }
 
+static void end(pam_handle_t *handle, const struct keeper *keeper) {
+    if (!end_keeper(keeper)) pam_syslog(handle, LOG_NOTICE, "the session's keeper goes on, as if it was stopped");
+}
+
 EXPORTED int pam_sm_open_session(pam_handle_t *handle, int flags, int count, const char **words) {
     struct options options = read_options(handle, count, words);
     struct held *held = held_of(handle);
@@ -136,11 +140,13 @@ EXPORTED int pam_sm_open_session(pam_handle_t *handle, int flags, int count, con
         return PAM_SUCCESS;
     }
     held->opens++;
-    if (options.revokes) held->how = ENDS_REVOKED;
-    if (!is_new) return PAM_SUCCESS;
-    end_keeper(&held->keeper, held->how);
-    let_go_of_keeper(&held->keeper);
-    begin(handle, &options, &held->keeper);
+    held->revokes |= options.revokes;
+    if (is_new) {
+        end(handle, &held->keeper);
+        let_go_of_keeper(&held->keeper);
+        begin(handle, &options, &held->keeper);
+    }
+    if (held->revokes) revoke_at_end(&held->keeper);
     return PAM_SUCCESS;
 }
 
@@ -152,7 +158,7 @@ EXPORTED int pam_sm_close_session(pam_handle_t *handle, int flags, int count, co
     if (!held || --held->opens > 0) return PAM_SUCCESS;
     if (options.is_told)
         pam_syslog(handle, LOG_DEBUG, has_keeper(&held->keeper) ? "ends the session" : "no session to end");
-    end_keeper(&held->keeper, held->how);
+    end(handle, &held->keeper);
     pam_set_data(handle, DATA, NULL, NULL);
     return PAM_SUCCESS;
 }

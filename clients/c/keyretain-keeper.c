@@ -156,6 +156,8 @@ static void hold_session(const struct options *options) {
     static struct kr_session session;
     struct kr_where where;
     uint32_t context;
+    char byte;
+    bool revokes = false;
     struct kr *connection = connect_to(options, &where, &context);
     if (kr_name_session(&session, options->name) < 0) say(REFUSED, "refused", "the name");
     session.serial = kr_begin_session(connection, context, session.name, geteuid());
@@ -163,8 +165,8 @@ static void hold_session(const struct options *options) {
     if (options->links_user && kr_link_user_keyring(connection, context) < 0)
         fail_ask(connection, "linking the user keyring");
     answer(connection, session.serial, session.name, where.path);
-    if (wait_for_end(connection, options->is_deaf) == 'r')
-        kr_revoke(connection, context, KEY_SPEC_SESSION_KEYRING);
+    while ((byte = wait_for_end(connection, options->is_deaf)) == 'r') revokes = true;
+    if (revokes) kr_revoke(connection, context, KEY_SPEC_SESSION_KEYRING);
     kr_close(connection);
 }
 
