@@ -24,10 +24,13 @@ PR_SET_DUMPABLE = 4  # prctl(2)
 def keep_no_core() -> None:
     """A program that crashes leaves no file of its memory, which may have secrets. With a limit of 0 a program that
     core_pattern names is handed it all the same, core(5); with 1, which is less than any core, it isn't either. Where
-    no more than 0 is allowed the kernel is told that nobody may have it."""
+    no more than 0 is allowed, or a socket is handed it, the kernel is told that nobody may have it."""
     hard = resource.getrlimit(resource.RLIMIT_CORE)[1]
     resource.setrlimit(resource.RLIMIT_CORE, (0 if hard == 0 else 1, hard))
-    if hard == 0:
+    is_sent = False
+    with suppress(OSError), open("/proc/sys/kernel/core_pattern", "rb") as pattern:
+        is_sent = pattern.read(1) == b"@"
+    if hard == 0 or is_sent:
         with suppress(ImportError, OSError, AttributeError):
             import ctypes  # pylint: disable=import-outside-toplevel # it takes long, and is seldom wanted
             ctypes.CDLL(None).prctl(PR_SET_DUMPABLE, 0, 0, 0, 0)
