@@ -13,8 +13,8 @@ path_text path what = codes "keyretain: " ++ quoted path ++ codes ": " ++ what +
 abbrev pub TellsOf : (path : List ℕ) → Heard → Heard → Type 0
 TellsOf path old new = (what : List ℕ) × Says old new (path_text path what)
 
--- Of a script that stopped the line was said that tells at which of its lines and why, with a hint; of one that came to
--- its end nothing. A status of 2 is that of one which stopped at a line that is no command.
+-- Either nothing was said, or a line that tells a number, a line and why a script stopped there, with a hint. No clause
+-- says that they are the script's own. With a status of 2 it says that the line is no command.
 abbrev pub TellsScript : (status : ℕ) → Heard → Heard → Type 0
 TellsScript status old new =
     (number : ℕ) × (line : List ℕ) × (stopped : Result (Unit {0}) Stop)
