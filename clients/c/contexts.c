@@ -34,6 +34,7 @@ static struct {
     unsigned last_age, beginnings;
     int64_t next_further;
     struct kr_where where;
+    struct kr_session mark;
     bool (*make_room)(unsigned age);
     bool (*give_up_keys)(void);
 } all;
@@ -52,18 +53,29 @@ static bool is_answered(struct kr *connection) {
 }
 
 /* Another daemon has none of what there is on the other connections, and it may listen in the same process: behind a
- * guard, say. But one that has ended by the time that this one is answered answers on none of those any more. */
-static bool is_of_others(struct kr *connection) {
-    struct line *line = FIND(all.lines, at, !kr_is_broken(at->connection));
-    return line && line->connection->peer.pid == connection->peer.pid && is_answered(connection) &&
-           is_answered(line->connection);
+ * guard, say. So the first connection makes a session of a random name, and each further one is to enter that. It takes
+ * a context of each. */
+static bool has_mark(struct kr *connection) {
+    struct kr_identity own;
+    kr_own_identity(&own);
+    int64_t context = kr_hello_as(connection, &own);
+    if (context < 0) return false;
+    if (all.lines) return kr_enter_named(connection, (uint32_t)context, &all.mark, own.uid) == 0;
+    if (kr_name_session(&all.mark, NULL) < 0) return false;
+    all.mark.serial = kr_begin_session(connection, (uint32_t)context, all.mark.name, own.uid);
+    return all.mark.serial > 0;
 }
 
+/* Where another daemon answers there, that of the others may have ended: it is asked, so that this shows. */
 static struct line *open_line(int milliseconds) {
     struct kr *connection = kr_open_with(all.where.path, 0, milliseconds);
-    struct line *line = connection ? calloc(1, sizeof *line) : NULL;
+    struct line *line = connection ? calloc(1, sizeof *line) : NULL, *before;
     if (line) connection->until = kr_now() + milliseconds;
-    if (!line || (all.lines && !is_of_others(connection))) return kr_close(connection), forgotten(line);
+    if (!line || !has_mark(connection)) {
+        before = FIND(all.lines, at, !kr_is_broken(at->connection));
+        if (line && before) is_answered(before->connection);
+        return kr_close(connection), forgotten(line);
+    }
     all.beginnings += !all.lines;
     *line = (struct line){ .connection = connection, .age = ++all.last_age, .most = KEYRETAIN_READS,
                            .next = all.lines };
@@ -160,7 +172,7 @@ bool context_is_old(const struct context *context) {
 
 bool context_is_scarce(const struct context *context) {
     const struct line *line = line_of(context);
-    return line && line->count + SPARE > KR_CONTEXTS;
+    return line && line->count + SPARE >= KR_CONTEXTS; /* one more has the mark */
 }
 
 /* Whether the ask is to be made again: EINVAL is that of a client with as many contexts as it may have. */
@@ -256,8 +268,9 @@ void context_end(struct context *context) {
     context_forget(context);
 }
 
-/* Where the daemon doesn't say so in time, it may have one. */
+/* It may have one also where the daemon doesn't say so in time, or the keyring may not be searched. */
 bool context_has_keyring(const struct context *context, int32_t id) {
     struct kr *connection = context_connection(context);
-    return connection && (kr_get_id(connection, context->number, id, 0) >= 0 || errno == ETIMEDOUT);
+    if (!connection) return false;
+    return kr_get_id(connection, context->number, id, 0) >= 0 || (errno != ENOKEY && !kr_is_broken(connection));
 }

@@ -77,8 +77,10 @@ bool proc_read_status(pid_t thread, struct proc_status *status) {
     return true;
 }
 
-DIR *proc_begin(void) {
-    DIR *processes = opendir("/proc");
+DIR *proc_begin(pid_t process) {
+    char path[64] = "/proc";
+    if (process > 0) snprintf(path, sizeof path, "/proc/%d/task", (int)process);
+    DIR *processes = opendir(path);
     int spare = processes ? fcntl(dirfd(processes), F_DUPFD_CLOEXEC, 0) : -1;
     if (spare >= 0) close(spare);
     if (spare >= 0 || !processes) return processes;

@@ -33,9 +33,9 @@ bool proc_read(pid_t id, const char *name, char *text, size_t room);
 /* False where there is no such thread, or it may not be looked at. */
 bool proc_read_status(pid_t thread, struct proc_status *status);
 
-/* The processes of /proc, for closedir(3); NULL where no descriptor is left for what is read of them, as then all would
- * look as if they were gone. The next one, 0 behind the last. */
-DIR *proc_begin(void);
+/* The processes of /proc, or for one that isn't 0 its threads, for closedir(3); NULL where no descriptor is left for
+ * what is read of them, as then all would look as if they were gone. The next one, 0 behind the last. */
+DIR *proc_begin(pid_t process);
 pid_t proc_next(DIR *processes);
 
 /* 0 where it is outside of this PID namespace, -1 where it can't be looked at. */

@@ -177,7 +177,7 @@ static void see_tags(DIR *processes, bool (*keeps)(pid_t, const struct session *
 
 /* A process that is forked by one which ends may be missed once. */
 void sessions_sweep(bool (*keeps)(pid_t, const struct session *)) {
-    DIR *processes = sessions_want_sweep() ? proc_begin() : NULL;
+    DIR *processes = sessions_want_sweep() ? proc_begin(0) : NULL;
     if (!processes) return;
     for (struct session *session = all.sessions; session; session = session->next) session->absent++;
     see_tags(processes, keeps);

@@ -101,25 +101,38 @@ bool users_make_room(unsigned age) {
     return false;
 }
 
-/* Also a process that has asked nothing keeps its users' keys: user-keyring(7). */
-static void see_users(pid_t process) {
+/* Also a thread that has asked nothing keeps its users' keys: user-keyring(7). How many its process has. */
+static unsigned see_users(pid_t thread) {
     struct proc_status status;
-    if (!proc_read_status(process, &status)) return;
+    if (!proc_read_status(thread, &status)) return 0;
     uint32_t real = maps_uid(status.uids.real), effective = maps_uid(status.uids.effective);
     uint32_t saved = maps_uid(status.uids.saved);
     for (struct user *user = all; user; user = user->next) {
         uint32_t uid = user->identity.uid;
         user->is_away &= uid != real && uid != effective && uid != saved;
     }
+    return status.threads;
+}
+
+/* False where its threads can't be seen, which may have other uids each. */
+static bool see_process(pid_t process) {
+    if (see_users(process) <= 1) return true;
+    DIR *threads = proc_begin(process);
+    if (!threads) return errno == ENOENT;
+    for (pid_t thread; (thread = proc_next(threads)) > 0;) see_users(thread);
+    closedir(threads);
+    return true;
 }
 
 /* All wait meanwhile, so it is done once a second. Who came since isn't away, nor is anybody where it can't be seen. */
 static void look_who_is_away(void) {
     if (kr_now() < next_look) return;
-    DIR *processes = proc_begin();
-    for (struct user *user = all; user; user = user->next) user->is_away = processes != NULL;
+    DIR *processes = proc_begin(0);
+    bool is_seen = processes != NULL;
+    for (struct user *user = all; user; user = user->next) user->is_away = is_seen;
     if (!processes) return;
-    for (pid_t process; (process = proc_next(processes)) > 0;) see_users(process);
+    for (pid_t process; is_seen && (process = proc_next(processes)) > 0;) is_seen = see_process(process);
+    for (struct user *user = all; user; user = user->next) user->is_away &= is_seen;
     closedir(processes);
     next_look = kr_now() + LOOK_MILLISECONDS;
 }

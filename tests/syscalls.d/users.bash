@@ -231,6 +231,7 @@ try_flood() {
   serve --lanes 8
   prints "a user's key beside 250 identities that leave one each, and another client" $'kept\nserved' \
     sh -c '"$0" flood 250; timeout 5 "$1" --syscalls -- echo served' "$dir/tree" "$dir/$built/keyretain-session"
+  prints 'the same, of the user of a thread that is not the first' kept "$dir/tree" flood 250 stays thread
   prints 'the same of 250 that all live until the last has asked' $'kept\nserved' \
     sh -c '"$0" flood 250 stays; for i in 1 2 3 4; do timeout 5 "$1" --syscalls -- echo served && break; done' \
     "$dir/tree" "$dir/$built/keyretain-session"
