@@ -92,7 +92,7 @@ struct process *add_process(pid_t id, int descriptor) {
     if (process) *process = (struct process){ .kind = PROCESS, .id = id, .descriptor = descriptor, .memory = -1 };
     if (!process || !is_told_of(descriptor, process) || !(process->first = add_task(process, id, -1)))
         return close_one(&descriptor), forgotten(process);
-    process->shares_memory = proc_has_only_forked(id) && proc_may_share_memory(id, proc_parent(id));
+    process->is_fork = proc_has_only_forked(id, false);
     process->next = *bucket_of(id);
     *bucket_of(id) = process;
     TAILQ_INSERT_TAIL(&all.order, process, order);
@@ -149,12 +149,12 @@ void note_executed(struct process *process) {
     process->has_threads = false;
     sweep_no_more(process);
     close_one(&process->memory);
-    process->shares_memory = false;
+    process->is_fork = false;
 }
 
 bool has_executed(const struct process *process, uint64_t image) {
     if (process->memory < 0) return false;
-    return memory_is_gone(process->memory) || (process->shares_memory && !proc_has_only_forked(process->id)) ||
+    return memory_is_gone(process->memory) || (process->is_fork && !proc_has_only_forked(process->id, true)) ||
            (image != 0 && image != process->image);
 }
 

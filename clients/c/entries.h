@@ -74,7 +74,7 @@ struct process {
     pid_t id;
     int descriptor;
     int memory;         /* what it had when it last asked, by which it is seen that it executes something else; or -1 */
-    bool shares_memory; /* its parent's, after vfork(2): then that doesn't tell */
+    bool is_fork;       /* it had executed nothing when it first asked: its memory may be another's, by vfork(2) */
     uint64_t image;     /* what it executed when it last asked: others may have its memory too */
     bool has_threads;   /* some call has named a thread keyring: each thread has a context of its own */
     bool may_have_keyrings; /* some call has named a thread or process keyring */

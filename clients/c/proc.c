@@ -2,7 +2,6 @@
 #include "proc.h"
 
 #include <linux/auxvec.h>
-#include <linux/kcmp.h>
 
 enum { DECIMAL = 10, FORKED_AND_NOT_EXECUTED = 0x40 /* PF_FORKNOEXEC of the kernel */ };
 
@@ -77,6 +76,13 @@ bool proc_read_status(pid_t thread, struct proc_status *status) {
     return true;
 }
 
+pid_t proc_parent(pid_t process) {
+    char text[4096];
+    unsigned parent;
+    bool is_read = proc_read(process, "status", text, sizeof text) && read_number(text, "\nPPid:", &parent);
+    return is_read ? (pid_t)parent : -1;
+}
+
 DIR *proc_begin(pid_t process) {
     char path[64] = "/proc";
     if (process > 0) snprintf(path, sizeof path, "/proc/%d/task", (int)process);
@@ -109,25 +115,13 @@ bool proc_is_ours(void) {
 
 /* ---- stat ---- */
 
-/* The parent and the flags, which stand behind the program's name in parentheses. */
-static struct said {
-    pid_t parent;
-    unsigned flags;
-} read_stat(pid_t process) {
+/* The flags stand behind the program's name in parentheses. */
+bool proc_has_only_forked(pid_t process, bool unknown) {
     char text[1024];
-    struct said said;
+    unsigned flags;
     const char *end = proc_read(process, "stat", text, sizeof text) ? strrchr(text, ')') : NULL;
-    bool is_read = end && sscanf(end + 1, " %*c %d %*d %*d %*d %*d %u", &said.parent, &said.flags) == 2;
-    return is_read ? said : (struct said){ .parent = -1 };
-}
-
-pid_t proc_parent(pid_t process) { return read_stat(process).parent; }
-bool proc_has_only_forked(pid_t process) { return read_stat(process).flags & FORKED_AND_NOT_EXECUTED; }
-
-/* Only what the kernel says is another's memory is not shared. */
-bool proc_may_share_memory(pid_t process, pid_t parent) {
-    long order = syscall(SYS_kcmp, process, parent, KCMP_VM, 0, 0);
-    return order <= 0;
+    bool is_read = end && sscanf(end + 1, " %*c %*d %*d %*d %*d %*d %u", &flags) == 1;
+    return is_read ? flags & FORKED_AND_NOT_EXECUTED : unknown;
 }
 
 /* ---- auxv ---- */

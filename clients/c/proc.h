@@ -38,14 +38,12 @@ bool proc_read_status(pid_t thread, struct proc_status *status);
 DIR *proc_begin(pid_t process);
 pid_t proc_next(DIR *processes);
 
-/* 0 where it is outside of this PID namespace, -1 where it can't be looked at. */
+/* 0 where it is outside of this PID namespace, -1 where it can't be looked at. It doesn't wait for a process that is
+ * held up within execve(2), as by a file of FUSE that this closes: such a one may be above who is served. */
 pid_t proc_parent(pid_t process);
 
-/* Whether a process was forked and has executed nothing since. */
-bool proc_has_only_forked(pid_t process);
-
-/* Whether a process may have its parent's memory, as after vfork(2). */
-bool proc_may_share_memory(pid_t process, pid_t parent);
+/* Whether a process was forked and has executed nothing since; `unknown` where that can't be read. */
+bool proc_has_only_forked(pid_t process, bool unknown);
 
 /* AT_SECURE of getauxval(3), whether a process executes something that runs with more rights than its caller's, as what
  * is set-uid does; and AT_UID, the real uid that it was executed with, which may be another one now. False where they

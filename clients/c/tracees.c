@@ -224,7 +224,7 @@ int32_t caller_join(struct caller *caller, const char *name) {
 static struct process *have_parent(const struct session *session) {
     struct proc_status status;
     pid_t child = all.task->process->id, parent = proc_parent(child);
-    if (parent <= 1 || parent == getpid() || maps_are_outside(parent)) return NULL;
+    if (parent <= 1 || parent == getpid()) return NULL;
     struct process *process = find_process(parent);
     int descriptor = process ? -1 : proc_open(parent);
     bool is_one = (process || descriptor >= 0) && proc_read_status(parent, &status) &&

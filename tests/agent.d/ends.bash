@@ -113,6 +113,41 @@ memory = mmap.mmap(os.open(sys.argv[1], os.O_RDONLY), 1, mmap.MAP_PRIVATE)
 words = [b"user", ctypes.byref(ctypes.c_char.from_buffer(memory)), b"v", ctypes.c_size_t(1), -3]
 ctypes.CDLL(None).syscall(217 if os.uname().machine == "aarch64" else 248, *words)'
 
+# An orphan of a container, which has executed nothing, asks; then it gives its session to its parent. That is one that
+# isn't served, as another container's first process, and is within execve(2), which waits to close a file.
+try_held_parent() {
+  local held=$dir/above said
+  { is_root && python3 -c 1 2>/dev/null; } ||
+    { skipped 'an orphan whose parent is held up: not root, no setpriv, or no python3'; return; }
+  rm -rf "$held" "$held".*
+  mkdir "$held"
+  begin_agent
+  said=$(unshare -m python3 -B "$lib/served.py" "$held" flush bash -c 'python3 -c "$1" "$0/file" "${@:2}" >"$0.said" &
+    for _ in {1..500}; do [ ! -s "$0.said" ] || break; sleep 0.02; done
+    cat "$0.said"' "$held" "$is_above" "$dir/runtime" "$socket" a -- python3 -c "$is_orphan" "$held.held" \
+    </dev/null 2>/dev/null)
+  case $? in
+    77) skipped 'an orphan whose parent is held up: no FUSE can be had here' ;;
+    *) is 'an orphan whose parent is held up' 'True -1' "$said" ;;
+  esac
+  end_agent 'an agent beside a process that is held up'
+}
+
+is_above='import ctypes, os, sys
+ctypes.CDLL(None).prctl(36, 1) # PR_SET_CHILD_SUBREAPER
+if os.fork() == 0:
+    os.execv(sys.argv[2], sys.argv[2:])
+os.open(sys.argv[1], os.O_RDONLY)
+os.execvp("true", ["true"])'
+
+is_orphan='import ctypes, os, sys, time
+keyctl, libc, parent = 219 if os.uname().machine == "aarch64" else 250, ctypes.CDLL(None), os.getpid()
+if os.fork() > 0:
+    os._exit(0)
+while os.getppid() == parent or not os.path.exists(sys.argv[1]):
+    time.sleep(0.02)
+print(libc.syscall(keyctl, 0, -3, 0) > 0, libc.syscall(keyctl, 18))'
+
 # ---- A listener that is on its way while the server ends
 
 try_stopped_server() {
@@ -420,6 +455,7 @@ try_ends() {
   try_agent_killed
   try_agent_ended
   try_held_server
+  try_held_parent
   try_passed
   try_started
   try_no_daemon
