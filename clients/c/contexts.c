@@ -17,6 +17,9 @@ enum { CALL_MILLISECONDS = KEYRETAIN_CALL_MILLISECONDS, OPENING_MILLISECONDS = 1
  * processes that ask. All wait while a further connection is opened, so one that fails isn't tried again at once. */
 enum { IDENTITIES = 24, LASTING = 60, SPARE = 8, FURTHER_MILLISECONDS = 1000, PAUSE_MILLISECONDS = 10000 };
 
+/* Nobody else reads its name, and revokes it. */
+enum { MASK_OF_MARK = 0x3f000000 | KR_USER_MAY_SEARCH };
+
 /* Identities that no process has take this many connections at most, of those that others could have. */
 enum { LINES_OF_ABSENT = 4 };
 
@@ -63,7 +66,7 @@ static bool has_mark(struct kr *connection) {
     if (all.lines) return kr_enter_named(connection, (uint32_t)context, &all.mark, own.uid) == 0;
     if (kr_name_session(&all.mark, NULL) < 0) return false;
     all.mark.serial = kr_begin_session(connection, (uint32_t)context, all.mark.name, own.uid);
-    return all.mark.serial > 0;
+    return all.mark.serial > 0 && kr_setperm(connection, (uint32_t)context, all.mark.serial, MASK_OF_MARK) == 0;
 }
 
 /* Where another daemon answers there, that of the others may have ended: it is asked, so that this shows. */

@@ -92,7 +92,6 @@ struct process *add_process(pid_t id, int descriptor) {
     if (process) *process = (struct process){ .kind = PROCESS, .id = id, .descriptor = descriptor, .memory = -1 };
     if (!process || !is_told_of(descriptor, process) || !(process->first = add_task(process, id, -1)))
         return close_one(&descriptor), forgotten(process);
-    process->is_fork = proc_has_only_forked(id, false);
     process->next = *bucket_of(id);
     *bucket_of(id) = process;
     TAILQ_INSERT_TAIL(&all.order, process, order);

@@ -154,12 +154,23 @@ bool proc_read_auxv(pid_t process, bool *is_secure, uint32_t *uid) {
     return true;
 }
 
-/* FNV-1a. */
+/* FNV-1a. The file system of what it executes, which may be its own user's, isn't asked. */
 uint64_t proc_image(pid_t thread) {
-    char bytes[1024] = "";
+    struct {
+        char vector[1024];
+        uint64_t device[2], inode;
+    } told;
+    char path[64];
+    struct statx file;
     uint64_t sum = 1;
-    if (!proc_read(thread, "auxv", bytes, sizeof bytes)) return 0;
-    for (size_t i = 0; i < sizeof bytes; i++) sum = (sum ^ (unsigned char)bytes[i]) * UINT64_C(0x100000001b3);
+    memset(&told, 0, sizeof told);
+    snprintf(path, sizeof path, "/proc/%d/exe", (int)thread);
+    if (!proc_read(thread, "auxv", told.vector, sizeof told.vector)) return 0;
+    if (statx(AT_FDCWD, path, AT_STATX_DONT_SYNC, STATX_INO, &file) < 0) return 0;
+    told.device[0] = file.stx_dev_major;
+    told.device[1] = file.stx_dev_minor;
+    told.inode = file.stx_ino;
+    for (size_t i = 0; i < sizeof told; i++) sum = (sum ^ ((unsigned char *)&told)[i]) * UINT64_C(0x100000001b3);
     return sum | 1;
 }
 

@@ -50,9 +50,9 @@ bool proc_has_only_forked(pid_t process, bool unknown);
  * can't be read. */
 bool proc_read_auxv(pid_t process, bool *is_secure, uint32_t *uid);
 
-/* A number of all that execve(2) has told a process so, addresses among that; 0 where it isn't known. Another execve(2)
- * has another one, unless the process has seen to it that nothing is put at random, which it can't for what gains
- * rights. */
+/* A number of what a process executes, and of all that execve(2) has told it so, addresses among that; 0 where it isn't
+ * known. Another execve(2) has another one, unless that is of the same program, and the process has seen to it that
+ * nothing is put at random, which it can't for what gains rights. */
 uint64_t proc_image(pid_t thread);
 
 /* The soft limit RLIMIT_LOCKS. */

@@ -48,7 +48,10 @@ static struct task *settle_in(pid_t thread, struct arrival *arrival) {
         arrival->process_descriptor = -1;
     }
     if (!process) return NULL;
-    if (process->memory < 0) process->memory = fcntl(all.memory.file, F_DUPFD_CLOEXEC, 0);
+    if (process->memory < 0) {
+        process->memory = fcntl(all.memory.file, F_DUPFD_CLOEXEC, 0);
+        process->is_fork = proc_has_only_forked(process->id, false);
+    }
     if (process->memory < 0) return NULL;
     process->image = arrival->image;
     if (arrival->task) return arrival->task;

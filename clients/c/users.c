@@ -116,7 +116,7 @@ static unsigned see_users(pid_t thread) {
 
 /* False where its threads can't be seen, which may have other uids each. */
 static bool see_process(pid_t process) {
-    if (see_users(process) <= 1) return true;
+    if (see_users(process) == 1) return true; /* 0 where it isn't known */
     DIR *threads = proc_begin(process);
     if (!threads) return errno == ENOENT;
     for (pid_t thread; (thread = proc_next(threads)) > 0;) see_users(thread);

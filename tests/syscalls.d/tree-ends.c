@@ -88,12 +88,12 @@ static int stay(void *parent) {
     return prctl(PR_SET_PDEATHSIG, SIGKILL) == 0 && getppid() == *(const pid_t *)parent ? pause() : 2;
 }
 
-static int execute_beside(void) {
+static int execute_beside(const char *file) {
     static pid_t self;
     self = getpid();
     bool are_there = ring_of(KEY_SPEC_PROCESS_KEYRING, 1) > 0 && ring_of(KEY_SPEC_THREAD_KEYRING, 1) > 0;
     if (!are_there || clone(stay, stack + sizeof stack, CLONE_VM | SIGCHLD, &self) < 0) return 2;
-    execl("/proc/self/exe", "tree", "executed-beside", (char *)NULL);
+    execl(file, file, "executed-beside", file, (char *)NULL);
     return 2;
 }
 
@@ -217,7 +217,7 @@ int ends_modes(const char *mode, int many, int count, char **words) {
     if (strcmp(mode, "killed") == 0) return kill_in_calls(many);
     if (strcmp(mode, "killed-joining") == 0) return kill_in_joins(many);
     if (strcmp(mode, "executed") == 0) return execute_in_processes(many);
-    if (strcmp(mode, "executes-beside") == 0) return execute_beside();
+    if (strcmp(mode, "executes-beside") == 0) return execute_beside(count > 2 ? words[2] : "/proc/self/exe");
     if (strcmp(mode, "executed-beside") == 0) return tell_keyrings();
     if (strcmp(mode, "left") == 0) return leave_session();
     if (strcmp(mode, "kept-by-tag") == 0) return keep_by_tag();
