@@ -51,25 +51,26 @@ def add(c: Raw, secret: Secret, ring=U, desc="token") -> int:
 
 # Each takes a connection and a secret, and says how many copies may be left: the key's own, or none.
 
-KEY, PAYLOAD = object(), object()  # they stand for the key that was added, and for the secret
+# These stand for the key that was added, for the secret, and for a longer one.
+KEY, PAYLOAD, LONGER = object(), object(), object()
 EXPIRES = ("SET_TIMEOUT", KEY, 1), ("SLEEP", 1.1)
 
 
-def asks(*rows, ring=None, wants=0):
-    """A way of these asks, or pauses, behind an ADD to a ring if one is named. The last one has this status."""
+def asks(*rows, ring=None, wants=0, left=0):
+    """A way of these asks, ends and pauses, behind an ADD to a ring if one is named. The last ask has this status, a
+    READ that is accepted gives the secret, and so many copies are left."""
     def way(c, s):
-        stands = {KEY: ring and add(c, s, ring), PAYLOAD: s.payload}
+        stands = {KEY: ring and add(c, s, ring), PAYLOAD: s.payload, LONGER: b"z" * (2 * len(s.payload) % 32767 + 1)}
         for at, (name, *values) in enumerate(rows, 1):
-            if name == "SLEEP":
-                time.sleep(*values)
+            if name in ("CLOSE", "SLEEP"):
+                c.close() if name == "CLOSE" else time.sleep(*values)
                 continue
-            c.ask(name, *[stands.get(it, it) for it in values], wants=wants if at == len(rows) else 0)
+            status = wants if at == len(rows) else 0
+            answer = c.ask(name, *[stands.get(it, it) for it in values], wants=status)
+            assert name != "READ" or status or answer == s.payload
+        return left
 
     return way
-
-
-def update_longer(c, s):
-    c.ask("UPDATE", add(c, s), b"z" * (2 * len(s.payload) % 32767 + 1))
 
 
 def move_over(c, s):
@@ -78,28 +79,6 @@ def move_over(c, s):
     add(c, s, ring)
     key = c.ask("ADD", "user", "token", b"other", U)
     c.ask("MOVE", key, U, ring, 0)
-
-
-def expire(c, s):
-    """An expired key keeps its payload until it is unlinked, displaced or dropped: profile, expired keys stay."""
-    key = add(c, s)
-    c.ask("SET_TIMEOUT", key, 1)
-    time.sleep(1.1)
-    c.ask("READ", key, wants=127)
-    return 1
-
-
-def join(c, s):
-    """The session keyring goes with its keys as another is joined."""
-    c.ask("JOIN", "")
-    add(c, s, S)
-    c.ask("JOIN", "")
-
-
-def close(c, s):
-    add(c, s, P)
-    c.close()
-    time.sleep(0.3)
 
 
 def close_readers(c, s):
@@ -132,12 +111,6 @@ def refused_fault(c, s):
     time.sleep(0.2)
 
 
-def kept(c, s):
-    """An ADD alone: the key has it, and nothing else."""
-    add(c, s)
-    return 1
-
-
 def pieces(c, s):
     """The same, sent in three parts."""
     whole = c.frame("ADD", "user", "token", s.payload, U)
@@ -148,12 +121,6 @@ def pieces(c, s):
     return 1
 
 
-def read(c, s):
-    key = add(c, s)
-    assert c.ask("READ", key) == s.payload
-    return 1
-
-
 def read_many(c, s):
     """Twenty READs sent ahead, whose replies go out together."""
     key = add(c, s)
@@ -161,12 +128,6 @@ def read_many(c, s):
     for _ in range(20):
         assert c.reply() == (0, s.payload)
     return 1
-
-
-def read_revoke(c, s):
-    key = add(c, s)
-    assert c.ask("READ", key) == s.payload
-    c.ask("REVOKE", key)
 
 
 def read_unread(c, s):
@@ -204,18 +165,24 @@ def batch(c, s):
 
 
 OVER = "ADD", "user", "token", b"other", U
-WAYS = {"kept: ADD": kept, "kept: ADD in three parts": pieces, "kept: READ": read, "kept: 20 READs ahead": read_many,
-        "UPDATE": asks(("UPDATE", KEY, b"other"), ring=U), "UPDATE, longer": update_longer,
+# An expired key keeps its payload until it is unlinked, displaced or dropped (profile, expired keys stay), and the keys
+# of a session keyring go as another is joined.
+WAYS = {"kept: ADD": asks(ring=U, left=1), "kept: ADD in three parts": pieces,
+        "kept: READ": asks(("READ", KEY), ring=U, left=1), "kept: 20 READs ahead": read_many,
+        "UPDATE": asks(("UPDATE", KEY, b"other"), ring=U), "UPDATE, longer": asks(("UPDATE", KEY, LONGER), ring=U),
         "UPDATE, one byte": asks(("UPDATE", KEY, b"z"), ring=U), "ADD over it": asks(OVER, ring=U),
         "expired, ADD over it": asks(*EXPIRES, OVER, ring=U), "REVOKE": asks(("REVOKE", KEY), ring=U),
         "REVOKE, UNLINK": asks(("REVOKE", KEY), ("UNLINK", KEY, U), ring=U),
         "INVALIDATE": asks(("INVALIDATE", KEY), ring=U), "UNLINK": asks(("UNLINK", KEY, U), ring=U),
         "CLEAR": asks(("CLEAR", U), ring=U), "MOVE over it": move_over,
         "expired, UNLINK": asks(*EXPIRES, ("UNLINK", KEY, U), ring=U),
-        "expired": expire, "JOIN": join, "EXEC": asks(("EXEC",), ring=P), "EXIT": asks(("EXIT",), ring=T),
-        "LEAVE": asks(("LEAVE",), ring=P), "close": close, "readers close, REVOKE": close_readers,
+        "expired": asks(*EXPIRES, ("READ", KEY), ring=U, wants=127, left=1),
+        "JOIN": asks(("JOIN", ""), ("ADD", "user", "token", PAYLOAD, S), ("JOIN", "")),
+        "EXEC": asks(("EXEC",), ring=P), "EXIT": asks(("EXIT",), ring=T), "LEAVE": asks(("LEAVE",), ring=P),
+        "close": asks(("CLOSE",), ("SLEEP", 0.3), ring=P), "readers close, REVOKE": close_readers,
         "close amid ADD": cut, "fault in ADD": refused_fault,
         "ADD: ENODEV": asks(("ADD", "nosuch", "token", PAYLOAD, U), wants=19),
         "ADD: ENOKEY": asks(("ADD", "user", "token", PAYLOAD, 2_000_000_000), wants=126),
-        "UPDATE: ENOKEY": asks(("UPDATE", 2_000_000_000, PAYLOAD), wants=126), "READ, REVOKE": read_revoke,
-        "READs not taken, close": read_unread, "READs, a long READ, REVOKE": read_behind, "UPDATE, REVOKE ahead": batch}
+        "UPDATE: ENOKEY": asks(("UPDATE", 2_000_000_000, PAYLOAD), wants=126),
+        "READ, REVOKE": asks(("READ", KEY), ("REVOKE", KEY), ring=U), "READs not taken, close": read_unread,
+        "READs, a long READ, REVOKE": read_behind, "UPDATE, REVOKE ahead": batch}
