@@ -26,32 +26,23 @@ def try_own():
     me, group = os.geteuid(), os.getegid()
     who = (USER_A, GROUP_A, [4100, 4200]) if ROOT else ()
     uid, gid, extra = (USER_A, GROUP_A, [4100, 4200]) if ROOT else (me, group, os.getgroups()[:2])
+    as_gid = [('a group as gid', 0, uid, it) for it in extra[:1]]
+    if uid != gid and uid not in os.getgroups():
+        as_gid.append(('the uid as gid', EPERM, uid, uid))
     for tag in (None, 7):
-        tagged = tag is not None
         client = run.one(*who)
-        check('own', client.status(hello(uid, gid, tag=tag), tagged=tagged), 0)
-        check('own, with groups', client.status(hello(uid, gid, extra, tag=tag), tagged=tagged), 0)
-        check('own, own gid among the groups', client.status(hello(uid, gid, [gid], tag=tag), tagged=tagged), 0)
-        if extra:
-            check('a group as gid', client.status(hello(uid, extra[0], tag=tag), tagged=tagged), 0)
-        check('another uid', client.status(hello(uid + 1, gid, tag=tag), tagged=tagged), EPERM)
-        check('uid 0', client.status(hello(0 if ROOT else 1, gid, tag=tag), tagged=tagged), EPERM)
-        check('another gid', client.status(hello(uid, 7777, tag=tag), tagged=tagged), EPERM)
-        if uid != gid and uid not in os.getgroups():
-            check('the uid as gid', client.status(hello(uid, uid, tag=tag), tagged=tagged), EPERM)
-        check('gid 0', client.status(hello(uid, 0 if ROOT else 1, tag=tag), tagged=tagged), EPERM)
-        check('another group', client.status(hello(uid, gid, [*extra, 7777], tag=tag), tagged=tagged), EPERM)
-        check('another group, first', client.status(hello(uid, gid, [7777, *extra], tag=tag), tagged=tagged), EPERM)
-        check('32 groups', client.status(hello(uid, gid, [gid] * 32, tag=tag), tagged=tagged), 0)
-        check('32 groups, the last foreign', client.status(hello(uid, gid, [gid] * 31 + [7777], tag=tag),
-                                                           tagged=tagged), EPERM)
-        check('33 groups', client.status(hello(uid, gid, [gid] * 33, tag=tag), tagged=tagged), EINVAL)
-        check('33 foreign groups', client.status(hello(uid, gid, [5] * 33, tag=tag), tagged=tagged), EINVAL)
-        check('1000 groups', client.status(hello(uid, gid, [5] * 1000, tag=tag), tagged=tagged), EINVAL)
-        check('no uid', client.status(hello(2**32 - 1, gid, tag=tag), tagged=tagged), EINVAL)
-        check('no gid', client.status(hello(uid, 2**32 - 1, tag=tag), tagged=tagged), EINVAL)
-        check('no group', client.status(hello(uid, gid, [2**32 - 1], tag=tag), tagged=tagged), EINVAL)
-        check('own, after all these', client.status(hello(uid, gid, tag=tag), tagged=tagged), 0)
+        for name, wanted, *claim in (
+                ('own', 0, uid, gid), ('own, with groups', 0, uid, gid, extra),
+                ('own, own gid among the groups', 0, uid, gid, [gid]), *as_gid, ('another uid', EPERM, uid + 1, gid),
+                ('uid 0', EPERM, 0 if ROOT else 1, gid), ('another gid', EPERM, uid, 7777),
+                ('gid 0', EPERM, uid, 0 if ROOT else 1), ('another group', EPERM, uid, gid, [*extra, 7777]),
+                ('another group, first', EPERM, uid, gid, [7777, *extra]), ('32 groups', 0, uid, gid, [gid] * 32),
+                ('32 groups, the last foreign', EPERM, uid, gid, [gid] * 31 + [7777]),
+                ('33 groups', EINVAL, uid, gid, [gid] * 33), ('33 foreign groups', EINVAL, uid, gid, [5] * 33),
+                ('1000 groups', EINVAL, uid, gid, [5] * 1000), ('no uid', EINVAL, 2**32 - 1, gid),
+                ('no gid', EINVAL, uid, 2**32 - 1), ('no group', EINVAL, uid, gid, [2**32 - 1]),
+                ('own, after all these', 0, uid, gid)):
+            check(name, client.status(hello(*claim, tag=tag), tagged=tag is not None), wanted)
     check('ends well', run.end(), 0)
 
 
