@@ -48,21 +48,18 @@ static void take_identity(bool is_now) {
 }
 
 unsigned long getauxval(unsigned long type) {
-    __typeof__(&getauxval) ours = OURS(getauxval);
     take_identity(taken == LOOKING);
-    return ours(type);
+    return OURS(getauxval)(type);
 }
 
 int connect(int end, __CONST_SOCKADDR_ARG address, socklen_t length) {
-    __typeof__(&connect) ours = OURS(connect);
     take_identity(taken == CONNECTING);
-    return ours(end, address, length);
+    return OURS(connect)(end, address, length);
 }
 
 ssize_t recv(int end, void *room, size_t length, int flags) {
-    __typeof__(&recv) ours = OURS(recv);
     take_identity(taken == RECEIVING);
-    return ours(end, room, length, flags);
+    return OURS(recv)(end, room, length, flags);
 }
 
 /* meanwhile: a first call in which that is so, and another one. */
@@ -263,8 +260,7 @@ static void join_interrupted(void) {
 static bool is_environment_full;
 
 int setenv(const char *name, const char *value, int overwrite) {
-    __typeof__(&setenv) ours = OURS(setenv);
-    if (!is_environment_full) return ours(name, value, overwrite);
+    if (!is_environment_full) return OURS(setenv)(name, value, overwrite);
     errno = ENOMEM;
     return -1;
 }
@@ -291,8 +287,7 @@ static void leave_sessions(void) {
 static time_t passed;
 
 int clock_gettime(clockid_t clock, struct timespec *moment) {
-    __typeof__(&clock_gettime) ours = OURS(clock_gettime);
-    int told = ours(clock, moment);
+    int told = OURS(clock_gettime)(clock, moment);
     moment->tv_sec += passed;
     return told;
 }
@@ -307,8 +302,7 @@ static void ask_later(void) {
 static int blind_from = INT_MAX;
 
 int fstat(int descriptor, struct stat *status) {
-    __typeof__(&fstat) ours = OURS(fstat);
-    if (descriptor < blind_from) return ours(descriptor, status);
+    if (descriptor < blind_from) return OURS(fstat)(descriptor, status);
     errno = EACCES;
     return -1;
 }
@@ -436,25 +430,17 @@ int main(int count, char **given) {
     static const struct {
         const char *name;
         void (*run)(void);
-    } modes[] = { { "sockets", see_sockets },     { "identities", take_identities },
-                  { "drop", drop_identity },      { "drop-groups", drop_groups },
-                  { "held-up", hold_up },         { "entered", take_identity_entering },
-                  { "meanwhile", take_identity_meanwhile },
-                  { "group", read_by_group },     { "back", go_and_come_back },
+    } modes[] = { { "sockets", see_sockets }, { "identities", take_identities }, { "drop", drop_identity },
+                  { "drop-groups", drop_groups }, { "held-up", hold_up }, { "entered", take_identity_entering },
+                  { "meanwhile", take_identity_meanwhile }, { "group", read_by_group }, { "back", go_and_come_back },
                   { "effective-group", read_by_effective_group }, { "each", ask_as_each },
-                  { "saved", come_back_by_saved },
-                  { "process-one", be_process_one }, { "open", open_session },
-                  { "hold", hold_session },       { "read", read_possessed },
-                  { "join", join },               { "interrupted", join_interrupted },
-                  { "no-memory", join_without_memory }, { "blind", ask_blindly },
-                  { "blind-join", join_blindly },
-                  { "left", leave_sessions },     { "later", ask_later },
-                  { "again", join_again },        { "twice", ask_twice },
-                  { "as-other", join_as_other },  { "execute", execute },
-                  { "put", put_key },             { "hide", hide_key },
-                  { "links", count_links },       { "session", see_session },
-                  { "peer", see_peer },           { "ask", ask_there },
-                  { "where", see_path } };
+                  { "saved", come_back_by_saved }, { "process-one", be_process_one }, { "open", open_session },
+                  { "hold", hold_session }, { "read", read_possessed }, { "join", join },
+                  { "interrupted", join_interrupted }, { "no-memory", join_without_memory }, { "blind", ask_blindly },
+                  { "blind-join", join_blindly }, { "left", leave_sessions }, { "later", ask_later },
+                  { "again", join_again }, { "twice", ask_twice }, { "as-other", join_as_other },
+                  { "execute", execute }, { "put", put_key }, { "hide", hide_key }, { "links", count_links },
+                  { "session", see_session }, { "peer", see_peer }, { "ask", ask_there }, { "where", see_path } };
     if (count < 2) return 2;
     words = given + 2;
     setlinebuf(stdout);

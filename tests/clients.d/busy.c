@@ -55,8 +55,7 @@ static time_t step, passed;
 static const struct timespec *stands; /* where not NULL, the clock stands here */
 
 int clock_gettime(clockid_t clock, struct timespec *moment) {
-    __typeof__(&clock_gettime) ours = OURS(clock_gettime);
-    int told = ours(clock, moment);
+    int told = OURS(clock_gettime)(clock, moment);
     if (step) passed += step;
     moment->tv_sec += passed;
     if (stands) *moment = *stands;
@@ -138,9 +137,8 @@ static void want_contexts_stopped(void) {
 static atomic_int connections;
 
 int connect(int descriptor, const struct sockaddr *address, socklen_t length) {
-    __typeof__(&connect) ours = OURS(connect);
     if (atomic_fetch_add(&connections, 1) == 0) usleep(1000000);
-    return ours(descriptor, address, length);
+    return OURS(connect)(descriptor, address, length);
 }
 
 static void *ask_once(void *unused) {
@@ -271,8 +269,7 @@ static bool is_full;
 
 int posix_spawn(pid_t *child, const char *path, const posix_spawn_file_actions_t *actions,
                 const posix_spawnattr_t *attributes, char *const words[], char *const environment[]) {
-    __typeof__(&posix_spawn) ours = OURS(posix_spawn);
-    return is_full ? EAGAIN : ours(child, path, actions, attributes, words, environment);
+    return is_full ? EAGAIN : OURS(posix_spawn)(child, path, actions, attributes, words, environment);
 }
 
 /* no-process: joins a session when no keeper can be started. */
@@ -294,12 +291,10 @@ int main(int count, char **given) {
     static const struct {
         const char *name;
         void (*run)(void);
-    } modes[] = { { "fair", wait_beside_others },   { "crowd", ask_as_crowd },
-                  { "stalled", ask_stopped },       { "threads", want_own_stopped },
-                  { "late", want_contexts_stopped }, { "many", ask_as_many },
-                  { "silent", ask_beside_silent },  { "held", hold },
-                  { "thread", hold_for_thread },    { "no-process", join_when_full },
-                  { "read", read_often } };
+    } modes[] = { { "fair", wait_beside_others }, { "crowd", ask_as_crowd }, { "stalled", ask_stopped },
+                  { "threads", want_own_stopped }, { "late", want_contexts_stopped }, { "many", ask_as_many },
+                  { "silent", ask_beside_silent }, { "held", hold }, { "thread", hold_for_thread },
+                  { "no-process", join_when_full }, { "read", read_often } };
     if (count < 2) return 2;
     words = given + 2;
     for (size_t i = 0; i < sizeof modes / sizeof *modes; i++)

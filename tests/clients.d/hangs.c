@@ -240,7 +240,7 @@ int main(int count, char **words) {
     static const struct {
         const char *name;
         const char *(*run)(void);
-    } modes[] = { { "fork", try_fork },   { "end", try_end },       { "cancel", try_cancel },   { "crowd", try_crowd },
+    } modes[] = { { "fork", try_fork }, { "end", try_end }, { "cancel", try_cancel }, { "crowd", try_crowd },
                   { "child", try_child }, { "halves", try_halves }, { "environment", try_environment },
                   { "cancel-at-end", try_cancel_at_end }, { "handler", try_handler } };
     if (count != 3) return 2;

@@ -298,11 +298,10 @@ int main(int count, char **words) {
     static const struct {
         const char *name;
         const char *(*run)(void);
-    } modes[] = { { "zero", try_zero }, { "signals", try_signals },   { "drip", try_drip },   { "half", try_half },
-                  { "dump", try_dump }, { "no frame", try_no_frame }, { "empty", try_empty },
-                  { "sent", try_sent }, { "read", try_read },       { "full", try_full },     { "closed", try_closed },
-                  { "long", try_long }, { "longest", try_longest },
-                  { "note", try_note }, { "lost", try_lost } };
+    } modes[] = { { "zero", try_zero }, { "signals", try_signals }, { "drip", try_drip }, { "half", try_half },
+                  { "dump", try_dump }, { "no frame", try_no_frame }, { "empty", try_empty }, { "sent", try_sent },
+                  { "read", try_read }, { "full", try_full }, { "closed", try_closed }, { "long", try_long },
+                  { "longest", try_longest }, { "note", try_note }, { "lost", try_lost } };
     if (count != 3) return 2;
     path = words[1];
     signal(SIGALRM, on_alarm);
