@@ -7,12 +7,10 @@ ZSHDIR = $(PREFIX)/share/zsh/site-functions
 FISHDIR = $(PREFIX)/share/fish/vendor_completions.d
 PYTHON = python3
 
-# What `make install` puts there and `make uninstall` takes away: a source, its place and its mode; or a link to it. Who
-# may not read a program isn't shown the memory of what it runs.
+# What `make install` puts there and `make uninstall` takes away. Who may not read a program isn't shown the memory of what
+# it runs.
 INSTALLED = 'bin/keyretain:$(BINDIR)/keyretain:755' 'bin/keyretaind:$(SBINDIR)/keyretaind:711' \
-  'man/keyretain.1:$(MANDIR)/man1/keyretain.1:644' \
-  'man/keyretain-protocol.7:$(MANDIR)/man7/keyretain-protocol.7:644' \
-  'man/keyretaind.8:$(MANDIR)/man8/keyretaind.8:644' \
+  $(call pages,keyretain.1 keyretain-protocol.7 keyretaind.8) \
   'contrib/systemd/keyretaind.service:$(UNITDIR)/keyretaind.service:644' \
   'contrib/systemd/keyretaind@.service:$(UNITDIR)/keyretaind@.service:644' \
   'contrib/systemd/user/keyretaind.service:$(USERUNITDIR)/keyretaind.service:644' \
@@ -144,10 +142,7 @@ part = +@if $(1); then $(MAKE) -s -C $(2) install PREFIX="$(PREFIX)" DESTDIR="$(
 install:
 	@cd bin 2>/dev/null && sha256sum --status -c proved 2>/dev/null || \
 	  { echo 'run make build first: what it proved is installed, and nothing else' >&2; exit 1; }
-	@set -e; IFS=:; for row in $(INSTALLED); do set -- $$row; to="$(DESTDIR)$$2"; install -d "$${to%/*}"; \
-	  case $$1:$$3 in *:link) ln -sf "$$1" "$$to" ;; *.service:*) sed -e '/^ExecStart=/s|@sbindir@|$(SBINDIR)|' \
-	    -e '/^ExecCondition=/s|@bindir@|$(BINDIR)|' "$$1" >"$$to"; chmod "$$3" "$$to" ;; \
-	  *) install -m "$$3" "$$1" "$$to" ;; esac; done
+	$(call put,$(INSTALLED))
 	$(call part,[ -x guard/build/keyretain-guard ],guard,the guard is,make guard builds it)
 	$(call part,[ -d clients/c/build ],clients/c,the C clients are,make clients builds them)
 	$(call part,[ -e pam/build/pam_keyretain.so ],pam,the PAM module is,make pam builds it)
@@ -173,7 +168,7 @@ dist:
 uninstall:
 	@set -e; for part in clients/c guard pam ssh-agent clients/python; do \
 	  $(MAKE) -s -C $$part uninstall PREFIX="$(PREFIX)" DESTDIR="$(DESTDIR)" PYTHON="$(PYTHON)"; done
-	@IFS=:; for row in $(INSTALLED); do set -- $$row; rm -f "$(DESTDIR)$$2"; done
+	$(call take,$(INSTALLED))
 	@for folder in "$(DESTDIR)$(PREFIX)/lib" "$(DESTDIR)$(PREFIX)/libexec" "$(DESTDIR)$(PREFIX)/share"; do \
 	  [ ! -d "$$folder/keyretain" ] || rmdir --ignore-fail-on-non-empty "$$folder/keyretain"; done
 	@[ ! -d "$(DESTDIR)/etc/systemd" ] || find "$(DESTDIR)/etc/systemd" -type l \

@@ -12,6 +12,14 @@ UNITDIR = $(PREFIX)/lib/systemd/system
 USERUNITDIR = $(PREFIX)/lib/systemd/user
 SYSUSERSDIR = $(PREFIX)/lib/sysusers.d
 
-# $(call put,FILE,FOLDER): puts a file there that names the folder of its program, as a unit does.
-put = sed '/^Exec/{ s|@bindir@|$(BINDIR)|g; s|@sbindir@|$(SBINDIR)|g }' $(1) >"$(DESTDIR)$(2)/$(notdir $(1))" && \
-  chmod 644 "$(DESTDIR)$(2)/$(notdir $(1))"
+# $(call pages,NAME ..): the rows of manual pages.
+SOURCES_OF_ALL := $(dir $(lastword $(MAKEFILE_LIST)))..
+pages = $(foreach it,$(1),'$(SOURCES_OF_ALL)/man/$(it):$(MANDIR)/man$(subst .,,$(suffix $(it)))/$(it):644')
+
+# What is put, and taken away again, is a row each: a source, its place and its mode; or a name, the place of a link to
+# it, and `link`. A unit names the folder of its program.
+put = @set -e; IFS=:; for row in $(1); do set -- $$row; to="$(DESTDIR)$$2"; install -d "$${to%/*}"; \
+  case $$1:$$3 in *:link) ln -sf "$$1" "$$to" ;; *.service:*) \
+    sed '/^Exec/{ s|@bindir@|$(BINDIR)|g; s|@sbindir@|$(SBINDIR)|g }' "$$1" >"$$to"; chmod "$$3" "$$to" ;; \
+  *) install -m "$$3" "$$1" "$$to" ;; esac; done
+take = @IFS=:; for row in $(1); do set -- $$row; rm -f "$(DESTDIR)$$2"; done
