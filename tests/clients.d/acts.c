@@ -25,9 +25,7 @@ static void wait_for_end(void) {
 }
 
 /* sockets: how many are open. */
-static void see_sockets(void) {
-    printf("%d\n", count_sockets());
-}
+static void see_sockets(void) { printf("%d\n", count_sockets()); }
 
 /* identities: asks as another user first, then as root, then as a third one. */
 static void take_identities(void) {

@@ -84,9 +84,7 @@ static void ask_stopped(void) {
     printf("%d late, then %s\n", late, word_of(is_answered));
 }
 
-static void *make_ring(void *unused) {
-    return (void *)(long)keyctl_get_keyring_ID(KEY_SPEC_THREAD_KEYRING, 1);
-}
+static void *make_ring(void *unused) { return (void *)(long)keyctl_get_keyring_ID(KEY_SPEC_THREAD_KEYRING, 1); }
 
 /* threads DAEMON: the same of a thread that wants a context of its own, in a process that has one already. */
 static void *make_ring_stopped(void *late) {
@@ -141,9 +139,7 @@ int connect(int descriptor, const struct sockaddr *address, socklen_t length) {
     return OURS(connect)(descriptor, address, length);
 }
 
-static void *ask_once(void *unused) {
-    return (void *)ask();
-}
+static void *ask_once(void *unused) { return (void *)ask(); }
 
 /* crowd: how many connections are made for threads that ask while the first one is being made, and a second isn't
  * over. */

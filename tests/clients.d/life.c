@@ -13,9 +13,7 @@ static const char *scratch_file;
 
 /* ---- Threads ---- */
 
-static bool has_no_key(const char *description) {
-    return refused(request_key("user", description, NULL, 0), ENOKEY);
-}
+static bool has_no_key(const char *description) { return refused(request_key("user", description, NULL, 0), ENOKEY); }
 
 static void *see_from_thread(void *unused) {
     char buffer[8];
@@ -166,9 +164,7 @@ static bool has_no_connection(key_serial_t session, key_serial_t key) {
     return open_descriptors() == descriptors_of_parent - 1;
 }
 
-static bool closes_all(key_serial_t session, key_serial_t key) {
-    return leaves_files_alone();
-}
+static bool closes_all(key_serial_t session, key_serial_t key) { return leaves_files_alone(); }
 
 static bool asks_and_closes_all(key_serial_t session, key_serial_t key) {
     return sees_session(session, key) && leaves_files_alone();
@@ -194,13 +190,9 @@ static bool closes_from(int first, key_serial_t key) {
     return asks && inherited_sockets() == before;
 }
 
-static bool closes_standard(key_serial_t session, key_serial_t key) {
-    return closes_from(STDIN_FILENO, key);
-}
+static bool closes_standard(key_serial_t session, key_serial_t key) { return closes_from(STDIN_FILENO, key); }
 
-static bool closes_error(key_serial_t session, key_serial_t key) {
-    return closes_from(STDERR_FILENO, key);
-}
+static bool closes_error(key_serial_t session, key_serial_t key) { return closes_from(STDERR_FILENO, key); }
 
 static void try_descriptors(key_serial_t session, key_serial_t key) {
     descriptors_of_parent = open_descriptors();

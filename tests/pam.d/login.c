@@ -36,13 +36,9 @@ static void tell_status(const char *act, int status) {
 
 /* ---- Acts ---- */
 
-static void open_session(const char *word) {
-    tell_status("open", pam_open_session(handle, 0));
-}
+static void open_session(const char *word) { tell_status("open", pam_open_session(handle, 0)); }
 
-static void close_session(const char *word) {
-    tell_status("close", pam_close_session(handle, 0));
-}
+static void close_session(const char *word) { tell_status("close", pam_close_session(handle, 0)); }
 
 static void end(const char *word) {
     tell_status("end", pam_end(handle, PAM_SUCCESS));
@@ -160,9 +156,7 @@ static void show_offspring(const char *word) {
 }
 
 /* A signal each two milliseconds, by which calls are interrupted; or no more. */
-static void interrupt_often(const char *word) {
-    interrupt_after(*word ? 0 : 2000, *word ? 0 : 2000);
-}
+static void interrupt_often(const char *word) { interrupt_after(*word ? 0 : 2000, *word ? 0 : 2000); }
 
 /* A SIGPIPE that is there already, and held back. */
 static void hold_pipe_signal(const char *word) {

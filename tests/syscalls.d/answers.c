@@ -220,9 +220,7 @@ static bool joins_its_own(long session) {
 }
 
 /* Its parent's is another one from the parent's next return from the kernel on. */
-static bool gives_its_own(long unused) {
-    return join(NULL) > 0 && keyctl(KEYCTL_SESSION_TO_PARENT, 0, 0, 0, 0) == 0;
-}
+static bool gives_its_own(long unused) { return join(NULL) > 0 && keyctl(KEYCTL_SESSION_TO_PARENT, 0, 0, 0, 0) == 0; }
 
 /* A child that was forked before its parent joins has the session of before. */
 static void try_order(long before, long *after) {

@@ -24,9 +24,7 @@ static inline long ring_of(int id, int create) {
     return keyctl(KEYCTL_GET_KEYRING_ID, (unsigned long)(long)id, (unsigned long)create, 0, 0);
 }
 
-static inline long join(const char *name) {
-    return keyctl(KEYCTL_JOIN_SESSION_KEYRING, (unsigned long)name, 0, 0, 0);
-}
+static inline long join(const char *name) { return keyctl(KEYCTL_JOIN_SESSION_KEYRING, (unsigned long)name, 0, 0, 0); }
 
 static inline long read_key(long key, void *buffer, size_t room) {
     return keyctl(KEYCTL_READ, (unsigned long)key, (unsigned long)buffer, room, 0);

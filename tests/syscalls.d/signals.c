@@ -13,9 +13,7 @@ enum { TIMER_MICROSECONDS = 200, AWHILE_MICROSECONDS = 300000 };
 
 static volatile sig_atomic_t arrived;
 
-static void note(int number) {
-    arrived = 1;
-}
+static void note(int number) { arrived = 1; }
 
 static void handle(int flags) {
     struct sigaction action = { .sa_handler = note, .sa_flags = flags };
@@ -48,9 +46,7 @@ static int storm_restarted(int count) {
     return wrong;
 }
 
-static bool is_there(const char *description) {
-    return find(KEY_SPEC_PROCESS_KEYRING, description) > 0;
-}
+static bool is_there(const char *description) { return find(KEY_SPEC_PROCESS_KEYRING, description) > 0; }
 
 /* Without it the call answers EINTR: then nothing was done. */
 static int storm_interrupted(int count) {
