@@ -15,7 +15,7 @@ import traceback
 from collections import defaultdict
 from typing import NamedTuple
 
-from compare import compare, conclude
+from compare import compare, conclude, outcome
 from daemons import connect
 import keyretain
 import versions
@@ -77,10 +77,7 @@ class Client:
                     raise ConnectionResetError("the daemon has ended the connection")
                 self.received += piece
             self.received = self.received[reply.length:]
-            try:
-                answers.append(keyretain.answer_of(name, reply))
-            except keyretain.Refused as refused:
-                answers.append(refused.name)
+            answers.append(outcome(keyretain.answer_of, name, reply))
         got = time.monotonic_ns()
         for (name, _, values), answer in zip(batch, answers):
             self.events.append(Event(self.number, sent, got, self.uid, name, list(values), answer))

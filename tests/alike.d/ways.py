@@ -13,6 +13,7 @@ import tempfile
 import daemons
 import keyretain
 import versions
+from compare import outcome
 from lines import Player, ask_of, printed
 
 PATIENCE = 120
@@ -87,19 +88,13 @@ class Process:
         self.process.stdout.close()
 
 
-class Script:
+class Script(Process):
     """`keyretain script`, on a store of its own."""
 
     name = "a script"
 
     def __init__(self):
-        self.program = Process([Programs.keyretain, "script"])
-
-    def play(self, lines):
-        return self.program.play(lines)
-
-    def end(self):
-        self.program.end()
+        super().__init__([Programs.keyretain, "script"])
 
 
 class OfDaemon:
@@ -219,10 +214,7 @@ class Frames(OfDaemon):
         self.received = self.received[reply.length:]
         if reply.tag not in (None, tag):
             return f"the tag {reply.tag}"
-        try:
-            return printed(name, keyretain.answer_of(name, reply))
-        except keyretain.Refused as refused:
-            return printed(name, refused.name)
+        return printed(name, outcome(keyretain.answer_of, name, reply))
 
     def close(self):
         self.end_of_it.close()

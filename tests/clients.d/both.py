@@ -12,14 +12,6 @@ ALL = 0x3F3F3F3F
 THREAD, SESSION, USER = keyretain.THREAD, keyretain.SESSION, keyretain.USER
 
 
-def answer(run, *words):
-    """What a call of the Python client answers, or the name of its error."""
-    try:
-        return run(*words)
-    except keyretain.Refused as refused:
-        return refused.name
-
-
 class Library:
     """A connection of libkeyretain. A refused call answers the name of its error."""
 
@@ -91,7 +83,7 @@ def try_notes(c, python, own, other, first, second):
         compare("a watch", 0, c.ask("watch", own, key, queues[0], 100 + number))
         python.watch(other, key, queues[1], number)
     compare("Python's queue", "EBADF", c.ask_bytes("read_queue", queues[1]))
-    compare("the library's queue", "EBADF", answer(python.read_queue, queues[0]))
+    compare("the library's queue", "EBADF", outcome(python.read_queue, queues[0]))
     ring = python.add(other, "keyring", "ring", b"", USER)
     python.setperm(other, ring, ALL)
     compare("an update of Python's", 0, c.update(own, first, b"new"))
@@ -104,7 +96,7 @@ def try_notes(c, python, own, other, first, second):
     python.revoke(other, second)
     compare("what Python revoked", "EKEYREVOKED", c.read(own, second))
     compare("an end of Python's", 0, c.ask("invalidate", own, first))
-    compare("what the library ended", "ENOKEY", answer(python.read, other, first))
+    compare("what the library ended", "ENOKEY", outcome(python.read, other, first))
     python.clear(other, USER)
     for add, read, queue in ((100, c.read_queue, queues[0]), (0, python.read_queue, queues[1])):
         compare("the notes", [
@@ -142,12 +134,12 @@ def try_ends(c, python, own, other):
     shared, alone = c.add(own, b"shared", b"s", SESSION), c.add(own, b"alone", b"t", THREAD)
     c.ask("setperm", own, alone, ALL)
     compare("a request for what is shared", shared, python.request(other, "user", "shared"))
-    compare("a request for what isn't", "ENOKEY", answer(python.request, other, "user", "alone"))
+    compare("a request for what isn't", "ENOKEY", outcome(python.request, other, "user", "alone"))
     queue = python.open_queue(8)
     python.watch(other, alone, queue, 200)
     c.close()
     compare("the library has gone", [Removal(200, alone)], until_noted(python.read_queue, queue))
-    compare("its key", "ENOKEY", answer(python.read, other, alone))
+    compare("its key", "ENOKEY", outcome(python.read, other, alone))
     compare("the shared one", b"s", python.read(other, shared))
     python.setperm(other, shared, ALL)
     return shared

@@ -9,7 +9,7 @@ import subprocess
 import sys
 import tempfile
 
-from servers import End, answer_all, compare, conclude, keyretain, plain, reply, served
+from servers import End, answer_all, client_of, compare, conclude, outcome, plain, reply, served
 
 library = sys.argv[1]
 CALLS = """
@@ -79,14 +79,6 @@ else:
     print("skipped: a PID namespace of its own: this user may have none")
 
 
-def told_by_python(path):
-    with keyretain.Client(path, timeout=20) as client:
-        try:
-            return client.hello(1, 1)
-        except keyretain.Refused as refused:
-            return refused.name
-
-
 AGAIN = """
 import ctypes, errno, sys
 library = ctypes.CDLL(sys.argv[1], use_errno=True)
@@ -134,6 +126,6 @@ def crowded(connections, tells=True):
 compare("a place that is free later: the call waits for it", "77 77", said_in(crowded([])))
 compare("connections that are ended without a word", "77 77", said_in(crowded([], tells=False)))
 compare("where each one is ended so", "ECONNRESET ECONNRESET", said_in(lambda end: None))
-with served(crowded([])) as path:
-    compare("what the Python client is told", "EDQUOT", told_by_python(path))
+with client_of(crowded([])) as client:
+    compare("what the Python client is told", "EDQUOT", outcome(client.hello, 1, 1))
 conclude()

@@ -34,11 +34,12 @@ def compare(what, wanted, got):
 
 
 def outcome(run, *words, **named):
-    """What a call answers, or the name of what it raises."""
+    """What a call answers, or the name of what it raises; of what a daemon refuses, that of its error."""
     try:
         return run(*words, **named)
     except Exception as error:
-        return type(error).__name__
+        name = type(error).__name__
+        return error.name if name == "Refused" else name
 
 
 def text_of(path, errors="strict"):

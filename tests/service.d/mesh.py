@@ -4,6 +4,7 @@ then asks what has the daemon walk over all of them. Prints `walked` if each ans
 that looks for each key of its name anew whether it is possessed. Else prints what was wrong."""
 import asks
 from asks import keyretain
+from compare import outcome
 
 LEVELS, WIDTH = 6, 40
 MATCHES, OWN = 4000, 16000
@@ -15,11 +16,8 @@ class Client(asks.Client):
 
     def says(self, name, *values):
         """What an ask is refused with, or `ok`."""
-        try:
-            self.ask(name, self.context, *values)
-            return "ok"
-        except keyretain.Refused as refused:
-            return refused.name
+        answered = outcome(self.ask, name, self.context, *values)
+        return answered if isinstance(answered, str) else "ok"
 
 
 def nest(client):

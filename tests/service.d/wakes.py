@@ -5,6 +5,7 @@ import sys
 import time
 
 from asks import Client, keyretain
+from compare import outcome
 
 RINGS = 20000  # a search of all of them takes some milliseconds
 ROUNDS = 20
@@ -18,12 +19,8 @@ def wait_for_others(clients, searcher):
     others = [client for client in clients if client is not searcher]
     for client in others:
         client.send("GET_ID", client.context, keyretain.USER, 0)
-    try:
-        searcher.receive()
-        raise OSError("the search finds a key")
-    except keyretain.Refused as refused:
-        if refused.name != "ENOKEY":
-            raise
+    if (found := outcome(searcher.receive)) != "ENOKEY":
+        raise OSError(f"the search comes to {found}")
     for client in others:
         client.receive()
 
