@@ -8,7 +8,7 @@ from __future__ import annotations
 import errno
 import os
 from collections.abc import Iterator
-from contextlib import AbstractContextManager, nullcontext
+from contextlib import AbstractContextManager, contextmanager, nullcontext
 from typing import NamedTuple, Optional
 
 from .. import THREAD, USER, Client, Refused
@@ -36,6 +36,16 @@ def find_own(client: Client, context: int, ring: int, kind: str, description: st
     return serial
 
 
+@contextmanager
+def letting_pass(errors: tuple[int, ...]) -> Iterator[None]:
+    """A block that ends, and no more, where the daemon refuses something by one of these errors."""
+    try:
+        yield
+    except Refused as refused:
+        if refused.errno not in errors:
+            raise
+
+
 class Locker(AbstractContextManager["Locker"]):
     """The entries of a keyring, on a connection that ends with the block."""
 
@@ -56,12 +66,9 @@ class Locker(AbstractContextManager["Locker"]):
     def _find(self, gone: tuple[int, ...] = (*GONE, errno.EACCES)) -> int:
         """The serial of the keyring, or 0: who possesses another user's would possess what is kept there. One on which
         there is no right is another user's, unless it has the place of the own one."""
-        try:
+        with letting_pass(gone):
             return find_own(self._client, self._context, USER, "keyring", self._name)
-        except Refused as refused:
-            if refused.errno in gone:
-                return 0
-            raise
+        return 0
 
     def entries(self) -> list[Entry]:
         """Those that can be used, the newest first."""
@@ -70,24 +77,19 @@ class Locker(AbstractContextManager["Locker"]):
 
     def _entry(self, serial: int) -> Iterator[Entry]:
         """What can't be used any more is swept out."""
-        try:
+        described: list[bytes] = []
+        with letting_pass(GONE):
             described = self._client.describe(self._context, serial).split(b";", 4)
-        except Refused as refused:
-            if refused.errno not in GONE:
-                raise
+        if not described:
             self._unlink(serial)
-            return
-        if described[0] == b"user" and len(described) == 5:
+        elif described[0] == b"user" and len(described) == 5:
             yield Entry(serial, described[4])
 
     def payload(self, entry: Entry) -> Optional[bytes]:
         """None where the entry has expired meanwhile, or was taken out."""
-        try:
+        with letting_pass(GONE):
             return self._client.read(self._context, entry.serial)
-        except Refused as refused:
-            if refused.errno in GONE:
-                return None
-            raise
+        return None
 
     # Changing
 
@@ -107,35 +109,26 @@ class Locker(AbstractContextManager["Locker"]):
         """Puts something else into this very entry, as put does. False where it is gone."""
         if len(payload) > LONGEST_PAYLOAD:
             raise OSError(errno.E2BIG, f"a secret of more than {LONGEST_PAYLOAD} bytes")
-        try:
+        with letting_pass(GONE):
             self._client.update(self._context, entry.serial, payload)
             self._client.set_timeout(self._context, entry.serial, seconds)
-        except Refused as refused:
-            if refused.errno not in GONE:
-                raise
-            return False
-        return True
+            return True
+        return False
 
     def drop(self, entry: Entry) -> None:
         """Takes out this very entry, and not one that has taken its place."""
         self._unlink(entry.serial)
 
     def _unlink(self, serial: int) -> None:
-        try:
+        with letting_pass(GONE):
             self._client.unlink(self._context, serial, self._ring)
-        except Refused as refused:
-            if refused.errno not in GONE:
-                raise
 
     def _make_ring(self) -> int:
         """Makes the keyring beside the user keyring, and moves it there. One that can't be used any more gives way."""
         made = self._client.add(self._context, "keyring", self._name, b"", THREAD)
-        try:
+        with letting_pass((errno.EEXIST,)):
             self._client.move(self._context, made, THREAD, USER, exclusive=True)
             return made
-        except Refused as refused:
-            if refused.errno != errno.EEXIST:
-                raise
         other = self._find(GONE)
         if not other:
             self._client.link(self._context, made, USER)
