@@ -351,10 +351,7 @@ static void ask_twice(void) {
 /* as-other NAME: a root process that is another user for now joins a session, and waits for the end of its input. It
  * holds a signal back and ignores another. */
 static void join_as_other(void) {
-    sigset_t held;
-    sigemptyset(&held);
-    sigaddset(&held, SIGUSR1);
-    sigprocmask(SIG_BLOCK, &held, NULL);
+    hold_back(SIGUSR1);
     signal(SIGUSR2, SIG_IGN);
     (void)!seteuid(OTHER);
     puts(word_of(keyctl_join_session_keyring(words[0]) > 0));

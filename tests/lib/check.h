@@ -64,6 +64,13 @@ static inline void interrupt_after(int microseconds, int every) {
     setitimer(ITIMER_REAL, &times, NULL);
 }
 
+static inline void hold_back(int number) {
+    sigset_t held;
+    sigemptyset(&held);
+    sigaddset(&held, number);
+    sigprocmask(SIG_BLOCK, &held, NULL);
+}
+
 static inline int conclude(const char *name) {
     printf("%s: %d passed, %d failed\n", name, passed_checks, failed_checks);
     fflush(stdout);

@@ -126,12 +126,7 @@ static void handle_children(const char *how) {
     sigaction(SIGCHLD, &action, NULL);
 }
 
-static void hold_signals_back(const char *word) {
-    sigset_t some;
-    sigemptyset(&some);
-    sigaddset(&some, SIGTERM);
-    sigprocmask(SIG_BLOCK, &some, NULL);
-}
+static void hold_signals_back(const char *word) { hold_back(SIGTERM); }
 
 /* Kills the keepers of a daemon, without a child that the application would see: by what they were executed with. */
 static void kill_keepers(const char *path) {
@@ -160,10 +155,7 @@ static void interrupt_often(const char *word) { interrupt_after(*word ? 0 : 2000
 
 /* A SIGPIPE that is there already, and held back. */
 static void hold_pipe_signal(const char *word) {
-    sigset_t broken;
-    sigemptyset(&broken);
-    sigaddset(&broken, SIGPIPE);
-    sigprocmask(SIG_BLOCK, &broken, NULL);
+    hold_back(SIGPIPE);
     raise(SIGPIPE);
 }
 
