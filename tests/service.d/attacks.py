@@ -18,6 +18,7 @@ path, case, number = sys.argv[1], sys.argv[2], int(sys.argv[3])
 PATIENCE = 10  # seconds that one call may wait
 SHORT = 0.3  # seconds in which nothing is to come
 SILENCE = 60  # seconds without an answer, after which a case is over
+LONGEST = bytes(range(256)) * 127 + bytes(255)  # the longest payload
 signal.alarm(SILENCE)
 
 
@@ -78,10 +79,11 @@ class Answers:
 answers = Answers()
 
 
-def see_another():
-    """A client that comes and goes: THREAD in a context that it has not."""
-    with connect() as end:
-        answers.see(refused(3), ask(end, frame(257, 0), 8), "another client")
+def see_others():
+    """A hundred clients that come and go: THREAD in a context that each has not."""
+    for _ in range(100):
+        with connect() as end:
+            answers.see(refused(3), ask(end, frame(257, 0), 8), "another client")
 
 
 def first_context():
@@ -120,12 +122,11 @@ def side_by_side():
 def never_reads():
     """Clients that ask for the longest payload as long as their bytes are taken, and read nothing. Another one is
     served while they stand. Then the first one reads all its replies, and the others are gone."""
-    payload = bytes(range(256)) * 127 + bytes(255)
     waiting = {}
     for _ in range(number):
         end = connect()
         context = hello(end)
-        made = ask(end, encode_ask("ADD", context, (b"user", b"long", payload, -4)), 12)
+        made = ask(end, encode_ask("ADD", context, (b"user", b"long", LONGEST, -4)), 12)
         serial = int.from_bytes(made[8:], "little")
         answers.see(accepted(serial), made, "ADD")
         waiting[end] = [encode_ask("READ", context, (serial,)), 0]
@@ -133,29 +134,26 @@ def never_reads():
         for end in taking:
             end.send(waiting[end][0])
             waiting[end][1] += 1
-    for _ in range(100):
-        see_another()
+    see_others()
     answers.see([], select.select([], waiting, [], 0)[1], "they can go on:")
     reader, *others = waiting
     reader.shutdown(socket.SHUT_WR)
     for end in others:
         end.close()
-    answers.see(True, rest(reader) == accepted(payload) * waiting[reader][1], f"{waiting[reader][1]} replies that wait")
+    answers.see(True, rest(reader) == accepted(LONGEST) * waiting[reader][1], f"{waiting[reader][1]} replies that wait")
 
 
 def full_socket():
     """A client that sends its READs of the longest payload in one write, and reads nothing: its socket is full soon.
     Another one is served all the same. Then the first one reads all its replies."""
-    payload = bytes(range(256)) * 127 + bytes(255)
     with connect() as end:
         context = hello(end)
-        serial = number_of(end, encode_ask("ADD", context, (b"user", b"long", payload, -4)))
+        serial = number_of(end, encode_ask("ADD", context, (b"user", b"long", LONGEST, -4)))
         end.sendall(encode_ask("READ", context, (serial,)) * number)
         answers.see([end], select.select([end], [], [], PATIENCE)[0], "the first reply")
         time.sleep(SHORT)
-        for _ in range(100):
-            see_another()
-        wanted = accepted(payload)
+        see_others()
+        wanted = accepted(LONGEST)
         for i in range(number):
             answers.see(wanted, end.recv(len(wanted), socket.MSG_WAITALL), f"reply {i}")
 
@@ -166,8 +164,7 @@ def slow():
     for i in range(number):
         slow_one.sendall(HELLO[i:i + 1])
         until = time.monotonic() + 1
-        for _ in range(100):
-            see_another()
+        see_others()
         answers.see(False, bool(select.select([slow_one], [], [], max(0, until - time.monotonic()))[0]), "too early")
     context = first_context()
     got = ask(slow_one, HELLO[number:], 12)

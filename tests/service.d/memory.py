@@ -144,14 +144,6 @@ class Client(threading.Thread):
         if status != 0:
             raise Wrong(f"its first key is read with status {status}")
 
-    def give_back(self):
-        """Takes all its keys out of its keyring."""
-        self.ask("CLEAR", (USER_KEYRING,))
-
-    def add_again(self):
-        """Adds a key once there is memory again."""
-        self.ask("ADD", (b"user", b"again", bytes(size), USER_KEYRING))
-
 
 clients = [Client(name) for name in range(count)]
 for client in clients:
@@ -160,7 +152,8 @@ for client in clients:
     client.start()
 for client in clients:
     client.join()
-for step in (Client.check, Client.keep_first, Client.check_first, Client.give_back, Client.add_again):
+for step in (Client.check, Client.keep_first, Client.check_first, lambda it: it.ask("CLEAR", (USER_KEYRING,)),
+             lambda it: it.ask("ADD", (b"user", b"again", bytes(size), USER_KEYRING))):
     for client in clients:
         try:
             step(client)
