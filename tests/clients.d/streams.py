@@ -43,13 +43,11 @@ class alarm:
         signal.setitimer(signal.ITIMER_REAL, 0)
 
 
-def ended_by(run, *words):
+def unless_interrupted(run, *words):
     try:
         return run(*words)
     except Interrupted:
         return "interrupted"
-    except Exception as error:
-        return type(error).__name__
 
 
 def bare_fork():
@@ -130,10 +128,10 @@ def try_cut_frames():
 
     with client_of(serve) as client:
         with alarm(interrupt, 1):
-            outcomes = [ended_by(lambda: [client.send("UPDATE", 1, 5, bytes(60000)) for _ in range(100)])]
+            sent = outcome(unless_interrupted, lambda: [client.send("UPDATE", 1, 5, bytes(60000)) for _ in range(100)])
         going.set()
-        outcomes += [outcome(client.send, "REVOKE", 1, 7), outcome(client.read, 1, 7), outcome(client.receive)]
-        compare("calls after half a frame", ["interrupted", "Lost", "Lost", "Lost"], outcomes)
+        compare("calls after half a frame", ["interrupted", "Lost", "Lost", "Lost"], [
+            sent, outcome(client.send, "REVOKE", 1, 7), outcome(client.read, 1, 7), outcome(client.receive)])
         compare("the last ask that came", True, not any(name == "REVOKE" for name in got))
 
 
@@ -149,7 +147,7 @@ def try_late_replies():
 
     with client_of(serve) as client:
         with alarm(interrupt, 0.2):
-            first = ended_by(client.read, 1, 5)
+            first = outcome(unless_interrupted, client.read, 1, 5)
         client.send("READ", 1, 6)
         compare("a call that was interrupted", ["interrupted", b"6", b"7"],
                 [first, outcome(client.receive), outcome(client.read, 1, 7)])
@@ -189,9 +187,7 @@ class Steps:
     def run(self, call):
         sys.settrace(self.trace)
         try:
-            return call()
-        except Interrupted:
-            return "interrupted"
+            return unless_interrupted(call)
         finally:
             sys.settrace(None)
 

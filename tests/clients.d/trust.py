@@ -69,16 +69,21 @@ def leave_users():
             file.write(text)
 
 
-def tells(*words, uid=OWN, environment=None, is_apart=False, **named):
-    """What becomes of a client with these arguments, which says HELLO as this user."""
-    def run(write):
+def told_as(uid, environment, run, *words, is_apart=False):
+    """What a call comes to as this user, with these variables."""
+    def run_there(write):
         become(uid)
         if is_apart:
             leave_users()
         os.environ.update(environment or {})
-        os.write(write, str(outcome(hello, words, named)).encode())
+        os.write(write, str(outcome(run, *words)).encode())
 
-    return told_by(run)
+    return told_by(run_there)
+
+
+def tells(*words, uid=OWN, environment=None, is_apart=False, **named):
+    """What becomes of a client with these arguments, which says HELLO as this user."""
+    return told_as(uid, environment, hello, words, named, is_apart=is_apart)
 
 
 @contextmanager
@@ -145,8 +150,7 @@ def try_peer():
 
 def try_found():
     """The socket's file may be one's own, and who listens another."""
-    with folders() as (runtime, _):
-        os.mkdir(runtime + "/keyretain")
+    with folders(OWN) as (runtime, _):
         os.chown(runtime + "/keyretain", OTHER, OTHER)
         own = runtime + "/keyretain/keyretain.sock"
         with listening(own, OTHER) as told:
@@ -189,13 +193,12 @@ def try_effective():
 
 def try_another_runtime_directory():
     """su(1) may keep the variable: a directory of another user's isn't looked into."""
-    with folders() as (runtime, system):
-        os.mkdir(runtime + "/keyretain")
+    with folders(OWN) as (runtime, system):
         with listening(runtime + "/keyretain/keyretain.sock", OWN):
             os.chown(runtime, OTHER, OTHER)
             compare("another's runtime directory", False, runtime in str(keyretain.default_path()))
         compare("nor one that isn't there", system + "/keyretain.sock",
-                tells_path(OTHER, {"XDG_RUNTIME_DIR": "/nowhere"}))
+                told_as(OTHER, {"XDG_RUNTIME_DIR": "/nowhere"}, keyretain.default_path))
 
 
 def try_closed():
@@ -206,16 +209,6 @@ def try_closed():
         with listening(system + "/keyretain.sock", DAEMON):
             compare("a folder of one's own that is closed", "PermissionError", tells(uid=OTHER))
         os.chmod(runtime, 0o700)
-
-
-def tells_path(uid, environment):
-    """What default_path answers this user."""
-    def run(write):
-        become(uid)
-        os.environ.update(environment)
-        os.write(write, str(keyretain.default_path()).encode())
-
-    return told_by(run)
 
 
 def try_named():
@@ -293,8 +286,7 @@ print(client.enter_session(1))"""
         os.execve(sys.executable, [sys.executable, "-B", "-c", words, sys.path[0]],
                   {"KEYRETAIN_SOCKET": "/another", "XDG_RUNTIME_DIR": runtime, "KEYRETAIN_SESSION": "5:named"})
 
-    with folders() as (runtime, _):
-        os.mkdir(runtime + "/keyretain")
+    with folders(OWN) as (runtime, _):
         compare("in a program that runs set-uid: the path, whom it trusts at one it names, whether in a session",
                 "/run/keyretain/keyretain.sock\nNAMED\nFalse\n", told_by(run))
 
@@ -323,7 +315,7 @@ def try_capabilities():
     """A program that is given capabilities is told nothing by the environment; one that has given up its rights is."""
     words = "import sys; sys.path.insert(0, sys.argv[1]); import keyretain; print(keyretain.default_path())"
     compare("the path in a program that has become another user", "/another",
-            tells_path(OTHER, {"KEYRETAIN_SOCKET": "/another"}))
+            told_as(OTHER, {"KEYRETAIN_SOCKET": "/another"}, keyretain.default_path))
     with tempfile.TemporaryDirectory(prefix="keyretain.") as folder:
         os.chmod(folder, 0o755)
         python = python_for(OTHER)
