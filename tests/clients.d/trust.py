@@ -16,7 +16,6 @@ import servers
 from servers import compare, in_child, keyretain, outcome, skipped, told_by
 
 OWN, DAEMON, OTHER = os.geteuid(), 65533, 65534  # uids
-CLONE_NEWUSER = 0x10000000  # unshare(2)
 places = getattr(keyretain, "places", keyretain)
 
 
@@ -59,22 +58,12 @@ def hello(words, named):
     return "told"
 
 
-def leave_users():
-    """Has a user namespace in which nobody but this user has a number."""
-    uid, gid = os.geteuid(), os.getegid()
-    if ctypes.CDLL(None, use_errno=True).unshare(CLONE_NEWUSER):
-        raise OSError(ctypes.get_errno(), "unshare")
-    for name, text in (("setgroups", "deny"), ("uid_map", f"0 {uid} 1"), ("gid_map", f"0 {gid} 1")):
-        with open(f"/proc/self/{name}", "w", encoding="ascii") as file:
-            file.write(text)
-
-
 def told_as(uid, environment, run, *words, is_apart=False):
-    """What a call comes to as this user, with these variables."""
+    """What a call comes to as this user, with these variables; apart, where nobody else has a number."""
     def run_there(write):
         become(uid)
-        if is_apart:
-            leave_users()
+        if is_apart and not daemons.leave_users(f"0 {os.geteuid()} 1", f"0 {os.getegid()} 1"):
+            raise OSError(ctypes.get_errno(), "unshare")
         os.environ.update(environment or {})
         os.write(write, str(outcome(run, *words)).encode())
 

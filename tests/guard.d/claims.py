@@ -5,20 +5,10 @@ import shutil
 import struct
 import subprocess
 
-from daemons import become
+from daemons import become, leave_users
 from stage import (
-    CLIENT, EINVAL, EPERM, ESRCH, GROUP_A, ROOT, TMP, USER_A, USER_B, Running, add, check, hello, read_key, skipped,
-    ticks)
-
-
-def unshare(uids, gids):
-    """Has a user namespace with these numbers; whether it may."""
-    if ctypes.CDLL(None, use_errno=True).unshare(0x10000000) != 0:
-        return False
-    for name, text in ('setgroups', 'deny'), ('uid_map', uids), ('gid_map', gids):
-        with open(f'/proc/self/{name}', 'w') as file:
-            file.write(text)
-    return True
+    CLIENT, EINVAL, EPERM, ESRCH, GROUP_A, ROOT, TMP, USER_A, USER_B, Running, add, by_root, check, hello, read_key,
+    skipped, ticks)
 
 
 def try_own():
@@ -46,10 +36,9 @@ def try_own():
     check('ends well', run.end(), 0)
 
 
+@by_root('a peer in 65,000 groups')
 def try_many_groups():
     """A peer in more groups than a HELLO can name, as a user namespace may give it: what others wait for is short."""
-    if not ROOT:
-        return skipped('a peer in 65,000 groups: not root')
     run = Running()
     client, named = run.one(USER_A, GROUP_A, range(5000, 70000)), list(range(69968, 70000))
     before = ticks(run)
@@ -61,9 +50,8 @@ def try_many_groups():
     check('ends well', run.end(), 0)
 
 
+@by_root('other uids')
 def try_root():
-    if not ROOT:
-        return skipped('other uids: not root')
     run = Running('--trust', '4009', '--trust', str(USER_B))
     client = run.one()
     check('root may not name others', client.status(hello(1234, 77, [5, 6])), EPERM)
@@ -87,14 +75,12 @@ def try_root():
     check('65530 groups: another', many.status(hello(USER_A, groups[-1] + 1)), EPERM)
 
 
+@by_root('user namespaces')
 def try_namespace():
     """A client in a user namespace of its own, in which it is uid 0."""
-    if not ROOT:
-        return skipped('user namespaces: not root')
-
     def be_root():
         ctypes.CDLL(None).prctl(4, 1, 0, 0, 0)
-        if not unshare(f'0 {USER_A} 1', f'0 {GROUP_A} 1'):
+        if not leave_users(f'0 {USER_A} 1', f'0 {GROUP_A} 1'):
             raise OSError(ctypes.get_errno(), 'unshare')
         assert os.geteuid() == 0
 
@@ -106,10 +92,9 @@ def try_namespace():
     check('its uid outside', made[0].status(hello(USER_A, GROUP_A)), 0)
 
 
+@by_root('an inherited connection')
 def try_inherited():
     """A connection that a root process made and its child of another uid has inherited, as by su(1)."""
-    if not ROOT:
-        return
     for options, wanted in ((['--trust', '0'], 0), ([], EPERM)):
         run = Running(*options)
         client = run.one()
@@ -122,10 +107,9 @@ def try_inherited():
         run.end()
 
 
+@by_root('another uid after a connection')
 def try_changed_uid():
     """A process that changes its uid stays who it was when it connected."""
-    if not ROOT:
-        return
     run = Running()
     client = run.one(USER_A, GROUP_A, [])
     os.seteuid(USER_B)
@@ -134,11 +118,10 @@ def try_changed_uid():
     os.seteuid(0)
 
 
+@by_root('a guard in a user namespace')
 def try_strangers():
     """A guard in a user namespace that has one id alone: all others have one number there, and are refused."""
-    if not ROOT:
-        return skipped('a guard in a user namespace: not root')
-    run = Running(limit=lambda: unshare('0 0 1', '0 0 1') or os._exit(77))
+    run = Running(limit=lambda: leave_users('0 0 1', '0 0 1') or os._exit(77))
     if run.guard.poll() is not None or not run.line:
         skipped('a guard in a user namespace: not allowed here')
     else:
@@ -147,10 +130,9 @@ def try_strangers():
         check('one that it knows', run.one().status(hello(0, 0)), 0)
 
 
+@by_root('two users')
 def try_two_users():
     """By the client program: two users share a daemon, and neither can claim to be the other."""
-    if not ROOT:
-        return skipped('two users: not root')
     run = Running()
     program = f'{TMP}/keyretain'
     shutil.copy(CLIENT, program)

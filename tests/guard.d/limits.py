@@ -11,7 +11,7 @@ import time
 from daemons import PATIENCE, unread
 from stage import (
     EDQUOT, EPERM, GID, GROUP_A, HELLO, IS_SANITIZED, NOBODY, ROOT, UID, USER_A, USER_B, WHO, Running, add, alive, ask,
-    check, check_soon, connect_as, descriptors, hello, is_alive, read_key, skipped, ticks, wait_for_replies)
+    by_root, check, check_soon, connect_as, descriptors, hello, is_alive, read_key, skipped, ticks, wait_for_replies)
 
 
 def try_limit_of_one():
@@ -92,10 +92,9 @@ def descriptors_at_rest(run):
     return count
 
 
+@by_root('the last places')
 def try_last_places():
     """Who has many gets no more of the last ones."""
-    if not ROOT:
-        return skipped('the last places: not root')
     run = Running('--connections', '40', '--per-uid', '30')
     made = []
     for uid, wanted in ((USER_A, 20), (USER_B, 16), (USER_B + 1, 4)):
@@ -177,10 +176,9 @@ def try_sigterm_when_busy():
     check('and all have ended', all(map(is_over, made)), True)
 
 
+@by_root('limits of many uids')
 def try_limit_of_all():
     """All connections, of many uids."""
-    if not ROOT:
-        return skipped('limits of many uids: not root')
     run = Running('--connections', '20', '--per-uid', '8')
     made = [c for uid in range(5000, 5010) for c in run.many(10, uid, uid)]
     check_soon('20 for all, and the rest waits', lambda: [alive(made[10 * n:10 * n + 10]) for n in range(4)],

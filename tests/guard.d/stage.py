@@ -35,6 +35,11 @@ def check(name, got, wanted):
     compare(name, wanted, got)
 
 
+def by_root(what):
+    """Has a function that root alone can run, and says what isn't tried by others."""
+    return lambda function: function if ROOT else lambda: skipped(f'{what}: not root')
+
+
 def check_soon(name, found, wanted):
     """The same of what comes to be so."""
     end = time.monotonic() + PATIENCE

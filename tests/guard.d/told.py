@@ -7,7 +7,7 @@ import subprocess
 import time
 
 from stage import (
-    EDQUOT, EPERM, GID, ROOT, TMP, UID, USER_A, USER_B, WHO, Running, check, check_soon, hello, kill, skipped)
+    EDQUOT, EPERM, GID, ROOT, TMP, UID, USER_A, USER_B, WHO, Running, by_root, check, check_soon, hello, kill)
 
 
 def try_full_log():
@@ -42,10 +42,9 @@ def try_log():
         f'refused: uid {UID}, gid {GID} (pid N) named uid {UID}, gid 9999, 0 groups\n'])
 
 
+@by_root('refusals of two users')
 def try_told_beside():
     """A uid that is refused over and over, and says nothing, doesn't have another one's refusals go unsaid."""
-    if not ROOT:
-        return skipped('refusals of two users: not root')
     run = Running('--per-uid', '1')
     held = [run.one(uid, uid, []) for uid in (USER_A, USER_B)]
     for client, uid in zip(held, (USER_A, USER_B)):

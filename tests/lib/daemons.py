@@ -1,5 +1,6 @@
 """A folder and its end, one daemon and one guard, and connections of any user to these, for the tests in Python."""
 import contextlib
+import ctypes
 import fcntl
 import os
 import shutil
@@ -12,6 +13,7 @@ import termios
 import time
 
 ENDS = signal.SIGINT, signal.SIGTERM, signal.SIGHUP
+CLONE_NEWUSER = 0x10000000  # unshare(2)
 PATIENCE = 60  # seconds that anything may take on a busy machine
 
 
@@ -103,6 +105,16 @@ def become(uid, gid=None, groups=()):
     os.setgroups(groups)
     os.setresgid(gid, gid, gid)
     os.setresuid(uid, uid, uid)
+
+
+def leave_users(uids, gids):
+    """Has a user namespace with these numbers; whether it may."""
+    if ctypes.CDLL(None, use_errno=True).unshare(CLONE_NEWUSER):
+        return False
+    for name, text in ("setgroups", "deny"), ("uid_map", uids), ("gid_map", gids):
+        with open(f"/proc/self/{name}", "w", encoding="ascii") as file:
+            file.write(text)
+    return True
 
 
 def connect(path):
