@@ -202,17 +202,9 @@ static void try_threads(void) {
     holds("a thread keyring ends with its thread", is_gone(rings[0].thread));
 }
 
-static bool child_says(bool (*says)(long), long known) {
-    pid_t child = fork();
-    if (child == 0) _exit(says(known) ? 0 : 1);
-    return status_of(child) == 0;
-}
-
 static bool has_no_process_keyring(long unused) {
     return ring_of(KEY_SPEC_PROCESS_KEYRING, 0) == -1 && errno == ENOKEY;
 }
-
-static bool has_session(long session) { return ring_of(KEY_SPEC_SESSION_KEYRING, 0) == session; }
 
 static bool joins_its_own(long session) {
     long joined = join(NULL);

@@ -2,10 +2,8 @@
  * which call an answer is kept for; and which ids a container's are. It calls the supervisor's parts as the loop does,
  * as process 1 of a PID namespace in which it may choose numbers. */
 #define _GNU_SOURCE
-#include <linux/sched.h>
 #include <linux/seccomp.h>
 #include <sched.h>
-#include <stdint.h>
 #include <sys/epoll.h>
 #include <sys/mman.h>
 #include <sys/resource.h>
@@ -26,18 +24,9 @@ static bool never(void) { return false; }
 
 /* A child with that number, which lives until it is killed. */
 static pid_t begin_child(void) {
-    pid_t number = NUMBER;
-    struct clone_args arguments = { .exit_signal = SIGCHLD, .set_tid = (uintptr_t)&number, .set_tid_size = 1 };
-    pid_t child = (pid_t)syscall(SYS_clone3, &arguments, sizeof arguments);
-    if (child == 0)
-        for (;;) pause();
-    if (child != NUMBER) exit(2);
+    pid_t child = fork_as(NUMBER);
+    while (child == 0) pause();
     return child;
-}
-
-static void end_child(pid_t child) {
-    kill(child, SIGKILL);
-    if (waitpid(child, NULL, 0) != child) exit(2);
 }
 
 /* The notification waited when it was asked, and just then the thread is killed and its number is another's. */
@@ -208,9 +197,7 @@ static bool has_begun(void) {
 
 static void try_thread_reuse(void) {
     if (pipe(orders) < 0 || pipe(reports) < 0) exit(2);
-    pid_t number = NUMBER;
-    struct clone_args arguments = { .exit_signal = SIGCHLD, .set_tid = (uintptr_t)&number, .set_tid_size = 1 };
-    pid_t child = (pid_t)syscall(SYS_clone3, &arguments, sizeof arguments);
+    pid_t child = fork_as(NUMBER);
     if (child == 0) have_threads();
     if (check("a thread begins", has_begun()) && check("it enters", enter(THREAD, always))) {
         check("it has a thread keyring", ring(KEY_SPEC_THREAD_KEYRING, 1) > 0);

@@ -3,6 +3,8 @@
 #define KEYRETAIN_CALLS_H
 
 #include <linux/keyctl.h>
+#include <linux/sched.h>
+#include <stdint.h>
 #include <sys/syscall.h>
 
 #include "check.h"
@@ -39,6 +41,27 @@ static inline long find(int id, const char *name) {
 static inline int status_of(pid_t child) {
     int status;
     return waitpid(child, &status, 0) == child && WIFEXITED(status) ? WEXITSTATUS(status) : -1;
+}
+
+static inline bool child_says(bool (*says)(long), long known) {
+    pid_t child = fork();
+    if (child == 0) _exit(says(known) ? 0 : 1);
+    return status_of(child) == 0;
+}
+
+static inline bool has_session(long session) { return ring_of(KEY_SPEC_SESSION_KEYRING, 0) == session; }
+
+/* A child with this number. */
+static inline pid_t fork_as(pid_t number) {
+    struct clone_args arguments = { .exit_signal = SIGCHLD, .set_tid = (uintptr_t)&number, .set_tid_size = 1 };
+    pid_t child = (pid_t)syscall(SYS_clone3, &arguments, sizeof arguments);
+    if (child != 0 && child != number) exit(2);
+    return child;
+}
+
+static inline void end_child(pid_t child) {
+    kill(child, SIGKILL);
+    if (waitpid(child, NULL, 0) != child) exit(2);
 }
 
 #endif

@@ -6,8 +6,6 @@
  * there gives the session to its parent, which is killed half a second later and whose number another process gets.
  * Says whether that one has the session. */
 #define _GNU_SOURCE
-#include <linux/sched.h>
-#include <stdint.h>
 #include <sys/mman.h>
 
 #include "calls.h"
@@ -18,19 +16,11 @@ static char *description; /* at one address in all processes, and each has its o
 
 /* A child with that number and this text; one that asks makes one call. */
 static pid_t begin_child(const char *text, bool asks) {
-    pid_t number = NUMBER;
-    struct clone_args arguments = { .exit_signal = SIGCHLD, .set_tid = (uintptr_t)&number, .set_tid_size = 1 };
-    pid_t child = (pid_t)syscall(SYS_clone3, &arguments, sizeof arguments);
-    if (child < 0) exit(2);
-    if (child > 0) return child;
+    pid_t child = fork_as(NUMBER);
+    if (child != 0) return child;
     strcpy(description, text);
     if (asks) add_key("user", description, "x", 1, KEY_SPEC_SESSION_KEYRING);
     for (;;) pause();
-}
-
-static void end_child(pid_t child) {
-    kill(child, SIGKILL);
-    if (waitpid(child, NULL, 0) != child) exit(2);
 }
 
 static const char *is_there(const char *text) {
@@ -52,11 +42,8 @@ static void give_session(char **words, int to) {
 
 /* What has the number asks for its session when the file is no longer there. */
 static pid_t begin_parent(char **words, int to, bool has_child) {
-    pid_t number = NUMBER;
-    struct clone_args arguments = { .exit_signal = SIGCHLD, .set_tid = (uintptr_t)&number, .set_tid_size = 1 };
-    pid_t process = (pid_t)syscall(SYS_clone3, &arguments, sizeof arguments);
-    if (process < 0) exit(2);
-    if (process > 0) return process;
+    pid_t process = fork_as(NUMBER);
+    if (process != 0) return process;
     if (has_child && fork() == 0) give_session(words, to);
     if (has_child)
         for (;;) pause();

@@ -9,13 +9,9 @@ enum { SECONDS = 60, LONG_PAYLOAD = 32000 };
 
 /* ---- What is killed in the midst of a call ---- */
 
-static bool is_served(void) { return ring_of(KEY_SPEC_THREAD_KEYRING, 1) > 0; }
+static bool is_served(long unused) { return ring_of(KEY_SPEC_THREAD_KEYRING, 1) > 0; }
 
-static bool is_served_in_child(void) {
-    pid_t child = fork();
-    if (child == 0) _exit(is_served() ? 0 : 1);
-    return status_of(child) == 0;
-}
+static bool is_served_in_child(void) { return child_says(is_served, 0); }
 
 static int kill_in_calls(int count) {
     int wrong = 0;

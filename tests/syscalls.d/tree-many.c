@@ -142,10 +142,7 @@ static int join_in_thread_alone(void) {
     struct answer joined;
     pthread_t thread;
     if (pthread_create(&thread, NULL, join_in_thread, &joined) != 0 || pthread_join(thread, NULL) != 0) return 2;
-    bool is_alone = ring_of(KEY_SPEC_SESSION_KEYRING, 0) == before;
-    pid_t child = fork();
-    if (child == 0) _exit(ring_of(KEY_SPEC_SESSION_KEYRING, 0) == before ? 0 : 1);
-    bool is_inherited = status_of(child) == 0;
+    bool is_alone = has_session(before), is_inherited = child_says(has_session, before);
     printf("%s, the first thread %s, its child %s\n",
            joined.value > 0 && joined.value != before && !joined.error ? "joined" : "not joined",
            is_alone ? "as before" : "elsewhere", is_inherited ? "as before" : "elsewhere");
@@ -154,28 +151,22 @@ static int join_in_thread_alone(void) {
 
 /* ---- One after the other ---- */
 
+static bool has_ring(long id) { return ring_of((int)id, 1) > 0; }
+
 static int ask_in_sequence(int count) {
     int wrong = 0;
-    for (int i = 0; i < count; i++) {
-        pid_t child = fork();
-        if (child == 0) _exit(ring_of(KEY_SPEC_PROCESS_KEYRING, 1) > 0 ? 0 : 1);
-        wrong += status_of(child) != 0;
-    }
-    printf("%d wrong\n", wrong);
-    return 0;
+    for (int i = 0; i < count; i++) wrong += !child_says(has_ring, KEY_SPEC_PROCESS_KEYRING);
+    return printf("%d wrong\n", wrong) < 0;
 }
+
+static bool joins(long unused) { return join(NULL) > 0; }
 
 /* Sessions that end at once: of processes that end, and of one that joins others. */
 static int join_in_sequence(int count) {
     int wrong = 0;
-    for (int i = 0; i < count / 2; i++) {
-        pid_t child = fork();
-        if (child == 0) _exit(join(NULL) > 0 ? 0 : 1);
-        wrong += status_of(child) != 0;
-    }
+    for (int i = 0; i < count / 2; i++) wrong += !child_says(joins, 0);
     for (int i = 0; i < count / 2; i++) wrong += join(NULL) < 0;
-    printf("%d wrong\n", wrong);
-    return 0;
+    return printf("%d wrong\n", wrong) < 0;
 }
 
 /* A chain of children, of which none has asked. The last says which session it has after its first ancestor has joined
@@ -234,9 +225,7 @@ static int join_with_low_limit(int count) {
     wrong += setrlimit(RLIMIT_LOCKS, &limit) < 0;
     for (int i = 0; i < count; i++) {
         long joined = join(NULL);
-        pid_t child = fork();
-        if (child == 0) _exit(ring_of(KEY_SPEC_SESSION_KEYRING, 0) == joined ? 0 : 1);
-        wrong += joined < 0 || status_of(child) != 0;
+        wrong += joined < 0 || !child_says(has_session, joined);
     }
     return printf("%d wrong\n", wrong) < 0;
 }
