@@ -213,8 +213,7 @@ try_keeper() {
   keep --name patient --patience 5000
   is 'keeper: with a patience it stays' "$(sed -n '1s/:.*//p' "$dir/answer")" "$(sleep 0.5; in_named)"
   kill_daemon TERM
-  until_true has_no_keeper
-  is 'keeper: ends with the daemon' gone "$(has_no_keeper && echo gone)"
+  gone 'keeper: ends with the daemon'
   let_go
   keep --name late
   is 'keeper: no daemon' "failed 111 $path: Connection refused" "$(<"$dir/answer")"
@@ -239,8 +238,7 @@ try_hold() {
   is 'hold: until its keys have expired' ENOKEY "$("$dir/acts" put credentials 2)"
   keep --hold credentials
   let_go
-  until_true has_no_keeper
-  is 'hold: nothing is held for nothing' gone "$(has_no_keeper && echo gone)"
+  gone 'hold: nothing is held for nothing'
   keep --hold credentials
   is 'hold: a key that nobody may look at' ok "$("$dir/acts" hide credentials)"
   let_go
@@ -290,8 +288,7 @@ try_inherited() {
   kill -KILL "$(<"$dir/stopped")"
   rm -r "$dir/none"
   kill_daemon TERM
-  until_true has_no_keeper
-  is 'no keeper is left' gone "$(has_no_keeper && echo gone)"
+  gone 'a command in a session'
 }
 
 # A process holds the session that it has joined last, and none that it has left, or failed to join.

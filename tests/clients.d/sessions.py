@@ -50,12 +50,11 @@ def try_sessions(path):
         compare("by the environment", True, client.enter_session(client.hello(OWN, OWN)))
         del os.environ["KEYRETAIN_SESSION"]
         compare("which says nothing", False, client.enter_session(client.hello(OWN, OWN)))
-        _, text = make(holder, other, "open", 0x003F3F3F)
-        compare("one that another user has opened to all", False, client.enter_session(context, text))
-        _, text = make(holder, own, "group", USER_MAY_SEARCH | GROUP_MAY_VIEW)
-        compare("one of which the group may see anything", False, client.enter_session(context, text))
-        _, text = make(holder, own, "others", USER_MAY_SEARCH | OTHERS_MAY_VIEW)
-        compare("one of which others may see anything", False, client.enter_session(context, text))
+        for what, whose, rights in (("that another user has opened to all", other, 0x003F3F3F),
+                                    ("of which the group may see anything", own, USER_MAY_SEARCH | GROUP_MAY_VIEW),
+                                    ("of which others may see anything", own, USER_MAY_SEARCH | OTHERS_MAY_VIEW)):
+            _, text = make(holder, whose, what, rights)
+            compare(f"one {what}", False, client.enter_session(context, text))
         serial, text = make(holder, own, "lost")
         holder.revoke(own, serial)
         compare("one that was revoked", False, client.enter_session(context, text))
