@@ -135,11 +135,6 @@ def fish_completion(program):
     return None
 
 
-def completion_words(program):
-    """The commands that it knows."""
-    return completion(program, '_keyretain_commands "$program"')
-
-
 def completion_places(program, words):
     """What it offers behind each command, by the number of the place: `add 1` and so on."""
     told = completion(program, 'for one; do echo "$one=$(_keyretain_words "$program" ${one% *} ${one#* })"; done',

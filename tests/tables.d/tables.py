@@ -109,7 +109,7 @@ def offered(command, word):
 def try_completion():
     known = [command for command in COMMANDS if command.word not in ("hello", "context", "moment")]
     compare("completion, commands of a single call", sorted(command.word for command in known),
-            sorted(documents.completion_words(KEYRETAIN)))
+            sorted(documents.completion(KEYRETAIN, '_keyretain_commands "$program"')))
     wanted = {f"{command.word} {place}": offered(command, word.strip("[]"))
               for command in known for place, word in enumerate([*command.usage.split(), ""], 1)}
     compare_all("completion", wanted, documents.completion_places(KEYRETAIN, wanted))
