@@ -39,10 +39,6 @@ class Ask:
     def __init__(self, name):
         self.name, self.fields, self.answer = name, keyretain.ASKS[name].fields.split(), keyretain.ASKS[name].answer
 
-    def read(self, body):
-        """The fields of a body, or None for BadBody."""
-        return keyretain.decode_body(self.name, body)
-
     def of_length(self, length):
         """A body of this length: ids are -4, the first run takes what is left, and all else is zeros. None where none
         can be."""

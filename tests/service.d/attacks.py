@@ -11,7 +11,7 @@ import sys
 import threading
 import time
 
-from asks import ASKS, HELLO, accepted, encode_ask, frame, is_reply, refused, reply, status_without_context
+from asks import ASKS, HELLO, accepted, encode_ask, frame, is_reply, keyretain, refused, reply, status_without_context
 from daemons import received
 
 path, case, number = sys.argv[1], sys.argv[2], int(sys.argv[3])
@@ -194,7 +194,7 @@ def see_frame(operation, body):
         end.shutdown(socket.SHUT_WR)
         got = rest(end)
     what = f"operation {operation}, body {body.hex()}:"
-    fields = ASKS[operation].read(body) if operation in ASKS else None
+    fields = keyretain.decode_body(ASKS[operation].name, body) if operation in ASKS else None
     if fields is None:
         answers.see(b"", got, what)
         return
