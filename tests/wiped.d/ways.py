@@ -93,22 +93,15 @@ def close_readers(c, s):
     c.ask("REVOKE", key)
 
 
-def cut(c, s):
-    """A connection that ends in the midst of an ADD."""
-    whole = c.frame("ADD", "user", "token", s.payload, U)
-    c.end.sendall(whole[:-4])
-    time.sleep(0.2)
-    c.close()
-    time.sleep(0.3)
+def breaks_off(change):
+    """A connection that ends behind what this makes of an ADD's frame."""
+    def way(c, s):
+        c.end.sendall(change(c.frame("ADD", "user", "token", s.payload, U)))
+        time.sleep(0.3)
+        c.close()
+        time.sleep(0.3)
 
-
-def refused_fault(c, s):
-    """A frame that is no ask ends the connection: its bytes were held already."""
-    whole = c.frame("ADD", "user", "token", s.payload, U)
-    c.end.sendall(whole[:6] + b"\xff\xff" + whole[8:])
-    time.sleep(0.3)
-    c.close()
-    time.sleep(0.2)
+    return way
 
 
 def pieces(c, s):
@@ -180,7 +173,8 @@ WAYS = {"kept: ADD": asks(ring=U, left=1), "kept: ADD in three parts": pieces,
         "JOIN": asks(("JOIN", ""), ("ADD", "user", "token", PAYLOAD, S), ("JOIN", "")),
         "EXEC": asks(("EXEC",), ring=P), "EXIT": asks(("EXIT",), ring=T), "LEAVE": asks(("LEAVE",), ring=P),
         "close": asks(("CLOSE",), ("SLEEP", 0.3), ring=P), "readers close, REVOKE": close_readers,
-        "close amid ADD": cut, "fault in ADD": refused_fault,
+        "close amid ADD": breaks_off(lambda whole: whole[:-4]),
+        "fault in ADD": breaks_off(lambda whole: whole[:6] + b"\xff\xff" + whole[8:]),  # its bytes were held already
         "ADD: ENODEV": asks(("ADD", "nosuch", "token", PAYLOAD, U), wants=19),
         "ADD: ENOKEY": asks(("ADD", "user", "token", PAYLOAD, 2_000_000_000), wants=126),
         "UPDATE: ENOKEY": asks(("UPDATE", 2_000_000_000, PAYLOAD), wants=126),
