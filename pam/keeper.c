@@ -279,7 +279,7 @@ static bool wait_for_end(int answers) {
 }
 
 void revoke_at_end(const struct keeper *keeper) {
-    if (has_keeper(keeper)) tell(keeper->life.descriptor, 'r');
+    if (has_keeper(keeper)) tell(keeper->life.descriptor, 'R');
 }
 
 bool end_keeper(const struct keeper *keeper) {

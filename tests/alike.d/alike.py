@@ -29,10 +29,10 @@ OF_CALLS = OF_CALLS if ways.Programs.session else [ways.Script]
 
 
 def begin_as(user):
-    """What a session of system calls begins with, as sessions.c and tracees.c ask for it."""
-    groups = " ".join(map(str, sorted(os.getgroups())[:32]))
-    return [f"hello {user} {os.getegid()} {groups}".strip(), "fork", "context 2", "join work", "setperm @s 3f1b0000",
-            "link @u @s", "fork", "context 1", "fork", "context 3"]
+    """What a session of system calls begins with, as contexts.c, sessions.c and tracees.c ask for it."""
+    hello = f"hello {user} {os.getegid()} {' '.join(map(str, sorted(os.getgroups())[:32]))}".strip()
+    return [hello, "join mark", "setperm @s 3f1b0000", "setperm @s 3f080000", hello, "context 2", "fork", "context 3",
+            "join work", "setperm @s 3f1b0000", "link @u @s", "fork", "context 2", "fork", "context 4"]
 
 
 def draw_lines(way, lines, count, before):
