@@ -151,7 +151,7 @@ install:
 	@echo 'installed below $(DESTDIR)$(PREFIX)'
 
 # Packages for Debian 12, in the folder packages/, of the programs that `make build` proved. Wants debhelper, dh-python,
-# libpam0g-dev and libssl-dev.
+# libjansson-dev, libpam0g-dev and libssl-dev.
 deb:
 	@debian/make-packages packages
 
