@@ -15,16 +15,17 @@ enum { CALL_MILLISECONDS = KEYRETAIN_CALL_MILLISECONDS, OPENING_MILLISECONDS = 1
 
 /* So many contexts of identities, and with sessions so many that last, may be on one connection: the rest is for
  * processes that ask. All wait while a further connection is opened, so one that fails isn't tried again at once. */
-enum { IDENTITIES = 24, LASTING = 60, SPARE = 8, FURTHER_MILLISECONDS = 1000, PAUSE_MILLISECONDS = 10000 };
+enum { IDENTITIES = 24, LASTING = 60, FURTHER_MILLISECONDS = 1000, PAUSE_MILLISECONDS = 10000 };
 
-/* Nobody else reads its name, and revokes it. */
-enum { MASK_OF_MARK = 0x3f000000 | KR_USER_MAY_SEARCH };
+/* Nobody else reads its name, and revokes or invalidates it. */
+enum { MASK_OF_MARK = 0x3f000000 };
 
 /* Identities that no process has take this many connections at most, of those that others could have. */
 enum { LINES_OF_ABSENT = 4 };
 
 struct line {
     struct kr *connection;
+    uint32_t mark; /* the context that is in the marked session */
     unsigned age, replaces; /* the age of the one in whose place it is, or 0 */
     unsigned count, lasting;
     bool is_old;
@@ -37,6 +38,7 @@ static struct {
     unsigned last_age, beginnings;
     int64_t next_further;
     struct kr_where where;
+    struct kr_identity identity;
     struct kr_session mark;
     bool (*make_room)(unsigned age);
     bool (*give_up_keys)(void);
@@ -50,42 +52,48 @@ static void close_line(struct line *line) {
     free(line);
 }
 
-/* Whether a daemon answers there: that there is no such context. */
-static bool is_answered(struct kr *connection) {
-    return kr_get_id(connection, 0, KEY_SPEC_USER_KEYRING, 0) < 0 && errno == ESRCH;
+static bool set_mark(const struct line *line, uint32_t mask) {
+    return kr_setperm(line->connection, line->mark, all.mark.serial, mask) == 0;
+}
+
+/* The marked session's user may search it, by its name, for the time of this. It also shows whether the daemon of the
+ * connections before has ended. */
+static bool enter_mark(const struct line *line) {
+    const struct line *before = FIND(all.lines, at, !kr_is_broken(at->connection));
+    if (!before || !set_mark(before, MASK_OF_MARK | KR_USER_MAY_SEARCH)) return false;
+    bool has_entered = kr_enter_named(line->connection, line->mark, &all.mark, all.identity.uid) == 0;
+    return set_mark(before, MASK_OF_MARK) && has_entered;
 }
 
 /* Another daemon has none of what there is on the other connections, and it may listen in the same process: behind a
  * guard, say. So the first connection makes a session of a random name, and each further one is to enter that. It takes
  * a context of each. */
-static bool has_mark(struct kr *connection) {
-    struct kr_identity own;
-    kr_own_identity(&own);
-    int64_t context = kr_hello_as(connection, &own);
+static bool has_mark(struct line *line) {
+    int64_t context = kr_hello_as(line->connection, &all.identity);
     if (context < 0) return false;
-    if (all.lines) return kr_enter_named(connection, (uint32_t)context, &all.mark, own.uid) == 0;
+    line->mark = (uint32_t)context;
+    if (all.lines) return enter_mark(line);
     if (kr_name_session(&all.mark, NULL) < 0) return false;
-    all.mark.serial = kr_begin_session(connection, (uint32_t)context, all.mark.name, own.uid);
-    return all.mark.serial > 0 && kr_setperm(connection, (uint32_t)context, all.mark.serial, MASK_OF_MARK) == 0;
+    all.mark.serial = kr_begin_session(line->connection, line->mark, all.mark.name, all.identity.uid);
+    return all.mark.serial > 0 && set_mark(line, MASK_OF_MARK);
 }
 
-/* Where another daemon answers there, that of the others may have ended: it is asked, so that this shows. */
 static struct line *open_line(int milliseconds) {
     struct kr *connection = kr_open_with(all.where.path, 0, milliseconds);
-    struct line *line = connection ? calloc(1, sizeof *line) : NULL, *before;
-    if (line) connection->until = kr_now() + milliseconds;
-    if (!line || !has_mark(connection)) {
-        before = FIND(all.lines, at, !kr_is_broken(at->connection));
-        if (line && before) is_answered(before->connection);
-        return kr_close(connection), forgotten(line);
-    }
-    all.beginnings += !all.lines;
+    struct line *line = connection ? calloc(1, sizeof *line) : NULL;
+    if (!line) return kr_close(connection), NULL;
+    connection->patience = -1; /* `until` bounds each call */
+    connection->until = kr_now() + milliseconds;
     *line = (struct line){ .connection = connection, .age = ++all.last_age, .most = KEYRETAIN_READS,
                            .next = all.lines };
+    if (!has_mark(line)) return kr_close(connection), forgotten(line);
+    all.beginnings += !all.lines;
     return all.lines = line;
 }
 
-int contexts_begin(const char *path, bool (*make_room)(unsigned age), bool (*give_up_keys)(void)) {
+int contexts_begin(const char *path, const struct kr_identity *identity, bool (*make_room)(unsigned age),
+                   bool (*give_up_keys)(void)) {
+    all.identity = *identity;
     all.make_room = make_room;
     all.give_up_keys = give_up_keys;
     return kr_locate(&all.where, path) == 0 && open_line(OPENING_MILLISECONDS) ? 0 : -1;
@@ -103,12 +111,17 @@ void contexts_set_deadline(void) {
 
 static struct line *first_in_use(void) { return FIND(all.lines, line, !line->is_old); }
 
+/* The guard has no place, or the daemon behind it is started again: there is a daemon. */
+static bool is_told(int error) {
+    return error == ENOMEM || error == EACCES || error == ETIMEDOUT || error == EDQUOT || error == ECONNRESET;
+}
+
 /* Where it shows that the daemon of the other connections has ended, these are closed, and another counts alone. */
 int contexts_begin_call(void) {
     contexts_set_deadline();
     while (!first_in_use() && !open_line(OPENING_MILLISECONDS)) {
         if (!FIND(all.lines, line, kr_is_broken(line->connection)))
-            return errno == ENOMEM || errno == EACCES || errno == ETIMEDOUT ? -1 : fail_as(ENOSYS);
+            return is_told(errno) ? -1 : fail_as(ENOSYS);
         contexts_set_deadline();
     }
     return 0;
@@ -173,9 +186,9 @@ bool context_is_old(const struct context *context) {
     return line && line->is_old;
 }
 
-bool context_is_scarce(const struct context *context) {
+unsigned context_left(const struct context *context) {
     const struct line *line = line_of(context);
-    return line && line->count + SPARE >= KR_CONTEXTS; /* one more has the mark */
+    return line ? KR_CONTEXTS - 1 - line->count : KR_CONTEXTS; /* one more has the mark */
 }
 
 /* Whether the ask is to be made again: EINVAL is that of a client with as many contexts as it may have. */

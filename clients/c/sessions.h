@@ -28,8 +28,9 @@ struct context {
 /* Connects to the daemon at a path, NULL for where kr_default_path says. `make_room` is asked to end some context of
  * the connection of this age that nothing is lost with, when it has as many as it may, or one that lasts, of age 0;
  * `give_up_keys` to end one that lasts, where there is no further connection. False where none may be ended. -1 with
- * errno, ENOSYS where no daemon is there. */
-int contexts_begin(const char *path, bool (*make_room)(unsigned age), bool (*give_up_keys)(void));
+ * errno, ENOSYS where no daemon is there. What shows that two connections are to one daemon is this identity's. */
+int contexts_begin(const char *path, const struct kr_identity *identity, bool (*make_room)(unsigned age),
+                   bool (*give_up_keys)(void));
 
 /* Before a call: opens a connection where the daemon has ended all, with which all contexts have gone. From now on asks
  * end by the call's deadline. */
@@ -58,8 +59,8 @@ int contexts_renew(void);
 /* Whether it is on a connection in whose place there is another. */
 bool context_is_old(const struct context *context);
 
-/* Whether on its connection the last contexts are left, which are for others than who has most of them. */
-bool context_is_scarce(const struct context *context);
+/* How many contexts its connection may have besides those that it has. */
+unsigned context_left(const struct context *context);
 
 /* The connection of a context, NULL where it has gone with its connection, or is none. */
 struct kr *context_connection(const struct context *context);

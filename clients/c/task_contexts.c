@@ -1,7 +1,7 @@
 /* task_contexts.c: the contexts of threads. */
 #include "serve.h"
 
-enum { LOOKED_AT = 64, GIVEN_UP = 8, FEW = 8 };
+enum { LOOKED_AT = 64, GIVEN_UP = 8, LAST = 7 };
 
 /* ---- A thread's ---- */
 
@@ -152,10 +152,10 @@ static unsigned count_of(uint32_t uid, unsigned age) {
     return count;
 }
 
-/* The last contexts of a connection are for users who have few there, so that no two of them take all. */
+/* The last contexts of a connection are for users who have fewer there than are left, so that no three take all. */
 bool seats_may_have_more(const struct user *user) {
     const unsigned age = user->context.age;
-    while (context_is_scarce(&user->context) && count_of(user->identity.uid, age) >= FEW)
+    for (unsigned left; (left = context_left(&user->context)) <= LAST && count_of(user->identity.uid, age) >= left;)
         if (!tracees_make_room(age)) return fail_as(EDQUOT), false;
     return true;
 }

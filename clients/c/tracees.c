@@ -282,7 +282,7 @@ int tracees_begin(const struct tracees_settings *settings, int epoll) {
     struct kr_identity identity = settings->identity;
     if (settings->is_container) admission_put_first(&identity);
     admission_set(&begun, identity.uid);
-    if (contexts_begin(settings->socket, tracees_make_room, users_give_up_keys) < 0) return -1;
+    if (contexts_begin(settings->socket, &identity, tracees_make_room, users_give_up_keys) < 0) return -1;
     if (sessions_begin(&identity, &begun, settings->name, settings->is_container) < 0) return -1;
     return settings->child > 0 ? begin_child(settings->child) : 0;
 }

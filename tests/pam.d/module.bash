@@ -87,19 +87,19 @@ try_inherited() {
 
 # What outlives the login and still has a context keeps its keys, unless they are revoked.
 try_revoke() {
-  local name wanted word
-  while read -r name word wanted; do
+  local name word signal wanted
+  while read -r name word signal wanted; do
     service "$name" "socket=$path" "$word"
     rm -f "$dir/over" "$dir/stayed"
     gives "$name" 'open success close success' "$name" open "run:$dir/stay $dir/over >$dir/stayed 2>&1 &
-      until grep -q . $dir/stayed; do sleep 0.05; done" close
+      until grep -q . $dir/stayed; do sleep 0.05; done; pkill -$signal -f '^keyretain-keeper .*$path'" close
     gone "$name"
     touch "$dir/over"
     until_true has_two_lines "$dir/stayed"
     is "$name: a program that stays" "$wanted" "$(sed -n 2p "$dir/stayed")"
   done <<'END_OF_TABLE'
-revoked revoke EKEYREVOKED
-not-revoked debug still there
+revoked revoke TERM EKEYREVOKED
+not-revoked debug 0 still there
 END_OF_TABLE
 }
 
