@@ -5,7 +5,7 @@ use Rattle.krs_types.specs.declared.event.Event.{Event}
 use Rattle.krs_model.specs.{Access.is_over, History.IsLegal, Revocation.Reads, State.{Key, State}, Step.Step, Table.at}
 
 -- Whatever comes before, between and after, no key is read once its time is over: nobody may set its timeout anew, nor
--- write it, since an expired key grants nobody any right
+-- write it, since an expired key is refused before any right is asked
 abbrev pub ExpiredStaysUnread : State → Type 0
 ExpiredStaysUnread start =
     (before : List Event) (old : State) → IsLegal start before old

@@ -9,7 +9,7 @@ use Rattle.krs_types.specs.declared.kind.{Kind.Kind, Told.{Told, TheVariants.{It
 use Rattle.krs_model.specs.{Asks.Adding.add, Notes.Telling.named, Outcome.Outcome}
 use Rattle.krs_model.specs.{State.{Content, Key, Links, Payload, raised, State}, Step.Step, Table.{at, Table}}
 
--- what a payload is hidden as, by the serial of its key; that of a refused ADD, which has no key, by the serial 0
+-- what a payload is hidden as, by the serial of its key; that of a refused ADD, or an UPDATE of no key, by the serial 0
 abbrev pub Hiding : Type 0
 Hiding = ℕ → List ℕ → List ℕ
 

@@ -38,9 +38,9 @@ names_keyrings type_name = bytes_eq type_name (kind_name Keyring)
 
 -- What is said of an ask: its number, the kind of its answer, three marks, and its fields in their order. It takes
 -- memory, so that it may find none, where it makes something, links a key, keeps bytes, or is answered with bytes:
--- docs/FORMAT.md, "Asks that take no memory". It is long where it may walk far along links, or drop more than one key
--- or record: the choice is this project's own. It tells where it has notes: uapi linux/watch_queue.h, enum
--- key_notification_subtype.
+-- docs/FORMAT.md, "Asks that take no memory". It is long where it may go through what hangs below keyrings, drop more
+-- than one key, or end a queue: the choice is this project's own. It tells where it has notes: uapi
+-- linux/watch_queue.h, enum key_notification_subtype.
 pub record Row : Type 0 where
   pub number : ℕ
   pub shape : Shape
