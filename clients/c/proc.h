@@ -52,7 +52,8 @@ bool proc_read_auxv(pid_t process, bool *is_secure, uint32_t *uid);
 
 /* A number of what a process executes, and of all that execve(2) has told it so, addresses among that; 0 where it isn't
  * known. Another execve(2) has another one, unless that is of the same program, and the process has seen to it that
- * nothing is put at random, which it can't for what gains rights. */
+ * nothing is put at random, which it can't for what gains rights. Overlayfs gives a file with hard links another inode
+ * where it is changed, also only in its mode. */
 uint64_t proc_image(pid_t thread);
 
 /* The soft limit RLIMIT_LOCKS. */
