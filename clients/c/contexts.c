@@ -17,7 +17,7 @@ enum { CALL_MILLISECONDS = KEYRETAIN_CALL_MILLISECONDS, OPENING_MILLISECONDS = 1
  * processes that ask. All wait while a further connection is opened, so one that fails isn't tried again at once. */
 enum { IDENTITIES = 24, LASTING = 60, FURTHER_MILLISECONDS = 1000, PAUSE_MILLISECONDS = 10000 };
 
-/* Nobody else reads its name, and revokes or invalidates it. */
+/* Nobody else reads its name, and revokes or invalidates it, but for the time of one ask. */
 enum { MASK_OF_MARK = 0x3f000000 };
 
 /* Identities that no process has take this many connections at most, of those that others could have. */
@@ -60,9 +60,9 @@ static bool set_mark(const struct line *line, uint32_t mask) {
  * connections before has ended. */
 static bool enter_mark(const struct line *line) {
     const struct line *before = FIND(all.lines, at, !kr_is_broken(at->connection));
-    if (!before || !set_mark(before, MASK_OF_MARK | KR_USER_MAY_SEARCH)) return false;
-    bool has_entered = kr_enter_named(line->connection, line->mark, &all.mark, all.identity.uid) == 0;
-    return set_mark(before, MASK_OF_MARK) && has_entered;
+    bool is_open = before && set_mark(before, MASK_OF_MARK | KR_USER_MAY_SEARCH);
+    bool has_entered = is_open && kr_enter_named(line->connection, line->mark, &all.mark, all.identity.uid) == 0;
+    return before && set_mark(before, MASK_OF_MARK) && has_entered; /* also where no answer came in time */
 }
 
 /* Another daemon has none of what there is on the other connections, and it may listen in the same process: behind a
@@ -74,7 +74,7 @@ static bool has_mark(struct line *line) {
     line->mark = (uint32_t)context;
     if (all.lines) return enter_mark(line);
     if (kr_name_session(&all.mark, NULL) < 0) return false;
-    all.mark.serial = kr_begin_session(line->connection, line->mark, all.mark.name, all.identity.uid);
+    all.mark.serial = kr_join(line->connection, line->mark, all.mark.name);
     return all.mark.serial > 0 && set_mark(line, MASK_OF_MARK);
 }
 
@@ -111,9 +111,10 @@ void contexts_set_deadline(void) {
 
 static struct line *first_in_use(void) { return FIND(all.lines, line, !line->is_old); }
 
-/* The guard has no place, or the daemon behind it is started again: there is a daemon. */
+/* Other errors say that no daemon is there. */
 static bool is_told(int error) {
-    return error == ENOMEM || error == EACCES || error == ETIMEDOUT || error == EDQUOT || error == ECONNRESET;
+    return error == ENOMEM || error == EACCES || error == ETIMEDOUT || error == ECONNRESET || error == EDQUOT ||
+           error == EPERM;
 }
 
 /* Where it shows that the daemon of the other connections has ended, these are closed, and another counts alone. */
@@ -278,7 +279,7 @@ void context_end(struct context *context) {
     ERRNO_STAYS;
     struct kr *connection = context_connection(context);
     if (connection && !kr_tell(connection, KR_EXIT, context->number)) {
-        connection->until = kr_now() + CALL_MILLISECONDS;
+        connection->until = kr_now() + OPENING_MILLISECONDS;
         kr_exit(connection, context->number);
     }
     context_forget(context);

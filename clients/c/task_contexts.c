@@ -1,7 +1,7 @@
 /* task_contexts.c: the contexts of threads. */
 #include "serve.h"
 
-enum { LOOKED_AT = 64, GIVEN_UP = 8, LAST = 7 };
+enum { LOOKED_AT = 64, GIVEN_UP = 8, LAST = 15 };
 
 /* ---- A thread's ---- */
 

@@ -71,7 +71,7 @@ static int ask_in_processes(int count, int id) {
         kept += is_kept;
     }
     while (wait(NULL) > 0) continue;
-    printf("served %s, refused %s, kept %s, then %s\n", served == count ? "all" : served >= 50 ? "50 or more" : "few",
+    printf("served %s, refused %s, kept %s, then %s\n", served == count ? "all" : served >= 40 ? "40 or more" : "few",
            served + refused == count ? "the others by EDQUOT" : "otherwise", kept == served ? "all" : "not all",
            ring_of(id, 1) > 0 ? "served" : "refused");
     return 0;
@@ -104,7 +104,7 @@ static int ask_in_threads(int count, int id) {
         if (given[i].value < 0 && given[i].error == EDQUOT) refused++;
         for (int j = 0; j < i; j++) twice += given[i].value > 0 && given[i].value == given[j].value;
     }
-    printf("served %s, refused %s, %s\n", served == count ? "all" : served >= 50 ? "50 or more" : "few",
+    printf("served %s, refused %s, %s\n", served == count ? "all" : served >= 40 ? "40 or more" : "few",
            served + refused == count ? "the others by EDQUOT" : "otherwise",
            twice == 0 ? "each its own" : "one for all");
     return 0;
