@@ -117,12 +117,10 @@ bool may_be_again(void);
 
 struct link {
     pthread_mutex_t lock; /* of what comes next */
-    bool is_used;
     bool is_ended; /* it was silent for too long */
     bool has_greeted;
-    int client, server; /* -1 before the first frame; the place's thread alone opens and closes them */
+    int client, server; /* -1 in a free place, and the server before the first frame; its thread alone closes them */
     struct peer peer;
-    bool is_trusted;
     int64_t deadline;  /* for the first HELLO */
     sem_t has_client;  /* what the thread waits for where there is none */
     struct screen screen; /* this and what comes next are the thread's own */

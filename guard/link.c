@@ -20,10 +20,6 @@ static pthread_mutex_t *lock(struct link *link) {
 }
 static void unlock(pthread_mutex_t *const *locked) { pthread_mutex_unlock(*locked); }
 
-static void wait_for(sem_t *semaphore) {
-    while (sem_wait(semaphore) < 0) continue; /* EINTR */
-}
-
 /* ---- What is judged ---- */
 
 /* Of a peer's groups those that a whole HELLO names, whose last fields they are: the rule compares each with each, and
@@ -46,7 +42,7 @@ static size_t keep_named(uint32_t *groups, size_t count, const uint8_t *bytes, s
 
 /* The next frame, or the next part of one. Answers how many bytes may be passed on, and whom a HELLO names. */
 static size_t screen_ask(struct link *link, uint8_t *bytes, size_t length, struct screen_claim *claim) {
-    const struct screen_peer peer = { link->peer.uid, link->peer.gid, unknown_gid, link->is_trusted };
+    const struct screen_peer peer = { link->peer.uid, link->peer.gid, unknown_gid, is_trusted_uid(link->peer.uid) };
     const uint32_t none[1] = { 0 };
     if (link->screen.ask_left > 0 || !krs_screen_c_find_claim(bytes, length, claim))
         return krs_screen_c_ask(&link->screen, &peer, none, 0, bytes, length);
@@ -150,17 +146,13 @@ static bool open_server(struct link *link) {
 /* Whatever was looked at may stay in its socket while the other side has the word. Whether more has come with what was
  * taken. */
 static bool give_asks(struct link *link) {
-    struct way *asks = &link->asks;
-    if (!give(asks)) return false;
     bool may_stay = link->screen.answered < link->screen.asked && link->screen.ask_left == 0;
-    return may_stay ? false : take(asks);
+    return give(&link->asks) && !may_stay && take(&link->asks);
 }
 
 static bool give_replies(struct link *link) {
-    struct way *replies = &link->replies;
-    if (!give(replies)) return false;
     bool may_stay = awaits(link, 0) && !link->asks.is_over;
-    return may_stay ? false : take(replies);
+    return give(&link->replies) && !may_stay && take(&link->replies);
 }
 
 /* The daemon is asked for with the first whole frame, so that a silent client holds no lane. */
@@ -257,7 +249,7 @@ static void end_link(struct link *link) {
     if (link->server >= 0) close(link->server);
     link->client = link->server = -1;
     explicit_bzero(&link->screen, sizeof link->screen);
-    link->is_used = link->is_ended = link->has_greeted = link->is_told = false;
+    link->is_ended = link->has_greeted = link->is_told = false;
     pthread_mutex_unlock(&link->lock);
     while (write(freed, &one, sizeof one) < 0 && may_be_again()) continue;
 }
@@ -266,7 +258,7 @@ static void *serve(void *given) {
     struct link *link = given;
     sem_post(&begun);
     for (;;) {
-        wait_for(&link->has_client);
+        TEMP_FAILURE_RETRY(sem_wait(&link->has_client));
         move(link);
         end_link(link);
     }
@@ -286,17 +278,15 @@ bool make_links(struct link *links, unsigned count) {
         are_made = pthread_mutex_init(&link->lock, NULL) == 0 && sem_init(&link->has_client, 0, 0) == 0 &&
                    pthread_create(&thread, &attributes, serve, link) == 0;
     }
-    for (unsigned i = 0; are_made && i < count; i++) wait_for(&begun);
+    for (unsigned i = 0; are_made && i < count; i++) TEMP_FAILURE_RETRY(sem_wait(&begun));
     pthread_attr_destroy(&attributes);
     return are_made;
 }
 
 void begin_link(struct link *link, int client, const struct peer *peer, int64_t deadline) {
     LOCKED(link);
-    link->is_used = true;
     link->client = client;
     link->peer = *peer;
-    link->is_trusted = is_trusted_uid(peer->uid);
     link->deadline = deadline;
     sem_post(&link->has_client);
 }
@@ -304,12 +294,12 @@ void begin_link(struct link *link, int client, const struct peer *peer, int64_t 
 bool find_owner(struct link *link, uint32_t *uid) {
     LOCKED(link);
     *uid = link->peer.uid;
-    return link->is_used;
+    return link->client >= 0;
 }
 
 int64_t end_if_silent(struct link *link, int64_t now) {
     LOCKED(link);
-    if (!link->is_used || link->is_ended || link->has_greeted) return INT64_MAX;
+    if (link->client < 0 || link->is_ended || link->has_greeted) return INT64_MAX;
     if (link->deadline > now) return link->deadline;
     link->is_ended = true;
     shutdown(link->client, SHUT_RDWR);

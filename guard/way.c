@@ -20,13 +20,6 @@ void begin_way(struct way *way, int from, int to) {
     way->is_looked_at = way->is_over = false;
 }
 
-/* Moves what stands behind so many bytes to the front, and wipes the rest. */
-static void drop(struct way *way, size_t count) {
-    memmove(way->bytes, way->bytes + count, way->there - count);
-    explicit_bzero(way->bytes + way->there - count, count);
-    way->there -= count;
-}
-
 static size_t least(size_t one, size_t other) { return one < other ? one : other; }
 
 /* A byte out of band can't be looked at: it is dropped where no other has come. */
@@ -44,7 +37,7 @@ bool bring(struct way *way, bool looks) {
     way->there += (size_t)got;
     way->untaken -= known;
     if (!way->is_looked_at) way->looked_at -= least((size_t)got, way->looked_at);
-    drop(way, known);
+    drop_front(way->bytes, &way->there, known);
     return (size_t)got > known;
 }
 
@@ -75,7 +68,7 @@ bool give(struct way *way) {
         way->looked_at = way->there;
         way->untaken = way->passed;
     }
-    drop(way, way->is_looked_at ? way->there : way->passed);
+    drop_front(way->bytes, &way->there, way->is_looked_at ? way->there : way->passed);
     way->passed = way->given = 0;
     return true;
 }
@@ -85,5 +78,5 @@ bool is_done(const struct way *way) { return way->is_over && way->passed == 0; }
 void end_way(struct way *way) {
     ssize_t got = way->from >= 0 ? recv(way->from, way->bytes, sizeof way->bytes, MSG_DONTWAIT) : 0;
     if (got > (ssize_t)way->there) way->there = (size_t)got;
-    drop(way, way->there);
+    drop_front(way->bytes, &way->there, way->there);
 }

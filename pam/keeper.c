@@ -2,16 +2,10 @@
  * passwords, would run as the user. Between fork and execve(2) there is such a copy. It calls nothing but the system,
  * as other threads of the application may hold the C library's locks; and as its ids have changed, the kernel lets
  * nobody but root look at it. */
-#include "../clients/c/common.h"
+#include "keeper.h"
 
 #include <grp.h>
 #include <sys/uio.h>
-
-#include "keeper.h"
-
-#ifndef KEYRETAIN_KEEPER
-#define KEYRETAIN_KEEPER "/usr/local/libexec/keyretain/keyretain-keeper"
-#endif
 
 /* How long a login waits for its session, and a logout for its end. Tests on a busy machine are built with more. */
 #ifndef START_MILLISECONDS
@@ -25,7 +19,7 @@
 enum { KEEPER_MILLISECONDS = START_MILLISECONDS - 200, SOCKET_MAX = 107, DIGITS = 12 };
 enum { READING = 0, WRITING = 1, FIRST_FREE = STDERR_FILENO + 1 };
 
-const struct keeper no_keeper = { { -1, 0, 0 }, { -1, 0, 0 } };
+const struct keeper no_keeper = { .life.descriptor = -1, .answers.descriptor = -1 };
 
 /* ---- Descriptors ---- */
 
@@ -42,13 +36,7 @@ static void close_all(struct descriptors *all) {
     close_one(&all->nothing);
 }
 
-/* Above those that programs read from and write to: an application without these would write into a pipe. */
-static int move_up(int low) {
-    int moved = low < 0 ? -1 : fcntl(low, F_DUPFD_CLOEXEC, FIRST_FREE);
-    close_one(&low);
-    return moved;
-}
-
+/* An application without the three standard descriptors would write into it. */
 static int open_pipe(int ends[2]) {
     int low[2];
     if (pipe2(low, O_CLOEXEC) < 0) return -1;
@@ -64,31 +52,11 @@ static int open_descriptors(struct descriptors *all) {
     return all->nothing < 0 ? -1 : fcntl(all->life[WRITING], F_SETFL, O_NONBLOCK);
 }
 
-/* Takes a descriptor over. */
-static struct end end_of(int *descriptor) {
-    struct stat status;
-    struct end end = { -1, 0, 0 };
-    if (fstat(*descriptor, &status) == 0) end = (struct end){ *descriptor, status.st_dev, status.st_ino };
-    if (end.descriptor >= 0) *descriptor = -1;
-    return end;
-}
-
-static bool is_there(const struct end *end) {
-    struct stat status;
-    return end->descriptor >= 0 && fstat(end->descriptor, &status) == 0 && status.st_dev == end->device &&
-           status.st_ino == end->inode;
-}
-
-static void let_go(struct end *end) {
-    if (is_there(end)) close(end->descriptor);
-    end->descriptor = -1;
-}
-
-bool has_keeper(const struct keeper *keeper) { return is_there(&keeper->life) && is_there(&keeper->answers); }
+bool has_keeper(const struct keeper *keeper) { return kr_has_file(&keeper->life) && kr_has_file(&keeper->answers); }
 
 void let_go_of_keeper(struct keeper *keeper) {
-    let_go(&keeper->life);
-    let_go(&keeper->answers);
+    kr_close_file(&keeper->life);
+    kr_close_file(&keeper->answers);
 }
 
 /* ---- Starting ---- */
@@ -181,26 +149,6 @@ static int split_twice(const struct launch *launch) {
 
 /* ---- Its answer ---- */
 
-/* Reads two lines, or what comes until the end of the file, by the deadline. */
-static int read_lines(int from, char text[ANSWER_ROOM], int64_t deadline) {
-    size_t got = 0;
-    while (got < ANSWER_ROOM - 1) {
-        int64_t left = deadline - kr_now();
-        struct pollfd wait = { .fd = from, .events = POLLIN };
-        int ready = poll(&wait, 1, left > 0 ? (int)left : 0);
-        if (ready == 0) errno = ETIMEDOUT;
-        if (ready == 0 || (ready < 0 && errno != EINTR)) return -1;
-        if (ready < 0) continue;
-        ssize_t more = read(from, text + got, ANSWER_ROOM - 1 - got);
-        if (more < 0 && errno == EINTR) continue;
-        if (more <= 0) return (int)more;
-        text[got += (size_t)more] = '\0';
-        const char *line = strchr(text, '\n');
-        if (line && strchr(line + 1, '\n')) return 0;
-    }
-    return 0;
-}
-
 static bool is_printable(const char *text) {
     for (; *text; text++)
         if (*text < ' ' || *text > '~') return false;
@@ -234,7 +182,7 @@ static int launch_keeper(struct launch *launch, const struct passwd *user, char 
     int64_t deadline = kr_now() + START_MILLISECONDS;
     if (open_descriptors(&launch->all) < 0 || find_ids(launch, user) < 0 || split_twice(launch) < 0) return -1;
     close_one(&launch->all.answers[WRITING]);
-    return read_lines(launch->all.answers[READING], text, deadline);
+    return read_lines(launch->all.answers[READING], 2, text, ANSWER_ROOM, deadline);
 }
 
 void start_keeper(struct keeper *keeper, const struct passwd *user, const char *socket, struct answer *answer) {
@@ -248,8 +196,9 @@ void start_keeper(struct keeper *keeper, const struct passwd *user, const char *
     else
         take_apart(answer);
     if (answer->session) {
-        keeper->life = end_of(&launch.all.life[WRITING]);
-        keeper->answers = end_of(&launch.all.answers[READING]);
+        kr_take_file(&keeper->life, launch.all.life[WRITING]);
+        kr_take_file(&keeper->answers, launch.all.answers[READING]);
+        launch.all.life[WRITING] = launch.all.answers[READING] = -1;
     }
     close_all(&launch.all);
     free(launch.groups);

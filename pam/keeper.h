@@ -3,22 +3,14 @@
 #ifndef PAM_KEYRETAIN_KEEPER_H
 #define PAM_KEYRETAIN_KEEPER_H
 
-#include <pwd.h>
-#include <stdbool.h>
-#include <stdint.h>
-#include <sys/types.h>
+#include "../clients/c/common.h"
 
-/* A descriptor, and which pipe it is: an application may close all it has, and have something else under the number. */
-struct end {
-    int descriptor; /* -1 for none */
-    dev_t device;
-    ino_t inode;
-};
+#include <pwd.h>
 
 /* The writing end of the pipe on which a keeper waits; the reading end of that on which it answers, which is at its end
  * of file once the keeper has ended. */
 struct keeper {
-    struct end life, answers;
+    struct kr_file life, answers;
 };
 
 /* A session and the path of the daemon's socket, both printable; or NULL, and `text` says in a line why there is none.

@@ -3,17 +3,12 @@
  * The module has no connection to a daemon and no code of a client. It executes a keeper as the user, and has a pipe to
  * it. It says PAM_SUCCESS whatever happens: a login without keys is better than no login. PAM_IGNORE would end a login
  * whose stack has no other module. */
-#define _GNU_SOURCE
+#include "keeper.h"
+
 #include <security/pam_ext.h>
 #include <security/pam_modules.h>
 #include <security/pam_modutil.h>
-#include <stdbool.h>
-#include <stdio.h>
-#include <stdlib.h>
-#include <string.h>
 #include <syslog.h>
-
-#include "keeper.h"
 
 #define DATA "pam_keyretain"
 #define EXPORTED __attribute__((visibility("default")))
@@ -38,15 +33,6 @@ static const char *value_of(const char *word, const char *name) {
     return strncmp(word, name, length) == 0 && word[length] == '=' ? word + length + 1 : NULL;
 }
 
-static bool is_flag(struct options *options, const char *word) {
-    bool is_forced = strcmp(word, "force") == 0, revokes = strcmp(word, "revoke") == 0;
-    bool is_told = strcmp(word, "debug") == 0;
-    options->is_forced |= is_forced;
-    options->revokes |= revokes;
-    options->is_told |= is_told;
-    return is_forced || revokes || is_told;
-}
-
 /* Programs would take a relative LD_LIBRARY_PATH for one in the folder where they happen to be. */
 static struct options read_options(pam_handle_t *handle, int count, const char **words) {
     struct options options = { 0 };
@@ -56,7 +42,13 @@ static struct options read_options(pam_handle_t *handle, int count, const char *
             options.socket = socket;
         else if (library && *library == '/')
             options.library = library;
-        else if (!is_flag(&options, words[i]))
+        else if (strcmp(words[i], "force") == 0)
+            options.is_forced = true;
+        else if (strcmp(words[i], "revoke") == 0)
+            options.revokes = true;
+        else if (strcmp(words[i], "debug") == 0)
+            options.is_told = true;
+        else
             pam_syslog(handle, LOG_ERR, "no such option: %s", words[i]);
     }
     return options;

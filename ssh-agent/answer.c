@@ -1,10 +1,6 @@
 /* answer.c: see agent.h. Numbers and names are those of draft-ietf-sshm-ssh-agent. */
-#include <errno.h>
-#include <linux/keyctl.h>
 #include <openssl/evp.h>
 #include <openssl/rand.h>
-#include <stdio.h>
-#include <stdlib.h>
 
 #include "agent.h"
 #include "session.h"

@@ -85,16 +85,14 @@ enum { LOOKS = 3 };
 
 /* What a runtime has begun for all of a container is above all in it. */
 struct admitted admission_admit(const struct task *task, const struct admission_process *process) {
-    struct admission_arrival arrival;
-    struct session *tagged, *above;
-    memset(&arrival, 0, sizeof arrival);
+    struct admission_arrival arrival = { 0 };
     const struct process *process_above = find_above(task->process->id, &arrival.knows_above);
     for (int i = 1; i < LOOKS && !arrival.knows_above; i++)
         process_above = find_above(task->process->id, &arrival.knows_above);
-    above = process_above ? process_above->first->session : is_in_container ? sessions_first() : NULL;
+    struct session *above = process_above ? process_above->first->session : is_in_container ? sessions_first() : NULL;
     arrival.process = *process;
     arrival.has_limit = proc_read_locks(task->process->id, &arrival.soft);
-    tagged = arrival.has_limit ? session_of_tag(arrival.soft) : NULL;
+    struct session *tagged = arrival.has_limit ? session_of_tag(arrival.soft) : NULL;
     arrival.has_held = tell(task->session, &arrival.held);
     arrival.has_tagged = tell(tagged, &arrival.tagged);
     arrival.has_above = tell(above, &arrival.above);
@@ -112,10 +110,9 @@ struct admitted admission_admit(const struct task *task, const struct admission_
  * a parent, which may be another container's. */
 bool admission_keeps(pid_t id, const struct session *session) {
     struct proc_status status;
-    struct admission_session told;
+    struct admission_session told = { 0 };
     struct admission_process process;
     if (!proc_read_status(id, &status)) return false;
-    memset(&told, 0, sizeof told);
     tell(session, &told);
     put_status(&process, &status);
     process.has_auxv = true;
@@ -125,10 +122,9 @@ bool admission_keeps(pid_t id, const struct session *session) {
 }
 
 bool admission_may_be_forgotten(const struct process *process) {
-    struct admission_arrival arrival;
+    struct admission_arrival arrival = { 0 };
     struct proc_status status;
     if (!process->first->session) return true;
-    memset(&arrival, 0, sizeof arrival);
     if (!proc_read_status(process->id, &status)) return false;
     admission_read(&arrival.process, process->id, &status);
     arrival.has_limit = proc_read_locks(process->id, &arrival.soft);
@@ -138,10 +134,8 @@ bool admission_may_be_forgotten(const struct process *process) {
 
 bool admission_may_be_given(const struct proc_status *child, const struct session *session,
                             const struct proc_status *status) {
-    struct admission_parent parent;
-    struct admission_session told;
-    memset(&parent, 0, sizeof parent);
-    memset(&told, 0, sizeof told);
+    struct admission_parent parent = { 0 };
+    struct admission_session told = { 0 };
     put_status(&parent.process, status);
     parent.process.has_auxv = true;
     parent.gids = to_inside(&status->gids, maps_gid);

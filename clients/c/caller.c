@@ -1,9 +1,7 @@
 /* caller.c: the contexts of a process's threads, and its session. */
-#include "caller.h"
+#include "seats.h"
 
 #include <sys/single_threaded.h>
-
-#include "seats.h"
 
 /* A call ends after so long; one that finds no free lane, where the daemon accepts nothing, sooner. */
 enum { CALL_MILLISECONDS = 30000, OPENING_MILLISECONDS = 10000, LONGEST_PAUSE = 64 };
@@ -147,8 +145,6 @@ static int enter_context(struct caller *caller) {
 }
 
 bool caller_enter(struct caller *caller) {
-    caller->seat = NULL;
-    caller->may_hold = false;
     caller->begun = kr_now();
     caller->deadline = caller->begun + CALL_MILLISECONDS;
     if (limit < caller->deadline) caller->deadline = limit;

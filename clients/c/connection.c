@@ -39,18 +39,10 @@ static int send_ask(struct kr *connection, const struct kr_ask_form *form, uint3
 
 /* ---- Its reply ---- */
 
-/* Takes the first `length` bytes out of `in`. */
-static void drop(struct kr *connection, size_t length) {
-    uint8_t *in = connection->memory->in;
-    connection->in_length -= length;
-    memmove(in, in + length, connection->in_length);
-    explicit_bzero(in + connection->in_length, length);
-}
-
 /* Overwrites the last answer, which may have been a payload. */
 static void wipe(struct kr *connection) {
     ERRNO_STAYS;
-    if (connection->taken > 0) drop(connection, connection->taken);
+    if (connection->taken > 0) drop_front(connection->memory->in, &connection->in_length, connection->taken);
     connection->taken = 0;
 }
 
@@ -83,7 +75,7 @@ static int take_reply(struct kr *connection, struct kr_reply *reply) {
         bool is_late = reply->tag & KR_MAKES && reply->status == 0 && reply->length == 4;
         if (is_late && connection->late_count < KR_CONTEXTS)
             connection->late[connection->late_count++] = kr_get_u32(reply->body);
-        drop(connection, reply->frame_length);
+        drop_front(connection->memory->in, &connection->in_length, reply->frame_length);
     }
     return found;
 }

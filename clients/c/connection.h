@@ -101,27 +101,6 @@ bool kr_is_trusted(enum kr_place place, const char *path, uid_t user, uid_t peer
 /* What stands for uids that have no number in a user namespace. */
 unsigned kr_unknown_uid(void);
 
-/* ---- Descriptors ---- */
-
-/* A descriptor and the file that it stands for: a program may close every descriptor, and have something else under the
- * number. */
-struct kr_file {
-    int descriptor; /* -1 for none */
-    mode_t type;
-    dev_t device;
-    ino_t inode;
-};
-
-/* Takes a descriptor over. False with errno where it is none, or can't be told from what has its number later: then it
- * is closed. */
-bool kr_take_file(struct kr_file *file, int descriptor);
-
-/* Whether the number is still that file's, in whatever process. */
-bool kr_has_file(const struct kr_file *file);
-
-/* Closes it, if it is; errno stays. */
-void kr_close_file(struct kr_file *file);
-
 /* ---- A connection ---- */
 
 /* From here to the end of the block this thread isn't cancelled; errno is that of the block's end. */

@@ -128,11 +128,7 @@ int contexts_begin_call(void) {
     return 0;
 }
 
-int32_t contexts_daemon(void) {
-    const struct line *line = FIND(all.lines, at, !kr_is_broken(at->connection));
-    return line ? line->connection->peer.pid : -1;
-}
-
+bool contexts_have_daemon(void) { return FIND(all.lines, line, !kr_is_broken(line->connection)) != NULL; }
 unsigned contexts_beginnings(void) { return all.beginnings; }
 
 void contexts_tidy(void) {
@@ -148,26 +144,19 @@ static unsigned long long reads_of(const struct line *line) {
     return line->connection->asked + line->connection->further_reads;
 }
 
-static struct line *find_worn(void) {
-    return FIND(all.lines, line, !line->is_old && reads_of(line) >= line->most);
-}
-
-bool contexts_are_worn(void) { return find_worn() != NULL; }
-
 static struct line *find_line(unsigned age) { return FIND(all.lines, line, line->age == age); }
 
 /* Where there is no other connection it is tried again a while later. */
-int contexts_renew(void) {
-    struct line *worn = find_worn(), *line = open_line(OPENING_MILLISECONDS);
-    if (!line) {
-        worn->most = reads_of(worn) + KEYRETAIN_READS / 100;
-        return -1;
-    }
+bool contexts_renew(void) {
+    struct line *worn = FIND(all.lines, at, !at->is_old && reads_of(at) >= at->most);
+    struct line *line = worn ? open_line(OPENING_MILLISECONDS) : NULL;
+    if (worn && !line) worn->most = reads_of(worn) + KEYRETAIN_READS / 100;
+    if (!line) return false;
     struct line *before = find_line(worn->replaces); /* none has the age 0 */
     if (before) close_line(before);
     worn->is_old = true;
     line->replaces = worn->age;
-    return 0;
+    return true;
 }
 
 /* ---- Contexts ---- */

@@ -4,10 +4,6 @@
 
 #include <spawn.h>
 
-#ifndef KEYRETAIN_KEEPER
-#define KEYRETAIN_KEEPER "/usr/local/libexec/keyretain/keyretain-keeper"
-#endif
-
 enum { KEPT_DESCRIPTOR = 200, READING = 0, WRITING = 1, LOOK_MILLISECONDS = 1 };
 
 /* A pipe of which each end is closed at the end of the block, if it still is open. */
@@ -21,10 +17,7 @@ static void close_pipe(int (*ends)[2]) {
 static int open_pipe(int ends[2]) {
     int low[2];
     if (pipe2(low, O_CLOEXEC) < 0) return -1;
-    for (int i = READING; i <= WRITING; i++) {
-        ends[i] = fcntl(low[i], F_DUPFD_CLOEXEC, STDERR_FILENO + 1);
-        close_one(&low[i]);
-    }
+    for (int i = READING; i <= WRITING; i++) ends[i] = move_up(low[i]);
     return ends[READING] < 0 || ends[WRITING] < 0 ? -1 : 0;
 }
 
@@ -62,31 +55,14 @@ static void reap(pid_t started, int64_t deadline) {
 
 /* ---- Its answer ---- */
 
-/* Reads a line, by the deadline: 0, or -1 with errno. */
-static int read_line(int from, char *text, size_t room, int64_t deadline) {
-    size_t got = 0;
-    for (;;) {
-        int64_t left = deadline - kr_now();
-        struct pollfd wait = { .fd = from, .events = POLLIN };
-        int ready = poll(&wait, 1, left > 0 ? (int)left : 0);
-        if (ready == 0) errno = ETIMEDOUT;
-        if (ready == 0 || (ready < 0 && errno != EINTR)) return -1;
-        if (ready < 0) continue;
-        ssize_t more = read(from, text + got, room - 1 - got);
-        if (more == 0) errno = ECHILD; /* it has ended without a word */
-        if (more == 0 || (more < 0 && errno != EINTR)) return -1;
-        if (more < 0) continue;
-        text[got += (size_t)more] = '\0';
-        if (strchr(text, '\n')) return 0;
-    }
-}
-
 /* `SERIAL:NAME`, or `refused ERROR WHAT`, or `failed ERROR WHAT`. */
 static int read_answer(int from, struct kr_session *session, int64_t deadline, enum kr_refusal *why) {
     char text[KR_SESSION_NAME_ROOM + KR_PATH_ROOM + 64];
     int error;
-    if (read_line(from, text, sizeof text, deadline) < 0) return -1;
-    text[strcspn(text, "\n")] = '\0';
+    if (read_lines(from, 1, text, sizeof text, deadline) < 0) return -1;
+    char *end = strchr(text, '\n');
+    if (!end) return fail_as(ECHILD); /* it has ended without a word */
+    *end = '\0';
     if (kr_parse_session(session, text) && session->serial > 0) return 0;
     *why = strncmp(text, "refused ", 8) == 0 ? KR_REFUSED : KR_NO_DAEMON;
     errno = sscanf(text, "%*s %d", &error) == 1 && error > 0 ? error : EPROTO;

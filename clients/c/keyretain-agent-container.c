@@ -95,15 +95,9 @@ static _Noreturn void become_daemon(const struct container *container, pid_t par
 /* It says `listening PATH`. */
 static bool is_listening(int answers) {
     static const char wanted[] = "listening ";
-    char said[sizeof wanted - 1];
-    struct pollfd wait = { .fd = answers, .events = POLLIN };
-    int64_t deadline = kr_now() + DAEMON_PATIENCE;
-    int ready;
-    do ready = poll(&wait, 1, kr_now() < deadline ? (int)(deadline - kr_now()) : 0);
-    while (ready < 0 && errno == EINTR);
-    if (ready <= 0) errno = ETIMEDOUT;
-    if (ready <= 0 || read(answers, said, sizeof said) != sizeof said) return false;
-    return memcmp(said, wanted, sizeof said) == 0;
+    char said[sizeof wanted + KR_PATH_ROOM];
+    return read_lines(answers, 1, said, sizeof said, kr_now() + DAEMON_PATIENCE) == 0 &&
+           strncmp(said, wanted, sizeof wanted - 1) == 0;
 }
 
 static void start_daemon(const struct container *container) {

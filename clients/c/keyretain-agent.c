@@ -11,9 +11,6 @@
 #include "../../guard/listener.h"
 #include "serve.h"
 
-#ifndef KEYRETAIN_DAEMON
-#define KEYRETAIN_DAEMON "/usr/local/sbin/keyretaind"
-#endif
 #define AGENT_SOCKET "/run/keyretain-agent.sock"
 #define AGENT_FOLDER "/run/keyretain-agent"
 
@@ -131,13 +128,9 @@ static bool keep_descriptors(struct visitor *visitor, struct msghdr *message) {
 
 /* Takes what has come. JSON_BROKEN: the visit is over, for nothing can come of it. */
 static enum json_extent receive(struct visitor *visitor) {
-    union { /* as cmsg(3) aligns it */
-        char bytes[CMSG_SPACE(sizeof(int) * VISITOR_DESCRIPTORS_MAX)];
-        struct cmsghdr head;
-    } room;
+    _Alignas(struct cmsghdr) char room[CMSG_SPACE(sizeof(int) * VISITOR_DESCRIPTORS_MAX)];
     struct iovec bytes = { visitor->text + visitor->received, VISITOR_STATE_MAX - visitor->received };
-    struct msghdr message = { .msg_iov = &bytes, .msg_iovlen = 1, .msg_control = &room,
-                              .msg_controllen = sizeof room };
+    struct msghdr message = { .msg_iov = &bytes, .msg_iovlen = 1, .msg_control = room, .msg_controllen = sizeof room };
     size_t used;
     ssize_t got = recvmsg(visitor->connection, &message, MSG_CMSG_CLOEXEC | MSG_DONTWAIT);
     if (got < 0) return errno == EAGAIN || errno == EINTR ? JSON_PARTIAL : JSON_BROKEN;
@@ -151,12 +144,9 @@ static enum json_extent receive(struct visitor *visitor) {
 /* ---- The listener ---- */
 
 static bool is_seccomp_listener(int descriptor) {
-    char path[40], kind[40];
+    char path[40], kind[40] = "";
     snprintf(path, sizeof path, "/proc/self/fd/%d", descriptor);
-    ssize_t length = readlink(path, kind, sizeof kind - 1);
-    if (length < 0) return false;
-    kind[length] = '\0';
-    return strcmp(kind, "anon_inode:seccomp notify") == 0;
+    return readlink(path, kind, sizeof kind - 1) > 0 && strcmp(kind, "anon_inode:seccomp notify") == 0;
 }
 
 /* What a whole state says, and the listener that came with it, which is the caller's then; -1 where it isn't what a

@@ -9,10 +9,6 @@
 #include "../../guard/listener.h"
 #include "launch.h"
 
-#ifndef KEYRETAIN_LIBRARY_FOLDER
-#define KEYRETAIN_LIBRARY_FOLDER "/usr/local/lib/keyretain"
-#endif
-
 enum { PATIENCE_MILLISECONDS = 10000, VARIABLES_MAX = 16, PAYLOAD_MAX = 32767, DECIMAL = 10 };
 
 enum way { BY_LIBRARY, BY_SYSTEM_CALLS, JOINING };

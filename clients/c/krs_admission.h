@@ -6,7 +6,6 @@
 
 #include <assert.h>
 #include <stdbool.h>
-#include <stddef.h>
 #include <stdint.h>
 
 /* The uids or the gids of credentials(7), as they are in the user namespace that is served. */

@@ -24,7 +24,7 @@ static struct {
 
 /* ---- The command ---- */
 
-static void execute(char **command) {
+static _Noreturn void execute(char **command) {
     if (sigaction(SIGCHLD, &inherited.of_children, NULL) < 0 || sigprocmask(SIG_SETMASK, &inherited.mask, NULL) < 0)
         fail(REFUSED, "signals");
     execvp(*command, command);
@@ -143,7 +143,7 @@ static void end_as(int status) {
 }
 
 /* Where the supervisor is gone the command goes on, without keys, and is this process's child then. */
-static void wait_for_command(pid_t supervisor, int reports, const char *path, const char *name) {
+static _Noreturn void wait_for_command(pid_t supervisor, int reports, const char *path, const char *name) {
     struct report report;
     int status;
     command_descriptor = serve_receive_listener(reports);
@@ -199,7 +199,6 @@ static void join_within(const char *name, char **command) {
     if (syscall(SYS_keyctl, KEYCTL_LINK, KEY_SPEC_USER_KEYRING, KEY_SPEC_SESSION_KEYRING) < 0 && errno != ELOOP)
         fail(REFUSED, "the user keyring"); /* see kr_link_user_keyring */
     execute(command);
-    abort();
 }
 
 /* Until they are handled, and by the command, signals are held back. */
@@ -233,5 +232,4 @@ void launch(const char *path, const char *name, char **command) {
     }
     close(reports[1]);
     wait_for_command(supervisor, reports[0], path, name);
-    abort();
 }

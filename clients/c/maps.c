@@ -15,14 +15,10 @@ static struct {
 } all;
 
 /* 0, or -1 where it may not be looked at. */
-static int find_namespace_of(pid_t process, const char *kind, struct stat *namespace) {
+static int find_namespace(pid_t process, const char *kind, struct stat *namespace) {
     char path[64];
     snprintf(path, sizeof path, "/proc/%d/ns/%s", (int)process, kind);
     return stat(path, namespace);
-}
-
-static int find_namespace(pid_t process, struct stat *namespace) {
-    return find_namespace_of(process, "user", namespace);
 }
 
 static bool is_same(const struct stat *one, const struct stat *other) {
@@ -68,9 +64,9 @@ static int open_outermost(pid_t process, const struct stat *ours) {
 /* Whether a process is in it, before and after its maps were read. */
 static bool read_maps_in(pid_t process, const struct stat *namespace) {
     struct stat before, after;
-    return find_namespace(process, &before) == 0 && is_same(&before, namespace) &&
+    return find_namespace(process, "user", &before) == 0 && is_same(&before, namespace) &&
            read_map(process, "uid_map", &all.uids) && read_map(process, "gid_map", &all.gids) &&
-           find_namespace(process, &after) == 0 && is_same(&after, namespace);
+           find_namespace(process, "user", &after) == 0 && is_same(&after, namespace);
 }
 
 /* Where the first process is there no more, the maps are read of one of ours. */
@@ -89,14 +85,14 @@ static bool read_maps_of(int namespace, pid_t first) {
 void maps_begin(pid_t first) {
     static const struct map ours = { .count = 1, .ranges = { { 0, 0, UINT32_MAX } } }; /* ids are as they are read */
     struct stat own = { 0 };
-    find_namespace_of(getpid(), all.kind = "pid", &own);
-    bool is_known = first > 0 && find_namespace_of(first, all.kind, &all.container) == 0;
+    find_namespace(getpid(), all.kind = "pid", &own);
+    bool is_known = first > 0 && find_namespace(first, all.kind, &all.container) == 0;
     if (is_known && is_same(&own, &all.container))
-        is_known = find_namespace_of(first, all.kind = "mnt", &all.container) == 0;
+        is_known = find_namespace(first, all.kind = "mnt", &all.container) == 0;
     if (!is_known) all.kind = NULL;
     all.unknown = kr_unknown_uid();
     all.length = read_map(getpid(), "uid_map", &all.uids) ? length_of(&all.uids) : 0;
-    if (find_namespace(getpid(), &all.namespace) < 0) return;
+    if (find_namespace(getpid(), "user", &all.namespace) < 0) return;
     all.uids = all.gids = ours;
     int outermost = first > 0 ? open_outermost(first, &all.namespace) : -1;
     if (outermost < 0) return;
@@ -145,5 +141,5 @@ bool maps_are_outside(pid_t process) {
 
 bool maps_are_others(pid_t thread) {
     struct stat namespace;
-    return find_namespace(thread, &namespace) < 0 || !is_same(&namespace, &all.namespace);
+    return find_namespace(thread, "user", &namespace) < 0 || !is_same(&namespace, &all.namespace);
 }

@@ -33,20 +33,13 @@ const struct key_row key_rows[] = {
     { CALL("reject", KEYCTL_REJECT, KEY_ID), .refused = EPERM },
     { CALL("instantiate_iov", KEYCTL_INSTANTIATE_IOV, KEY_ID), .refused = EPERM },
     { CALL("invalidate", KEYCTL_INVALIDATE, KEY_ID) },
-    { CALL("get_persistent", KEYCTL_GET_PERSISTENT, KEY_ID), .refused = EOPNOTSUPP },
-    { CALL("dh_compute", KEYCTL_DH_COMPUTE, KEY_ID), .refused = EOPNOTSUPP },
-    { CALL("pkey_query", KEYCTL_PKEY_QUERY, KEY_ID), .refused = EOPNOTSUPP },
-    { CALL("pkey_encrypt", KEYCTL_PKEY_ENCRYPT, KEY_ID), .refused = EOPNOTSUPP },
-    { CALL("pkey_decrypt", KEYCTL_PKEY_DECRYPT, KEY_ID), .refused = EOPNOTSUPP },
-    { CALL("pkey_sign", KEYCTL_PKEY_SIGN, KEY_ID), .refused = EOPNOTSUPP },
-    { CALL("pkey_verify", KEYCTL_PKEY_VERIFY, KEY_ID), .refused = EOPNOTSUPP },
     { CALL("restrict_keyring", KEYCTL_RESTRICT_KEYRING, KEY_ID, KEY_TYPE, KEY_TEXT) },
     { CALL("move", KEYCTL_MOVE, KEY_ID, KEY_ID, KEY_ID) },
     { CALL("capabilities", KEYCTL_CAPABILITIES, KEY_ROOM), .effect = KEY_READS },
-    { CALL("watch_key", KEYCTL_WATCH_KEY, KEY_ID), .refused = EOPNOTSUPP },
     { 0 }
 };
 
+/* Also of the commands on keys of other types, on persistent keyrings and on pipes of notes. */
 static const struct key_row no_row = { CALL("", -1, KEY_ID), .refused = EOPNOTSUPP };
 
 const struct key_row *key_row_of(int call) {

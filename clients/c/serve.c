@@ -246,7 +246,7 @@ enum serve_result serve(int listener, const struct serve_settings *settings) {
     all.settings = settings;
     if (begin(listener) < 0) return SERVE_REFUSED;
     if (tracees_begin(&settings->tracees, all.epoll) < 0) {
-        bool is_there = contexts_daemon() >= 0 || errno == EDQUOT || errno == EPERM || errno == ENOMEM;
+        bool is_there = contexts_have_daemon() || errno == EDQUOT || errno == EPERM || errno == ENOMEM;
         return is_there && errno != ETIMEDOUT ? SERVE_REFUSED : SERVE_NO_DAEMON;
     }
     if (settings->is_ready) settings->is_ready();

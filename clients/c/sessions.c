@@ -3,8 +3,6 @@
 
 #include <sys/random.h>
 
-#include "proc.h"
-
 enum { MASK_WITHOUT_NAME = 0x3f030000, ABSENT_SWEEPS = 2, DECIMAL = 10 };
 
 static struct {

@@ -45,16 +45,15 @@ bool contexts_are_many(void);
 /* Closes connections without a context, but one. */
 void contexts_tidy(void);
 
-/* The process that listens there; -1 where there is no connection, 0 where it isn't known. */
-int32_t contexts_daemon(void);
+/* Whether there is a connection. */
+bool contexts_have_daemon(void);
 
 /* How often a connection was made where there was no other: to the daemon of before, or to another. */
 unsigned contexts_beginnings(void);
 
-/* Whether it is time for another connection in the place of some one, and opens it; that one is left for contexts that
- * were made on it, until the other is worn too. */
-bool contexts_are_worn(void);
-int contexts_renew(void);
+/* Opens another connection in the place of one whose time it is; that one is left for contexts that were made on it,
+ * until the other is worn too. False where there is none. */
+bool contexts_renew(void);
 
 /* Whether it is on a connection in whose place there is another. */
 bool context_is_old(const struct context *context);

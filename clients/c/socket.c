@@ -46,38 +46,7 @@ static int prepare_to_wait(struct kr *connection, int which, int *flags) {
     return left == 0 ? 0 : wait_in_socket(connection, which, left);
 }
 
-/* ---- Descriptors ---- */
-
-bool kr_take_file(struct kr_file *file, int descriptor) {
-    struct stat status;
-    if (descriptor < 0) return false;
-    if (fstat(descriptor, &status) < 0) return close_one(&descriptor), false;
-    *file = (struct kr_file){ descriptor, status.st_mode & S_IFMT, status.st_dev, status.st_ino };
-    return true;
-}
-
-bool kr_has_file(const struct kr_file *file) {
-    struct stat status;
-    return file->descriptor >= 0 && fstat(file->descriptor, &status) == 0 && (status.st_mode & S_IFMT) == file->type &&
-           status.st_dev == file->device && status.st_ino == file->inode;
-}
-
-void kr_close_file(struct kr_file *file) {
-    ERRNO_STAYS;
-    if (kr_has_file(file)) close(file->descriptor);
-    file->descriptor = -1;
-}
-
 /* ---- Opening ---- */
-
-/* A socket whose number isn't one of the three that programs read from and write to, even if these are closed. */
-static int open_socket(void) {
-    int opened = socket(AF_UNIX, SOCK_STREAM | SOCK_CLOEXEC, 0);
-    if (opened < 0 || opened > STDERR_FILENO) return opened;
-    int moved = fcntl(opened, F_DUPFD_CLOEXEC, STDERR_FILENO + 1);
-    close_one(&opened);
-    return moved;
-}
 
 /* NULL where there is none. A kernel that doesn't wipe it in children leaves them to be told by their pid. */
 static struct kr_memory *make_memory(pid_t *owner) {
@@ -100,7 +69,8 @@ struct kr *kr_prepare(const struct kr_where *where, unsigned flags, uid_t user) 
                                .address.sun_family = AF_UNIX };
     memcpy(connection->address.sun_path, where->path, sizeof where->path);
     connection->memory = make_memory(&connection->owner);
-    if (connection->memory && kr_take_file(&connection->socket, open_socket())) return connection;
+    int opened = connection->memory ? move_up(socket(AF_UNIX, SOCK_STREAM | SOCK_CLOEXEC, 0)) : -1;
+    if (kr_take_file(&connection->socket, opened)) return connection;
     kr_close(connection);
     return NULL;
 }

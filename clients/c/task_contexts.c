@@ -28,11 +28,6 @@ struct seat *find_seat(struct task *task, const struct user *user, const struct 
                                                              memcmp(&seat->made_for, now, sizeof *now) == 0));
 }
 
-static struct seat *find_in_session(struct task *task, const struct user *user, struct admitted admitted) {
-    return FIND_SEAT(task, seat, seat->user == user && seat->session == admitted.session &&
-                                     seat->is_lost == admitted.is_lost);
-}
-
 /* A place for one more; the one that asked longest ago makes room, but for the first. */
 static struct seat *add_seat(struct task *task, const struct seat *made) {
     if (task->count == SEATS) drop_seat(task, 1);
@@ -42,22 +37,19 @@ static struct seat *add_seat(struct task *task, const struct seat *made) {
     return &task->seats[task->count++];
 }
 
-static struct seat *have_first_seat(struct task *first, struct user *user, struct admitted admitted) {
-    struct seat *seat = find_in_session(first, user, admitted);
+static struct seat *make_first_seat(struct task *first, struct user *user, struct admitted admitted) {
     struct seat made = { .user = user, .session = admitted.session, .is_lost = admitted.is_lost };
-    if (seat) return seat;
     if (!seats_may_have_more(user)) return NULL;
     if (session_enter(&made.context, user, made.session, &made.is_lost) < 0) return NULL;
     return add_seat(first, &made);
 }
 
 /* A thread that isn't the first shares that one's process keyring. So its context is in that one's session at first. */
-static struct seat *have_task_seat(struct task *task, struct user *user, struct admitted admitted) {
+static struct seat *make_task_seat(struct task *task, struct user *user, struct admitted admitted) {
     struct task *first = task->process->first;
-    struct seat *seat = find_in_session(task, user, admitted), *root = FIND_SEAT(first, at, at->user == user);
+    struct seat *root = FIND_SEAT(first, at, at->user == user);
     struct seat made = { .user = user, .session = admitted.session, .is_lost = admitted.is_lost };
-    if (seat) return seat;
-    if (!root) root = have_first_seat(first, user, admitted);
+    if (!root) root = make_first_seat(first, user, admitted);
     if (!root || !seats_may_have_more(user) || context_thread(&made.context, &root->context) < 0) return NULL;
     bool is_in = root->session == made.session && root->is_lost == made.is_lost;
     if (is_in) return add_seat(task, &made);
@@ -70,7 +62,9 @@ static struct seat *have_task_seat(struct task *task, struct user *user, struct 
 
 struct seat *have_seat(struct task *task, struct user *user, struct admitted admitted, const struct asker *asker) {
     bool is_first = task == task->process->first;
-    struct seat *seat = is_first ? have_first_seat(task, user, admitted) : have_task_seat(task, user, admitted);
+    struct seat *seat = FIND_SEAT(task, at, at->user == user && at->session == admitted.session &&
+                                                at->is_lost == admitted.is_lost);
+    if (!seat) seat = is_first ? make_first_seat(task, user, admitted) : make_task_seat(task, user, admitted);
     if (!seat) return NULL;
     memcpy(&seat->made_for, &asker->process, sizeof seat->made_for);
     seat->is_elsewhere = asker->is_elsewhere;

@@ -158,7 +158,7 @@ static int have_connection(void) {
     if (is_other) stale = highest;
     before += is_other;
     last = contexts_beginnings();
-    if (contexts_are_worn() && contexts_renew() == 0) {
+    if (contexts_renew()) {
         users_renew();
         sessions_renew();
         seats_leave_old_connections();

@@ -69,12 +69,6 @@ def read_server() -> bytes:
     return server
 
 
-def entries_of(locker: Locker, server: bytes) -> list[Entry]:
-    """The one entry of a server, or none."""
-    wanted = describe(server).encode()
-    return [entry for entry in locker.entries() if entry.description == wanted]
-
-
 def print_json(value: object) -> None:
     print_bytes(json.dumps(value).encode() + b"\n")
 
@@ -95,7 +89,7 @@ def store() -> None:
 def get() -> None:
     server = read_server()
     with Locker(KEYRING) as locker:
-        found = [credentials_of(locker, entry) for entry in entries_of(locker, server)]
+        found = [credentials_of(locker, entry) for entry in locker.named(describe(server))]
     if not found or found[0] is None:
         raise Unusable(NOT_FOUND)
     username, secret = found[0]
@@ -106,7 +100,7 @@ def erase() -> None:
     """Where nothing is kept nothing is wrong: programs may ask each of several helpers."""
     server = read_server()
     with Locker(KEYRING) as locker:
-        for entry in entries_of(locker, server):
+        for entry in locker.named(describe(server)):
             locker.drop(entry)
 
 

@@ -75,6 +75,10 @@ class Locker(AbstractContextManager["Locker"]):
         serials = self._client.read_ring(self._context, self._ring) if self._ring else []
         return [entry for serial in sorted(serials, reverse=True) for entry in self._entry(serial)]
 
+    def named(self, description: str) -> list[Entry]:
+        """The one of this description, or none."""
+        return [entry for entry in self.entries() if entry.description == description.encode()]
+
     def _entry(self, serial: int) -> Iterator[Entry]:
         """What can't be used any more is swept out."""
         described: list[bytes] = []

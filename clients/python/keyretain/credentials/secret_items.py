@@ -70,13 +70,11 @@ def keep(item: Item, seconds: int, is_new: bool) -> bool:
     with Locker(KEYRING) as locker:
         if is_new:
             locker.put(name, payload, seconds)
-        return is_new or any(locker.update(entry, payload, seconds) for entry in locker.entries()
-                             if entry.description == name.encode())
+        return is_new or any(locker.update(entry, payload, seconds) for entry in locker.named(name))
 
 
 def drop(name: str) -> None:
     """Takes out the item of this name."""
     with Locker(KEYRING) as locker:
-        for entry in locker.entries():
-            if entry.description == f"{KIND} {name}".encode():
-                locker.drop(entry)
+        for entry in locker.named(f"{KIND} {name}"):
+            locker.drop(entry)
