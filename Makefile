@@ -49,8 +49,7 @@ build:
 
 # Removes what was built here. What this machine keeps of proofs stays where the toolchain keeps it.
 clean:
-	rm -rf bin packages crates/*/out guard/build pam/build $(foreach place,c c/fuzz python,clients/$(place)/build) \
-	  ssh-agent/build ssh-agent/fuzz/build
+	rm -rf bin packages crates/*/out c/build python/build
 
 # Prints what each target does.
 help:
@@ -74,26 +73,26 @@ run:
 clients:
 	@tools/check-toolchain
 	tools/build krs_admission_c
-	$(MAKE) -C clients/c PREFIX="$(PREFIX)"
+	$(MAKE) -C c clients PREFIX="$(PREFIX)"
 
 # Proves the rule of the guard and builds it as a library for C, and the guard over it. Wants a C compiler.
 guard:
 	@tools/check-toolchain
 	tools/build krs_screen_c
-	$(MAKE) -C guard
+	$(MAKE) -C c guard
 	mkdir -p bin
-	install -m 755 guard/build/keyretain-guard bin/
+	install -m 755 c/build/keyretain-guard bin/
 
 # Builds the PAM module, which makes a session for each login. Wants a C compiler and the headers of PAM (libpam0g-dev).
 pam:
 	$(call wants,$(CC),security/pam_modules.h,gcc and libpam0g-dev)
-	$(MAKE) -C pam PREFIX="$(PREFIX)"
+	$(MAKE) -C c pam PREFIX="$(PREFIX)"
 
 # Builds keyretain-ssh-agent, an ssh-agent whose keys are the daemon's. Wants a C compiler and the headers of OpenSSL
 # (libssl-dev).
 ssh-agent:
 	$(call wants,$(CC),openssl/param_build.h,gcc and libssl-dev)
-	$(MAKE) -C ssh-agent
+	$(MAKE) -C c ssh-agent
 
 # Runs the tests, in some minutes: those of the crates, those over real sockets, of the clients, the helpers, the guard and
 # the pages, side by side. It compiles the sources for that, with checks and no proof: NOTHING IS PROVED by it.
@@ -119,8 +118,7 @@ SECONDS = 30
 fuzz:
 	$(call wants,clang,jansson.h,clang and libjansson-dev)
 	$(call wants,clang,openssl/param_build.h,clang and libssl-dev)
-	set -e; for part in fuzz fuzz-supervisor fuzz-agent; do $(MAKE) -C clients/c/fuzz $$part SECONDS=$(SECONDS); done
-	$(MAKE) -C ssh-agent/fuzz fuzz SECONDS=$(SECONDS)
+	set -e; for part in library supervisor agent ssh-agent; do $(MAKE) -C c -f fuzz.mk fuzz-$$part SECONDS=$(SECONDS); done
 
 # Whether the man pages render without a warning.
 check-man:
@@ -133,9 +131,9 @@ check-keyutils:
 	$(MAKE) build
 	tests/keyutils-suite $(SUITE)
 
-# $(call part,TEST,FOLDER,NAME,WHY): installs a part where the test holds, and else says why it is not installed.
-part = +@if $(1); then $(MAKE) -s -C $(2) install PREFIX="$(PREFIX)" DESTDIR="$(DESTDIR)" PYTHON="$(PYTHON)"; \
-  else echo '$(3) not installed: $(4)'; fi
+# $(call part,TEST,FOLDER,TARGET,NAME,WHY): installs a part where the test holds, and else says why it is not installed.
+part = +@if $(1); then $(MAKE) -s -C $(2) $(3) PREFIX="$(PREFIX)" DESTDIR="$(DESTDIR)" PYTHON="$(PYTHON)"; \
+  else echo '$(4) not installed: $(5)'; fi
 
 # Puts what `make build` made, the man pages, the systemd units, the completions, the Python client, and what `make
 # clients`, `make guard`, `make pam` and `make ssh-agent` made if they were run, in their folders.
@@ -143,11 +141,11 @@ install:
 	@cd bin 2>/dev/null && sha256sum --status -c proved 2>/dev/null || \
 	  { echo 'run make build first: what it proved is installed, and nothing else' >&2; exit 1; }
 	$(call put,$(INSTALLED))
-	$(call part,[ -x guard/build/keyretain-guard ],guard,the guard is,make guard builds it)
-	$(call part,[ -d clients/c/build ],clients/c,the C clients are,make clients builds them)
-	$(call part,[ -e pam/build/pam_keyretain.so ],pam,the PAM module is,make pam builds it)
-	$(call part,[ -x ssh-agent/build/keyretain-ssh-agent ],ssh-agent,the ssh-agent is,make ssh-agent builds it)
-	$(call part,$(PYTHON) -c 1 2>/dev/null,clients/python,the Python client is,no $(PYTHON))
+	$(call part,[ -x c/build/keyretain-guard ],c,install-guard,the guard is,make guard builds it)
+	$(call part,[ -x c/build/keyretain-session ],c,install-clients,the C clients are,make clients builds them)
+	$(call part,[ -e c/build/pam_keyretain.so ],c,install-pam,the PAM module is,make pam builds it)
+	$(call part,[ -x c/build/keyretain-ssh-agent ],c,install-ssh-agent,the ssh-agent is,make ssh-agent builds it)
+	$(call part,$(PYTHON) -c 1 2>/dev/null,python,install,the Python client is,no $(PYTHON))
 	@echo 'installed below $(DESTDIR)$(PREFIX)'
 
 # Packages for Debian 12, in the folder packages/, of the programs that `make build` proved. Wants debhelper, dh-python,
@@ -166,7 +164,7 @@ dist:
 # Takes away what `make install` has put there, and the links by which units were enabled for the system or for all
 # users. What users have enabled for themselves stays.
 uninstall:
-	@set -e; for part in clients/c guard pam ssh-agent clients/python; do \
+	@set -e; for part in c python; do \
 	  $(MAKE) -s -C $$part uninstall PREFIX="$(PREFIX)" DESTDIR="$(DESTDIR)" PYTHON="$(PYTHON)"; done
 	$(call take,$(INSTALLED))
 	@for folder in "$(DESTDIR)$(PREFIX)/lib" "$(DESTDIR)$(PREFIX)/libexec" "$(DESTDIR)$(PREFIX)/share"; do \

@@ -9,8 +9,8 @@
 #include <time.h>
 #include <unistd.h>
 
-#include "keyretain.h"
-#include "keyutils.h"
+#include "library/keyretain.h"
+#include "keyutils/keyutils.h"
 
 enum { THREADS = 8, AHEAD = 64, PAYLOAD = 32, USER_KEYRING = -4, READ = 11 };
 

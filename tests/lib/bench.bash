@@ -16,7 +16,7 @@ trap 'exit 1' INT TERM HUP
 
 # begin NAME [FOLDER]: what NAME tries. $dir is a folder of its own in FOLDER, which other users may enter
 begin() {
-  tried=$1 parts=$top/tests/$1.d
+  tried=$1 parts=$top/tests/$1
   dir=$(mktemp -d "${2:-/tmp}/keyretain.XXXXXX") || exit 1
   chmod 711 "$dir"
   mkdir -m 1777 "$dir/tmp"
@@ -245,15 +245,15 @@ can_sanitize() {
 # compile_to PROGRAM WORD ..: what the words are compiled and linked to. A handler needn't use its argument
 compile_to() {
   "${compiler:-cc}" -std=c11 -D_DEFAULT_SOURCE -g -O1 -Wall -Wextra -Wno-unused-parameter -Werror "${@:2}" -I"$lib" \
-    -I"$top/clients/c" -pthread -ldl -o "$dir/$1"
+    -I"$top/c" -pthread -ldl -o "$dir/$1"
 }
 
-# make_clients FOLDER WORD ..: clients/c, or the targets that are named, built in $dir/FOLDER for libraries in $dir
+# make_clients FOLDER WORD ..: the clients in C, or the targets that are named, in $dir/FOLDER for libraries in $dir
 make_clients() {
-  make -s -j 4 -C "$top/clients/c" BUILD="$dir/$1" LIBDIR="$dir" LIBEXECDIR="$dir" CFLAGS='-O1 -g -Werror' "${@:2}"
+  make -s -j 4 -C "$top/c" BUILD="$dir/$1" LIBDIR="$dir" LIBEXECDIR="$dir" CFLAGS='-O1 -g -Werror' "${@:2}"
 }
 
-# make_installed: clients/c in $dir/c, of which a session finds the library and the keeper in $dir/lib/keyretain
+# make_installed: the clients in C in $dir/c, of which a session finds the library and the keeper in $dir/lib/keyretain
 make_installed() {
   make_clients c LIBDIR="$dir/lib" LIBEXECDIR="$dir/lib" &&
     install -D -t "$dir/lib/keyretain" "$dir/c/libkeyutils.so.1" "$dir/c/keyretain-keeper"
@@ -263,8 +263,8 @@ make_installed() {
 # $dir/installed
 make_helpers() {
   local folders=(PREFIX="$dir/installed" LIBDIR="$dir/lib")
-  make_clients c LIBEXECDIR="$dir/installed/libexec" "${folders[@]}" install >"$dir/made" 2>&1 &&
-    make -s -C "$top/clients/python" "${folders[@]}" PYTHON="$1" install >>"$dir/made" 2>&1
+  make_clients c LIBEXECDIR="$dir/installed/libexec" "${folders[@]}" install-clients >"$dir/made" 2>&1 &&
+    make -s -C "$top/python" "${folders[@]}" PYTHON="$1" install >>"$dir/made" 2>&1
 }
 
 # in_session WORD ..: keyretain-session of these

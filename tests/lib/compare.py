@@ -5,7 +5,7 @@ import sys
 import threading
 
 TOP = os.path.realpath(os.path.join(os.path.dirname(os.path.abspath(__file__)), "../.."))
-sys.path.insert(0, f"{TOP}/clients/python")
+sys.path.insert(0, f"{TOP}/python")
 sys.dont_write_bytecode = True
 counts, turn = {True: 0, False: 0}, threading.Lock()
 

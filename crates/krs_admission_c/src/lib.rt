@@ -1,4 +1,4 @@
-//! krs_admission for C: `clients/c/krs_admission.h` declares it. No call requires anything of its arguments.
+//! krs_admission for C: `c/supervisor/krs_admission.h` declares it. No call requires anything of its arguments.
 #![tactic(auto)]
 
 ghost use Rattle.std.specs.Prelude.{◌≡◌, false, true};

@@ -1,4 +1,4 @@
-//! krs_screen for C: `guard/krs_screen.h` declares it. A slice crosses as a pointer and a length. No call requires
+//! krs_screen for C: `c/guard/krs_screen.h` declares it. A slice crosses as a pointer and a length. No call requires
 //! anything but that these are good.
 #![tactic(auto)]
 

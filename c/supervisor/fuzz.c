@@ -1,0 +1,132 @@
+/* supervisor.c: fuzzes what reads a hostile program's memory: the notification of a call, the copies that its pointers
+ * mean, and what is written back. The memory is this process's own, of which some pages aren't there; a daemon answers
+ * at random. What goes to it is looked at: the sanitizers see a text without its end, and a length beyond a copy.
+ *
+ * An input is which call, five arguments of eight bytes, and what the memory begins with. */
+#define _GNU_SOURCE
+#include <errno.h>
+#include <fcntl.h>
+#include <linux/audit.h>
+#include <linux/keyctl.h>
+#include <linux/seccomp.h>
+#include <stdint.h>
+#include <stdio.h>
+#include <stdlib.h>
+#include <string.h>
+#include <sys/mman.h>
+#include <unistd.h>
+
+#include "common/caller.h"
+#include "library/connection.h"
+#include "serve.h"
+
+enum { PAGE = 4096, PAGES = 96, BEHIND = 65, WORDS = 5, HEAD = 2 + WORDS * 8 };
+
+static uint8_t *arena;
+static struct task task;
+static struct entered entered;
+static unsigned long seen;
+static uint32_t random_state;
+
+/* ---- In the place of the supervisor's other parts ---- */
+
+const struct entered *tracees_entered(void) { return &entered; }
+
+long tracees_session_to_parent(void) { return 0; }
+
+void contexts_count(size_t bytes) { seen += bytes; }
+
+static uint8_t again[77 / 8 + 1];
+static struct serials serials = { .again = again };
+
+bool caller_enter(struct caller *caller) {
+    serials.stale = random_state & 2 ? 77 : 0;
+    *caller = (struct caller){ .lost_session = random_state & 1, .serials = &serials };
+    return true;
+}
+
+void caller_leave(struct caller *caller, long result) { (void)caller, (void)result; }
+
+int kr_read_attributes(struct kr *connection, uint32_t context, int32_t id, struct kr_attributes *attributes) {
+    (void)connection, (void)context, (void)id, (void)attributes;
+    return 0;
+}
+
+/* ---- In the place of the daemon ---- */
+
+static long answer(long most) {
+    static const int errors[] = { EINVAL, ENOKEY, EACCES, ENODEV, ESRCH };
+    random_state = random_state * 1664525 + 1013904223;
+    errno = errors[random_state >> 8 & 3];
+    return random_state >> 28 == 0 ? -1 : (long)(random_state >> 4) % (most + 1);
+}
+
+static void see(const void *bytes, size_t length) {
+    for (size_t i = 0; i < length; i++) seen += ((const uint8_t *)bytes)[i];
+}
+
+static void see_text(const char *text) {
+    if (text) see(text, strlen(text));
+}
+
+int64_t kr_ask(struct kr *connection, enum kr_operation operation, uint32_t context, const struct kr_field *fields,
+               void *buffer, size_t room) {
+    const struct kr_ask_form *form = kr_ask_form(operation);
+    (void)connection, (void)context;
+    for (int i = 0; form->fields[i] != KR_END; i++) see(fields[i].items, fields[i].count);
+    long length = answer(form->answer == KR_BYTES ? 262140 : 1);
+    if (length > 0 && buffer) memset(buffer, 'r', (size_t)length < room ? (size_t)length : room);
+    return length;
+}
+
+int32_t caller_join(struct caller *caller, const char *name) {
+    (void)caller;
+    see_text(name);
+    return (int32_t)answer(1000);
+}
+
+/* ---- An input ---- */
+
+static bool is_valid(void) { return random_state & 4; }
+
+/* Behind the arena nobody may write, as far as the longest answer reaches. */
+static void begin(void) {
+    arena = mmap(NULL, (PAGES + BEHIND) * PAGE, PROT_NONE, MAP_PRIVATE | MAP_ANONYMOUS, -1, 0);
+    entered.memory = (struct memory){ .thread = getpid(), .file = open("/proc/self/mem", O_RDWR | O_CLOEXEC) };
+    if (arena == MAP_FAILED || mprotect(arena, PAGES * PAGE, PROT_READ | PROT_WRITE) < 0) abort();
+    if (entered.memory.file < 0 || calls_begin() < 0) abort();
+    munmap(arena + 8 * PAGE, PAGE);
+    mprotect(arena + 40 * PAGE, PAGE, PROT_READ);
+    mprotect(arena + 50 * PAGE, PAGE, PROT_NONE);
+    entered.task = &task;
+    entered.is_valid = is_valid;
+}
+
+/* An argument is in the arena, or nowhere: nothing else of this process may be written to. */
+static uint64_t argument_of(const uint8_t *bytes) {
+    uint64_t value;
+    memcpy(&value, bytes, sizeof value);
+    if (value >> 60 == 0) return (uint64_t)(uintptr_t)arena + value % (PAGES * PAGE);
+    if (value >> 60 == 1) return value & 0xfff;
+    return value >> 63 ? value : 0;
+}
+
+int LLVMFuzzerTestOneInput(const uint8_t *bytes, size_t size) {
+    struct seccomp_data data = { .arch = AUDIT_ARCH_X86_64 };
+    unsigned long given[KEY_ARGUMENTS];
+    uint64_t sum;
+    if (size < HEAD) return 0;
+    if (!arena) begin();
+    random_state = bytes[0] * 0x01010101u ^ (uint32_t)size;
+    data.nr = (bytes[0] & 64 ? 286 : 248) + bytes[0] % 4;
+    if (bytes[0] & 64) data.arch = AUDIT_ARCH_I386;
+    for (int i = 0; i < WORDS; i++) data.args[i] = argument_of(bytes + 2 + 8 * i);
+    if (bytes[0] % 4 == 2) data.args[5] = data.args[4], data.args[0] = bytes[1] % 40;
+    for (size_t at = 0; at < 4; at++)
+        memcpy(arena + at * PAGE * 2 + at * 100, bytes + HEAD, size - HEAD < PAGE ? size - HEAD : PAGE);
+    int call = filter_decode(&data, given);
+    if (call < 0) return 0;
+    long result = call_carry_out(key_row_of(call), given, &data, &sum);
+    if (sum != 0 && bytes[1] & 1) replay_keep(&task.replay, &data, &entered.asker.process, sum, result, errno);
+    return 0;
+}

@@ -1,0 +1,108 @@
+/* serve.h: a supervisor: answers add_key(2), request_key(2) and keyctl(2) of processes under the filter of
+ * filter.c from what keyretaind answers.
+ *
+ * It is one process with one thread, which serves until nobody is left who has the filter. It reads and writes the
+ * memory of what it serves, and tells the daemon who asks: so nobody else may look into it. */
+#ifndef KEYRETAIN_SERVE_H
+#define KEYRETAIN_SERVE_H
+
+#include "common/caller.h"
+#include "entries.h"
+
+/* ---- tracees.c: the threads whose calls are served, one at a time: who each is, and in which context it asks. So they
+ * are what caller.h wants of a supervisor, for syscalls.c ---- */
+
+struct tracees_settings {
+    const char *socket;          /* the daemon's; NULL for where kr_default_path says */
+    const char *name;            /* of the first session; NULL makes one */
+    struct kr_identity identity; /* whose the first session is, but for a container's */
+    bool is_container;           /* ids are those of its user namespace, and the user keyring isn't linked to the
+                                    first session */
+    pid_t first;                 /* the container's first process, as its runtime says, or 0 */
+    pid_t child;                 /* what the supervisor has started, or 0 */
+};
+
+/* Connects to the daemon and begins the first session. Ends of processes and threads are told by this epoll(7)
+ * descriptor, with what entries_ended takes. -1 with errno. */
+int tracees_begin(const struct tracees_settings *settings, int epoll);
+
+/* The thread of a notification, before its call is carried out: false where it has gone, or may not be looked at.
+ * `is_valid` tells whether the notification still waits. */
+bool tracees_enter(pid_t thread, const struct key_row *row, const unsigned long given[KEY_ARGUMENTS],
+                   bool (*is_valid)(void));
+void tracees_leave(void);
+
+/* Of the thread that has entered: as who it asks, what it has, and its status. */
+struct entered {
+    struct task *task;
+    struct kr_identity identity;
+    struct proc_status status;
+    struct asker asker;
+    struct memory memory;
+    bool (*is_valid)(void);
+};
+const struct entered *tracees_entered(void);
+
+/* KEYCTL_SESSION_TO_PARENT: the answer, or -1 with errno. */
+long tracees_session_to_parent(void);
+
+/* Whether to sweep a second later: sees which processes have executed something else, which threads have ended where
+ * nothing else tells, and which sessions and identities nobody has any more. */
+bool tracees_want_sweep(void);
+void tracees_sweep(void);
+
+/* Gives up a context of the connection of this age that nothing is lost with, or for 0 a lasting one. False where there
+ * is none. */
+bool tracees_make_room(unsigned age);
+
+/* ---- serve.c ---- */
+
+struct serve_settings {
+    struct tracees_settings tracees;
+    int more; /* a socket over which further listeners come, by serve_send_listener; or -1 */
+    void (*is_ready)(void);        /* the daemon is there, and calls are answered from now on; or NULL */
+    void (*has_ended)(int status); /* the child, with its status of waitpid(2); or NULL */
+};
+
+enum serve_result { SERVE_DONE, SERVE_REFUSED, SERVE_NO_DAEMON };
+
+/* Keeps all others from this process: it can't be dumped or traced, and leaves no core. Raises the limit of
+ * descriptors, of which a served process takes two and a thread one, and ignores SIGPIPE. To be called before it has
+ * a listener, by a process that executes nothing else. -1 with errno. */
+int serve_protect(void);
+
+/* Serves the notifications of a listener, which it closes at the end, and those that come over `more`. Reaps all
+ * children. Where it can't begin errno says why: SERVE_REFUSED by the daemon, or SERVE_NO_DAEMON. */
+enum serve_result serve(int listener, const struct serve_settings *settings);
+
+/* ---- calls.c: a call of another process, on copies of what its pointers mean ---- */
+
+/* Makes the room for copies, which is in no core file. -1 with errno. */
+int calls_begin(void);
+
+/* Carries out the call of a thread that has entered (tracees_enter), and answers it, or -1 with errno. `sum` is that
+ * of struct replay, or 0 for a call that changes nothing. */
+long call_carry_out(const struct key_row *row, const unsigned long given[KEY_ARGUMENTS],
+                    const struct seccomp_data *data, uint64_t *sum);
+
+/* ---- Listeners ---- */
+
+/* Sends a descriptor over a socket; -1 with errno. A server answers a byte to each that it has taken: one that has
+ * ended meanwhile answers none, and whoever has sent it serves it otherwise. */
+int serve_send_listener(int socket, int listener);
+
+/* -1 with errno, ECONNRESET at the end. */
+int serve_receive_listener(int socket);
+
+/* ---- filter.c: the seccomp filter that hands the three key calls of a process to a supervisor ---- */
+
+/* Installs it for this process, what it forks and what it executes. Answers the listener, closed by execve(2), or -1
+ * with errno: EBUSY where these processes have another listener, EPERM or ENOSYS where filters are refused. Without
+ * CAP_SYS_ADMIN the process has no_new_privs from then on. */
+int filter_install(void);
+
+/* Which call a notification is of: a command of keyctl(2), CALL_ADD_KEY or CALL_REQUEST_KEY; -1 for another. The
+ * arguments are put in the order of rows.c, each as wide as in the caller's ABI. */
+int filter_decode(const struct seccomp_data *data, unsigned long at[5]);
+
+#endif
