@@ -101,7 +101,7 @@ test:
 	tests/all
 
 # What must hold before a change is merged, in hours: `make test`; then every proof that this machine doesn't keep, the
-# wrong bodies of the crates that changed and of a third of the others, and the tests of what was proved. ALL=1 has each
+# wrong bodies of the crates that changed and of a tenth of the others, and the tests of what was proved. ALL=1 has each
 # wrong body refused: before a release.
 gate:
 	@tools/check-toolchain
