@@ -6,16 +6,14 @@ use Rattle.circular_buffer.specs.Buffer.{Buffer, buffer, keep_last, last_item}
 use Rattle.circular_buffer.proofs.Places.{slice_get-some}
 use Rattle.krs_types.specs.declared.note.Record.{Record, TheVariants.{Key, Loss, Removal}}
 use Rattle.krs_model.specs.Notes.Bytes.{bytes_of, bytes_of_all, is_loss}
-use Rattle.krs_model.specs.Notes.{Stream.{loss_if, room_of}, Waiting.{after_post, total_room, with_loss}}
+use Rattle.krs_model.specs.Notes.{Stream.{loss_if}, Waiting.{after_post, total_room, with_loss}}
 use Rattle.krs_model.proofs.Notes.Streams.{ends_lost, ends_lost-append, marked_list, total_room-append, with_loss-is}
 use Rattle.krs_ring.specs.{Ring.Ring, Slots.{HasNoLoss, marked, notes_of}, View.ring_of, declared.ring.Slot.Slot}
+use Rattle.std.proofs.lemmas.Grind.{common_steps}
 
 notes_of-append : (a b : List Slot) → notes_of (a ++ b) ≡ notes_of a ++ notes_of b
 notes_of-append [] b = refl
-notes_of-append (s ∷ a) b =
-    ap (λ (xs : List Record). s.kept ∷ xs)
-    (ap (λ (xs : List Record). loss_if s.lost ++ xs) (notes_of-append a b)
-    ∙ sym (append_assoc (loss_if s.lost) (notes_of a) (notes_of b)))
+notes_of-append (s ∷ a) b = grind (arith, common_steps, append_assoc, notes_of-append a b)
 
 total_room-loss_if : (lost : Bool) → total_room (loss_if lost) ≡ 0
 total_room-loss_if true = refl
@@ -24,24 +22,13 @@ total_room-loss_if false = refl
 total_room-notes_of : (slots : List Slot) → HasNoLoss slots → total_room (notes_of slots) ≡ length slots
 total_room-notes_of [] h = refl
 total_room-notes_of (s ∷ slots) h =
-    let one : room_of s.kept ≡ 1 = rw h.0 refl in
-    omega (
-      arith,
-      total_room-notes_of slots h.1,
-      total_room-append (loss_if s.lost) (notes_of slots),
-      total_room-loss_if s.lost,
-    )
+    grind (arith, common_steps, total_room-append, total_room-loss_if, total_room-notes_of slots h.1)
 
 -- each slot takes the room of one record
 pub total_room-waiting : (owed : Bool) (slots : List Slot) → HasNoLoss slots →
     total_room (loss_if owed ++ notes_of slots) ≡ length slots
 total_room-waiting owed slots h =
-    omega (
-      arith,
-      total_room-append (loss_if owed) (notes_of slots),
-      total_room-loss_if owed,
-      total_room-notes_of slots h,
-    )
+    grind (arith, common_steps, total_room-append, total_room-loss_if, total_room-notes_of)
 
 pub HasNoLoss-append : (a b : List Slot) → HasNoLoss a → HasNoLoss b → HasNoLoss (a ++ b)
 HasNoLoss-append [] b h k = k
@@ -60,12 +47,7 @@ length-marked (s ∷ t ∷ slots) = let h = length-marked (t ∷ slots) in omega
 -- what is marked ends with a loss, as it did or with one more
 notes_of-marked : (before : Bool) (s : Slot) (slots : List Slot) → HasNoLoss (s ∷ slots) →
     notes_of (marked (s ∷ slots)) ≡ marked_list (ends_lost before (notes_of (s ∷ slots))) (notes_of (s ∷ slots))
-notes_of-marked before s [] h =
-    elim s.lost as (λ b. s.kept ∷ (Loss ∷ []) ≡ marked_list (ends_lost (is_loss s.kept) (loss_if b ++ []))
-    (s.kept ∷ (loss_if b ++ []))) [
-      | true ↦ refl
-      | false ↦ rw h.0 refl
-    ]
+notes_of-marked before s [] h = grind (arith, common_steps, marked_list, ends_lost)
 notes_of-marked before s (t ∷ slots) h =
     let more = notes_of (t ∷ slots) in
     let begun = ends_lost (is_loss s.kept) (loss_if s.lost) in
@@ -126,9 +108,7 @@ last-marked b p q s full one popped last pushed =
 -- what a push leaves where there is room
 pub kept-last : (b q : Buffer Slot) (s : Slot) → length b.items < b.capacity →
     q ≡ buffer (keep_last b.capacity (b.items ++ s ∷ [])) b.capacity → q ≡ buffer (b.items ++ s ∷ []) b.capacity
-kept-last b q s room pushed =
-    pushed ∙ ap (λ (xs : List Slot). buffer xs b.capacity)
-    (keep_last-all b.capacity (b.items ++ s ∷ []) (omega (arith, length-append b.items (s ∷ []))))
+kept-last b q s room pushed = grind (arith, common_steps, keep_last-all, length-append)
 
 abbrev pub ring : ℕ → List Record → Ring
 ring capacity waiting = record { capacity = capacity; waiting = waiting }
@@ -140,15 +120,7 @@ pub after_post-kept : (owed : Bool) (b q : Buffer Slot) (note : Record) → HasN
     ring_of (record { slots = q; owed = owed }) ≡ ring b.capacity
     (after_post b.capacity note (loss_if owed ++ notes_of b.items))
 after_post-kept owed b q note kept room e =
-    let waiting = loss_if owed ++ notes_of b.items in
-    let fits : ltb (total_room waiting) b.capacity
-    ≡ true = lt-ltb _ _ (omega (arith, total_room-waiting owed b.items kept)) in
-    let longer : loss_if owed ++ notes_of (b.items ++ record { kept = note; lost = false } ∷ [])
-    ≡ waiting ++ note ∷ [] =
-    ap (λ (xs : List Record). loss_if owed ++ xs) (notes_of-append b.items (record { kept = note; lost = false } ∷ []))
-    ∙ sym (append_assoc (loss_if owed) (notes_of b.items) (note ∷ [])) in
-    let made : after_post b.capacity note waiting ≡ waiting ++ note ∷ [] = rw fits refl in
-    ap (λ (x : Buffer Slot). ring_of (record { slots = x; owed = owed })) e ∙ ap (ring b.capacity) (longer ∙ sym made)
+    grind (arith, common_steps, ltb, lt-ltb, total_room-waiting, notes_of-append, append_assoc)
 
 -- a note that is dropped
 pub after_post-dropped : (owed : Bool) (b q : Buffer Slot) (note : Record) → HasNoLoss b.items →
@@ -179,9 +151,7 @@ has_last slots one h = let some = slice_get-some slots (length slots - 1) (omega
 
 bytes_of_all-append : (a b : List Record) → bytes_of_all (a ++ b) ≡ bytes_of_all a ++ bytes_of_all b
 bytes_of_all-append [] b = refl
-bytes_of_all-append (r ∷ a) b =
-    ap (λ (xs : List ℕ). bytes_of r ++ xs) (bytes_of_all-append a b)
-    ∙ sym (append_assoc (bytes_of r) (bytes_of_all a) (bytes_of_all b))
+bytes_of_all-append (r ∷ a) b = grind (arith, common_steps, append_assoc, bytes_of_all-append a b)
 
 bytes_of-size : (r : Record) → length (bytes_of r) ≤ 16
 bytes_of-size (Key s w k a) = omega arith
@@ -195,23 +165,13 @@ loss_if-size false = omega arith
 -- a loss in front, if any, and then others
 size-loss_if : (lost : Bool) (rs : List Record) →
     length (bytes_of_all (loss_if lost ++ rs)) ≤ 8 + length (bytes_of_all rs)
-size-loss_if lost rs =
-    let cut : length (bytes_of_all (loss_if lost ++ rs))
-    ≡ length (bytes_of_all (loss_if lost)) + length (bytes_of_all rs) =
-    ap length (bytes_of_all-append (loss_if lost) rs)
-    ∙ length-append (bytes_of_all (loss_if lost)) (bytes_of_all rs) in
-    omega (arith, loss_if-size lost)
+size-loss_if lost rs = grind (arith, common_steps, bytes_of_all-append, length-append, loss_if-size)
 
 size-notes_of : (slots : List Slot) → length (bytes_of_all (notes_of slots)) ≤ 24 * length slots
 size-notes_of [] = omega arith
-size-notes_of (s ∷ slots) =
-    let one = bytes_of-size s.kept in
-    let more = size-notes_of slots in
-    let loss = size-loss_if s.lost (notes_of slots) in
-    omega (arith, length-append (bytes_of s.kept) (bytes_of_all (loss_if s.lost ++ notes_of slots)))
+size-notes_of (s ∷ slots) = grind (arith, common_steps, bytes_of-size, size-loss_if, length-append, size-notes_of slots)
 
 -- what waits fits into a record and a loss for each slot, and the loss in front
 pub size-waiting : (owed : Bool) (slots : List Slot) →
     length (bytes_of_all (loss_if owed ++ notes_of slots)) ≤ 24 * length slots + 8
-size-waiting owed slots =
-    let more = size-notes_of slots in let loss = size-loss_if owed (notes_of slots) in omega arith
+size-waiting owed slots = grind (arith, common_steps, size-notes_of, size-loss_if)

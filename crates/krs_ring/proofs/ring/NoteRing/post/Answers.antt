@@ -1,34 +1,17 @@
-use Rattle.std.proofs.Common.{◌<◌, arith, length}
+use Rattle.std.proofs.Common.{arith}
 use Rattle.krs_ring.proofs.SlotsLemmas.{after_post-dropped, after_post-kept, HasNoLoss-append, HasNoLoss-marked}
 use Rattle.krs_ring.proofs.SlotsLemmas.{kept-last}
 use Rattle.krs_ring.proofs.ring.NoteRing.post.Goals as goal
+use Rattle.std.proofs.lemmas.Grind.{common_steps}
 
 pub invariant_of-self : goal.invariant_of-self
-invariant_of-self c =
-    let room : length c.self.inside.slots.items < c.self.inside.slots.capacity = omega arith in
-    let pushed = kept-last c.self.inside.slots c.push_back.new.self _ room c.push_back.ensures.items in
-    rw pushed (record {
-      room = c.self.invariant.room;
-      bound = c.self.invariant.bound;
-      kept =
-          HasNoLoss-append _ _ c.self.invariant.kept (c.requires, tt);
-    })
+invariant_of-self c = grind (arith, common_steps, kept-last, HasNoLoss-append)
 
 pub invariant_of-self-else-len-capacity : goal.invariant_of-self-else-len-capacity
-invariant_of-self-else-len-capacity c =
-    rw c.mark_last.ensures (record {
-      room = c.self.invariant.room;
-      bound = c.self.invariant.bound;
-      kept =
-          HasNoLoss-marked _ c.self.invariant.kept;
-    })
+invariant_of-self-else-len-capacity c = grind (arith, common_steps, HasNoLoss-marked)
 
 pub returns-then-len-capacity : goal.returns-then-len-capacity
-returns-then-len-capacity c =
-    let room : length c.self.inside.slots.items < c.self.inside.slots.capacity = omega arith in
-    rw (← c.self.view_is) (after_post-kept c.self.inside.owed c.self.inside.slots c.push_back.new.self c.args.note
-    c.self.invariant.kept room
-    (kept-last c.self.inside.slots c.push_back.new.self _ room c.push_back.ensures.items))
+returns-then-len-capacity c = grind (arith, common_steps, after_post-kept, kept-last)
 
 pub returns-else-len-capacity : goal.returns-else-len-capacity
 returns-else-len-capacity c =
