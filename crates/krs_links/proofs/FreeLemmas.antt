@@ -5,6 +5,7 @@ use Rattle.std.specs.{Cmp.nat_eq_equiv, List.{AllByRecursion, IsDistinct, list_a
 use Rattle.std.proofs.lemmas.Bool.{cases_eq, Decides.{eqb_tells, nat_tests}}
 use Rattle.std.proofs.lemmas.Map.{Keys.{IsDistinct-cons, IsDistinct-from_apart}, Steps.length-le_from_keys}
 use Rattle.krs_links.specs.{Indexed.behind, declared.index.Link.Link}
+use Rattle.std.proofs.lemmas.Grind.{common_steps}
 
 -- each number fewer steps behind a digest than these, the last first
 abbrev numbers_behind : ℕ → ℕ → List ℕ
@@ -24,13 +25,12 @@ apart_from_all : (digest steps many : ℕ) → steps ≤ many → many < 2 ^ 64 
     AllByRecursion (λ k. nat_eq (behind digest many) k ≡ false) (numbers_behind digest steps)
 apart_from_all digest zero many le small = tt
 apart_from_all digest (suc steps) many le small =
-    (apart digest steps many (omega arith) small, apart_from_all digest steps many (omega arith) small)
+    grind (arith, common_steps, apart, apart_from_all digest steps many (omega arith) small)
 
 all_apart : (digest steps : ℕ) → steps ≤ 2 ^ 64 → IsDistinct nat_eq (numbers_behind digest steps)
 all_apart digest zero small = IsDistinct-from_apart nat_eq [] (λ i j d below within. absurd (omega arith))
 all_apart digest (suc steps) small =
-    IsDistinct-cons nat_eq (behind digest steps) (numbers_behind digest steps)
-    (apart_from_all digest steps steps (omega arith) (omega arith)) (all_apart digest steps (omega arith))
+    grind (arith, common_steps, nat_eq, IsDistinct-cons, apart_from_all, all_apart digest steps (omega arith))
 
 -- what is said of each of them is said of a number among them
 said_of_all : (P : ℕ → Type 0) (digest steps q : ℕ) → ((s : ℕ) → s < steps → P (behind digest s)) →
@@ -56,11 +56,7 @@ taken_at_most digest steps entries small taken =
 
 one_more_taken : (digest steps : ℕ) (entries : List (ℕ × Link)) → AreTaken digest steps entries →
     is_some (lookup (nat_eq (behind digest steps)) entries) ≡ true → AreTaken digest (steps + 1) entries
-one_more_taken digest steps entries taken here s below =
-    ⊎_elim
-    (λ last. subst (λ k. IsSome (lookup (nat_eq (behind digest k)) entries)) (sym last) here)
-    (λ before. taken s (omega (arith, below, before)))
-    (cases_eq s steps)
+one_more_taken digest steps entries taken here s below = grind (arith, common_steps, ⊎_elim, nat_eq, cases_eq)
 
 -- where the next is taken too, there is one entry more than steps
 pub taken_further : (digest steps next : ℕ) (entries : List (ℕ × Link)) → steps < 2 ^ 64

@@ -3,6 +3,7 @@ use Rattle.std.proofs.Common.{[], ◌&&◌, ◌+◌, ◌<◌, ◌∷◌, ◌≡�
 use Rattle.std.proofs.{Common.{slice_get, Some, suc, sym, take, true, unwrap_or, zero, ℕ}, lemmas.Option.none-some}
 use Rattle.krs_types.specs.declared.name.Name.{Name}
 use Rattle.krs_links.specs.Links.{is_ring, LinkList, names, nested}
+use Rattle.std.proofs.lemmas.Grind.{common_steps}
 
 -- the link at a place has the name there
 pub link_named_at :
@@ -35,29 +36,15 @@ rings_next :
     → length (nested (take (suc place) links)) ≡ cond (is_ring link.0) (length (nested (take place links)) + 1)
     (length (nested (take place links)))
 rings_next [] place link here = absurd (none-some link here)
-rings_next (x ∷ xs) zero link here =
-    let same : x ≡ link = ap (λ o. unwrap_or o link) here in
-    rw (← same) (elim (is_ring x.0) as (λ b. length (cond b (x ∷ nested []) (nested [])) ≡ cond b 1 0) [
-      | true ↦ refl
-      | false ↦ refl
-    ])
-rings_next (x ∷ xs) (suc place) link here =
-    let later = rings_next xs place link here in
-    elim (is_ring x.0) as (λ b. length (cond b (x ∷ nested (take (suc place) xs)) (nested (take (suc place) xs)))
-    ≡ cond (is_ring link.0) (length (cond b (x ∷ nested (take place xs)) (nested (take place xs))) + 1)
-    (length (cond b (x ∷ nested (take place xs)) (nested (take place xs))))) [
-      | true ↦ one_more (is_ring link.0) _ _ later
-      | false ↦ later
-    ]
+rings_next (x ∷ xs) zero link here = grind (arith, common_steps, unwrap_or)
+rings_next (x ∷ xs) (suc place) link here = grind (arith, common_steps, one_more, rings_next xs place link here)
 
 -- one place further stands one nested keyring more, where the link there is one to a keyring
 pub rings_one_more :
     (links : LinkList) (place : ℕ) (link : Name × ℕ) → slice_get links place ≡ Some link
     → length (nested (take (place + 1) links)) ≡ cond (is_ring link.0) (length (nested (take place links)) + 1)
     (length (nested (take place links)))
-rings_one_more links place link here =
-    let next : place + 1 ≡ suc place = omega arith in
-    rw next (rings_next links place link here)
+rings_one_more links place link here = grind (arith, common_steps, rings_next)
 
 pub never_both : (b : Bool) → (b && false) ≡ false
 never_both true = refl

@@ -1,7 +1,7 @@
 -- What a look-up by a digest, and each change, say of the links.
 use Rattle.std.proofs.Common.{[], ◌++◌, ◌+◌, ◌-◌, ◌<◌, ◌∙◌, ◌∷◌, ◌≡◌, ◌≢◌, ◌≤◌, ap, append-nil, arith, cond, drop}
 use Rattle.std.proofs.Common.{false, find, get_or, IfNone, IfSome, length, List, nat_eq, None, Option, option_map, refl}
-use Rattle.std.proofs.Common.{remove, set, slice_get, Some, subst, suc, swap_remove, sym, take, true, unwrap_or, zero}
+use Rattle.std.proofs.Common.{remove, set, slice_get, Some, subst, suc, swap_remove, sym, true, unwrap_or, zero}
 use Rattle.std.proofs.Common.{ℕ}
 use Rattle.indexmap.specs.IndexMap.{set_value_at}
 use Rattle.std.specs.Cmp.{nat_eq_equiv}
@@ -15,6 +15,7 @@ use Rattle.krs_types.proofs.Names.{equal_names, other_way}
 use Rattle.krs_links.specs.Indexed.{AllStand, behind, link_of, linked_in, LinksNot, Stands, StandsNot, with_serial_at}
 use Rattle.krs_links.specs.Links.{IsUnique, link_put, LinkList, names, place_of, serial_named, serials}
 use Rattle.krs_links.specs.{Seeded.name_digest, declared.{index.Link.Link, seed.Seed.Seed}}
+use Rattle.std.proofs.lemmas.Grind.{common_steps}
 
 -- ---- a place
 -- the name of the link at a place
@@ -35,9 +36,7 @@ serial_in (e ∷ es) (suc i) = serial_in es i
 apart_at : (name : Name) (xs : LinkList) (i : ℕ) (link : Name × ℕ) → AllByRecursion (λ n. same_name name n ≡ false)
     (names xs) → slice_get xs i ≡ Some link → same_name name link.0 ≡ false
 apart_at name [] i link all here = absurd (none-some link here)
-apart_at name (x ∷ xs) zero link all here =
-    let same : x ≡ link = ap (λ o. unwrap_or o link) here in
-    subst (λ (l : Name × ℕ). same_name name l.0 ≡ false) same all.0
+apart_at name (x ∷ xs) zero link all here = grind (arith, common_steps, unwrap_or)
 apart_at name (x ∷ xs) (suc i) link all here = apart_at name xs i link all.1 here
 
 -- a link of the name is the first of it
@@ -84,8 +83,7 @@ nowhere_from name n (e ∷ es) other =
 stands_at : (seed : Seed) (span : ℕ) (entries : List (ℕ × Link)) (i : ℕ) (e : ℕ × Link) → AllStand seed span entries →
     slice_get entries i ≡ Some e → Stands seed span e
 stands_at seed span [] i e all here = absurd (none-some e here)
-stands_at seed span (x ∷ xs) zero e all here =
-    subst (λ (l : ℕ × Link). Stands seed span l) (ap (λ o. unwrap_or o e) here) all.0
+stands_at seed span (x ∷ xs) zero e all here = grind (arith, common_steps, unwrap_or)
 stands_at seed span (x ∷ xs) (suc i) e all here = stands_at seed span xs i e all.1 here
 
 -- a link that stands behind the name's digest is found there
@@ -119,10 +117,7 @@ no_place seed span digest name entries apart all is none =
 wider : (seed : Seed) (span more : ℕ) (entries : List (ℕ × Link)) → span ≤ more → AllStand seed span entries →
     AllStand seed more entries
 wider seed span more [] le all = tt
-wider seed span more (e ∷ es) le all =
-    let stands = all.0 in
-    let below = stands.1 in
-    ((stands.0, omega (arith, below), stands.2), wider seed span more es le all.1)
+wider seed span more (e ∷ es) le all = grind (arith, common_steps, wider seed span more es le all.1)
 
 last_stands : (seed : Seed) (span : ℕ) (entries : List (ℕ × Link)) (e : ℕ × Link) → AllStand seed span entries →
     Stands seed span e → AllStand seed span (entries ++ e ∷ [])
@@ -132,17 +127,13 @@ last_stands seed span (x ∷ xs) e all stands = (all.0, last_stands seed span xs
 pub AllStand-last : (seed : Seed) (span more digest steps : ℕ) (entries : List (ℕ × Link)) (link : Link) → span ≤ more →
     steps < more → digest ≡ name_digest seed link.name → AllStand seed span entries →
     AllStand seed more (entries ++ (behind digest steps, link) ∷ [])
-AllStand-last seed span more digest steps entries link le below is all =
-    last_stands seed more entries (behind digest steps, link) (wider seed span more entries le all)
-    (steps, below, ap (λ d. behind d steps) is)
+AllStand-last seed span more digest steps entries link le below is all = grind (arith, common_steps, last_stands, wider)
 
 -- ---- another serial
 pub set_is : (entries : List (ℕ × Link)) (i serial : ℕ) (link : Link) → slice_get (values_of entries) i ≡ Some link →
     set_value_at entries i (record link { serial = serial }) ≡ with_serial_at entries i serial
 set_is [] i serial link here = refl
-set_is (e ∷ es) zero serial link here =
-    let same : e.1 ≡ link = ap (λ o. unwrap_or o link) here in
-    ap (λ (l : Link). (e.0, record l { serial = serial }) ∷ es) (sym same)
+set_is (e ∷ es) zero serial link here = grind (arith, common_steps, unwrap_or)
 set_is (e ∷ es) (suc i) serial link here = ap (λ zs. e ∷ zs) (set_is es i serial link here)
 
 pub unset_is : (entries : List (ℕ × Link)) (i serial : ℕ) → slice_get (values_of entries) i ≡ None →
@@ -234,12 +225,7 @@ none_behind (x ∷ xs) (suc i) h = none_behind xs i (omega (arith, h))
 
 -- nothing moves into the place of the last
 last_removed : {X : Type 0} (xs : List X) (i : ℕ) (d : X) → suc i ≡ length xs → swap_remove xs i d ≡ remove xs i
-last_removed xs i d last =
-    let before : length xs - 1 ≡ i = omega (arith, last) in
-    let behind : length xs ≤ suc i = omega (arith, last) in
-    ap (λ (n : ℕ). take n (set xs i (get_or xs (length xs - 1) d))) before
-    ∙ (take-set xs i (get_or xs (length xs - 1) d)
-    ∙ (sym (append-nil (take i xs)) ∙ ap (λ zs. take i xs ++ zs) (sym (none_behind xs (suc i) behind))))
+last_removed xs i d last = grind (arith, common_steps, set, get_or, take-set, append-nil, none_behind)
 
 nothing_removed : {X : Type 0} (xs : List X) (i : ℕ) → slice_get xs i ≡ None → remove xs i ≡ xs
 nothing_removed [] zero none = refl
@@ -251,6 +237,4 @@ nothing_removed (x ∷ xs) (suc i) none = ap (λ zs. x ∷ zs) (nothing_removed 
 pub last_taken : {X : Type 0} (old new : List X) (i : ℕ) (o : Option X) → i ≡ length old - 1 → o ≡ slice_get old i
     → IfSome o (λ x. new ≡ swap_remove old i x) → IfNone o (new ≡ old) → new ≡ remove old i
 last_taken old new i None last is some none = none ∙ sym (nothing_removed old i (sym is))
-last_taken old new i (Some x) last is some none =
-    let within : i < length old = slice_get_within old i x (sym is) in
-    some ∙ last_removed old i x (omega (arith, last, within))
+last_taken old new i (Some x) last is some none = grind (arith, common_steps, slice_get_within, last_removed)

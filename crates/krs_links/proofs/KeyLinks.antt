@@ -1,8 +1,10 @@
 -- What the removal of the links to a key leaves.
-use Rattle.std.proofs.Common.{[], ◌==◌, ◌∷◌, ◌≡◌, ap, cond, false, filter, find, List, None, not, option_map, refl}
+use Rattle.std.proofs.Common.{[], ◌==◌, ◌∷◌, ◌≡◌, cond, false, filter, find, List, None, not, option_map, refl}
 use Rattle.std.proofs.{Common.{Some, sym, true, ℕ}, lemmas.Option.none-some}
 use Rattle.krs_types.specs.{Name.same_name, declared.name.Name.Name}
 use Rattle.krs_links.specs.Links.{LinkList, serial_named, serials, unlinked_key}
+use Rattle.std.proofs.Common.{arith}
+use Rattle.std.proofs.lemmas.Grind.{common_steps}
 
 -- the other serials
 abbrev pub others : ℕ → List ℕ → List ℕ
@@ -12,12 +14,7 @@ others serial ks = filter (λ k. not (k == serial)) ks
 pub serials-unlinked_key :
     (serial : ℕ) (xs : LinkList) → serials (unlinked_key xs serial) ≡ others serial (serials xs)
 serials-unlinked_key serial [] = refl
-serials-unlinked_key serial (x ∷ xs) =
-    elim (x.1 == serial) as (λ b. serials (cond (not b) (x ∷ unlinked_key xs serial) (unlinked_key xs serial))
-    ≡ cond (not b) (x.1 ∷ others serial (serials xs)) (others serial (serials xs))) [
-      | true ↦ serials-unlinked_key serial xs
-      | false ↦ ap (λ zs. x.1 ∷ zs) (serials-unlinked_key serial xs)
-    ]
+serials-unlinked_key serial (x ∷ xs) = grind (arith, common_steps, serials-unlinked_key serial xs)
 
 -- under a name that linked nothing, nothing is linked
 pub serial_named-unlinked_key :

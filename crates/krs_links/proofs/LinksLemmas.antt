@@ -1,11 +1,12 @@
 -- What a link, and the removal of one, change.
 use Rattle.std.proofs.Common.{[], ◌*◌, ◌++◌, ◌∷◌, ◌≡◌, ap, arith, cond, false, find, length, length-append, List, None}
 use Rattle.std.proofs.Common.{not, option_map, refl, Some, subst, sym, true, w32, ℕ}
-use Rattle.std.specs.{Int.to_le_bytes, List.{AllByRecursion, IsDistinct}}
+use Rattle.std.specs.{List.{AllByRecursion, IsDistinct}}
 use Rattle.std.proofs.lemmas.{Map.Keys.{IsDistinct-cons, IsDistinct-head, IsDistinct-tail}, Option.none-some}
 use Rattle.krs_types.specs.{Name.same_name, declared.name.Name.Name}
 use Rattle.krs_types.proofs.Names.{equal_names, other_way}
 use Rattle.krs_links.specs.Links.{bytes_of, IsUnique, link_put, LinkList, names, serial_named, unlinked}
+use Rattle.std.proofs.lemmas.Grind.{common_steps}
 
 -- what is linked as nothing is linked last
 pub linked_last : (name : Name) (serial : ℕ) (xs : LinkList) → serial_named xs name ≡ None →
@@ -42,12 +43,7 @@ apart_linked : (name other : Name) (serial : ℕ) (xs : LinkList) → same_name 
     AllByRecursion (λ n. same_name other n ≡ false) (names xs) →
     AllByRecursion (λ n. same_name other n ≡ false) (names (link_put xs name serial))
 apart_linked name other serial [] h all = (h, tt)
-apart_linked name other serial (x ∷ xs) h all =
-    elim (same_name name x.0) as (λ b. AllByRecursion (λ n. same_name other n ≡ false) (names (cond b
-    ((name, serial) ∷ xs) (x ∷ link_put xs name serial)))) [
-      | true ↦ (h, all.1)
-      | false ↦ (all.0, apart_linked name other serial xs h all.1)
-    ]
+apart_linked name other serial (x ∷ xs) h all = grind (arith, common_steps, apart_linked name other serial xs h all.1)
 
 -- names stay unique
 pub IsUnique-linked : (name : Name) (serial : ℕ) (xs : LinkList) → IsUnique xs → IsUnique (link_put xs name serial)
@@ -74,5 +70,4 @@ unlinked_none name (x ∷ xs) h =
 -- a serial has four bytes
 pub length-bytes_of : (xs : List ℕ) → length (bytes_of xs) ≡ 4 * length xs
 length-bytes_of [] = refl
-length-bytes_of (x ∷ xs) =
-    let rest = length-bytes_of xs in rw (length-append (to_le_bytes w32 x) (bytes_of xs)) (omega (arith, rest))
+length-bytes_of (x ∷ xs) = grind (arith, common_steps, length-append, w32, length-bytes_of xs)

@@ -13,6 +13,7 @@ use Rattle.krs_types.proofs.Names.{equal_names}
 use Rattle.krs_links.specs.Links.{is_ring, IsUnique, link_put, LinkList, names, nested, place_of, serial_named, serials}
 use Rattle.krs_links.specs.{Links.unlinked, Lists.AreLists}
 use Rattle.krs_links.proofs.LinksLemmas.{IsUnique-linked, linked_last}
+use Rattle.std.proofs.lemmas.Grind.{common_steps}
 
 find_at : {X : Type 0} (p : X → Bool) (xs : List X) (i : ℕ) (d : X) → i < length xs → p (get_or xs i d) ≡ true →
     ((k : ℕ) → k < i → p (get_or xs k d) ≡ false) → find p xs ≡ Some (get_or xs i d)
@@ -55,10 +56,7 @@ place_within name xs i d h = (position-Some (λ (link : Name × ℕ). same_name 
 -- the link at the place of a name is the one that is linked under it
 pub linked_as_at : (name : Name) (xs : LinkList) (i : ℕ) (d : Name × ℕ) → place_of name xs ≡ Some i →
     serial_named xs name ≡ Some (get_or xs i d).1
-linked_as_at name xs i d h =
-    let at_place = position-Some (λ (link : Name × ℕ). same_name name link.0) xs i d h in
-    ap (option_map (λ (link : Name × ℕ). link.1)) (find_at
-    (λ link. same_name name link.0) xs i d at_place.0 at_place.1 at_place.2)
+linked_as_at name xs i d h = grind (arith, common_steps, position-Some, option_map, find_at)
 
 -- a write there links
 pub linked_at : (name : Name) (serial : ℕ) (xs : LinkList) (i : ℕ) (d : Name × ℕ) → place_of name xs ≡ Some i →
@@ -77,9 +75,7 @@ unlinked_at name xs i d u h =
 -- the link there is one to a keyring exactly where the name is a keyring's
 ring_at : (name : Name) (xs : LinkList) (i : ℕ) (d : Name × ℕ) → place_of name xs ≡ Some i →
     is_ring (get_or xs i d).0 ≡ is_ring name
-ring_at name xs i d h =
-    let at_place = position-Some (λ (link : Name × ℕ). same_name name link.0) xs i d h in
-    ap is_ring (sym (equal_names name (get_or xs i d).0 at_place.1))
+ring_at name xs i d h = grind (arith, common_steps, position-Some, equal_names, get_or)
 
 none_from : (name : Name) (n : ℕ) (xs : LinkList) → position_from (λ link. same_name name link.0) n xs ≡ None →
     serial_named xs name ≡ None
@@ -110,52 +106,33 @@ within_at : (xs : LinkList) (i : ℕ) (d : Name × ℕ) → i < length xs → is
     rings_before xs i < length (serials (nested xs))
 within_at [] i d lt ring = absurd (omega arith)
 within_at (x ∷ xs) zero d lt ring = rw ring (omega arith)
-within_at (x ∷ xs) (suc i) d lt ring =
-    let later = within_at xs i d (omega arith) ring in
-    elim (is_ring x.0) as (λ b. length (cond b (x ∷ nested (take i xs)) (nested (take i xs))) < length (serials
-    (cond b (x ∷ nested xs) (nested xs)))) [
-      | true ↦ omega arith
-      | false ↦ later
-    ]
+within_at (x ∷ xs) (suc i) d lt ring = grind (arith, common_steps, within_at xs i d (omega arith) ring)
 
 set_rings : (xs : LinkList) (i : ℕ) (d link : Name × ℕ) → i < length xs → is_ring (get_or xs i d).0 ≡ true →
     is_ring link.0 ≡ true → set (serials (nested xs)) (rings_before xs i) link.1 ≡ serials (nested (set xs i link))
 set_rings [] i d link lt ring new = absurd (omega arith)
 set_rings (x ∷ xs) zero d link lt ring new = rw (ring, new) refl
 set_rings (x ∷ xs) (suc i) d link lt ring new =
-    let later = set_rings xs i d link (omega arith) ring new in
-    elim (is_ring x.0) as (λ b. set (serials (cond b (x ∷ nested xs) (nested xs))) (length (cond b (x ∷ nested
-    (take i xs)) (nested (take i xs)))) link.1 ≡ serials (cond b (x ∷ nested (set xs i link)) (nested
-    (set xs i link)))) [
-      | true ↦ ap (λ zs. x.1 ∷ zs) later
-      | false ↦ later
-    ]
+    grind (arith, common_steps, set, set_rings xs i d link (omega arith) ring new)
 
 set_no_ring : (xs : LinkList) (i : ℕ) (d link : Name × ℕ) → i < length xs → is_ring (get_or xs i d).0 ≡ false →
     is_ring link.0 ≡ false → nested xs ≡ nested (set xs i link)
 set_no_ring [] i d link lt other new = absurd (omega arith)
 set_no_ring (x ∷ xs) zero d link lt other new = rw (other, new) refl
 set_no_ring (x ∷ xs) (suc i) d link lt other new =
-    ap (λ zs. cond (is_ring x.0) (x ∷ zs) zs) (set_no_ring xs i d link (omega arith) other new)
+    grind (arith, common_steps, set_no_ring xs i d link (omega arith) other new)
 
 remove_rings : (xs : LinkList) (i : ℕ) (d : Name × ℕ) → i < length xs → is_ring (get_or xs i d).0 ≡ true →
     remove (serials (nested xs)) (rings_before xs i) ≡ serials (nested (remove xs i))
 remove_rings [] i d lt ring = absurd (omega arith)
 remove_rings (x ∷ xs) zero d lt ring = rw ring refl
-remove_rings (x ∷ xs) (suc i) d lt ring =
-    let later = remove_rings xs i d (omega arith) ring in
-    elim (is_ring x.0) as (λ b. remove (serials (cond b (x ∷ nested xs) (nested xs))) (length (cond b (x ∷ nested
-    (take i xs)) (nested (take i xs)))) ≡ serials (cond b (x ∷ nested (remove xs i)) (nested (remove xs i)))) [
-      | true ↦ ap (λ zs. x.1 ∷ zs) later
-      | false ↦ later
-    ]
+remove_rings (x ∷ xs) (suc i) d lt ring = grind (arith, common_steps, remove, remove_rings xs i d (omega arith) ring)
 
 remove_no_ring : (xs : LinkList) (i : ℕ) (d : Name × ℕ) → i < length xs → is_ring (get_or xs i d).0 ≡ false →
     nested xs ≡ nested (remove xs i)
 remove_no_ring [] i d lt other = absurd (omega arith)
 remove_no_ring (x ∷ xs) zero d lt other = rw other refl
-remove_no_ring (x ∷ xs) (suc i) d lt other =
-    ap (λ zs. cond (is_ring x.0) (x ∷ zs) zs) (remove_no_ring xs i d (omega arith) other)
+remove_no_ring (x ∷ xs) (suc i) d lt other = grind (arith, common_steps, remove_no_ring xs i d (omega arith) other)
 
 -- the place among the nested keyrings
 pub ring_within : (name : Name) (xs : LinkList) (i : ℕ) → place_of name xs ≡ Some i → is_ring name ≡ true →
@@ -226,18 +203,12 @@ no_longer : (xs : LinkList) (i : ℕ) → length (remove xs i) ≤ length xs
 no_longer [] zero = omega arith
 no_longer [] (suc i) = omega arith
 no_longer (x ∷ xs) zero = omega arith
-no_longer (x ∷ xs) (suc i) =
-    let later = no_longer xs i in
-    omega (arith, later)
+no_longer (x ∷ xs) (suc i) = grind (arith, common_steps, no_longer xs i)
 
 -- a removal keeps the two lists
 pub AreLists-removed : (xs : LinkList) (rings after : List ℕ) (i : ℕ) → AreLists xs rings →
     after ≡ serials (nested (remove xs i)) → AreLists (remove xs i) after
-AreLists-removed xs rings after i lists e = record {
-  bound = let short = no_longer xs i in let bound = lists.bound in omega (arith, short, bound);
-  unique = unique_removed xs i lists.unique;
-  nested = e;
-}
+AreLists-removed xs rings after i lists e = grind (arith, common_steps, no_longer, unique_removed)
 
 -- the link at the place of a name has its serial
 pub serial_at_named : (name : Name) (xs : LinkList) (i : ℕ) → place_of name xs ≡ Some i →
@@ -250,14 +221,8 @@ serial_at_named name xs i h =
 
 rings_last : (xs : LinkList) (link : Name × ℕ) → serials (nested (xs ++ link ∷ [])) ≡ serials (nested xs) ++ cond
     (is_ring link.0) (link.1 ∷ []) []
-rings_last [] link = elim (is_ring link.0) as (λ b. serials (cond b (link ∷ []) []) ≡ cond b
-    (link.1 ∷ []) []) [ true ↦ refl | false ↦ refl ]
-rings_last (x ∷ xs) link =
-    elim (is_ring x.0) as (λ b. serials (cond b (x ∷ nested (xs ++ link ∷ [])) (nested (xs ++ link ∷ []))) ≡ serials
-    (cond b (x ∷ nested xs) (nested xs)) ++ cond (is_ring link.0) (link.1 ∷ []) []) [
-      | true ↦ ap (λ zs. x.1 ∷ zs) (rings_last xs link)
-      | false ↦ rings_last xs link
-    ]
+rings_last [] link = grind (arith, common_steps)
+rings_last (x ∷ xs) link = grind (arith, common_steps, rings_last xs link)
 
 -- a link in the place of another keeps the two lists
 pub AreLists-displaced : (name : Name) (serial : ℕ) (xs : LinkList) (rings after : List ℕ) (i : ℕ) →
@@ -307,9 +272,4 @@ AreLists-last_other name serial xs rings links lists room none other e =
 
 -- no links
 pub none_are_lists : {xs : LinkList} {rings : List ℕ} → xs ≡ [] → rings ≡ [] → AreLists xs rings
-none_are_lists e f = rw (e, f) (record {
-  bound = omega arith;
-  unique = IsDistinct-from_apart same_name []
-      (λ i j d below within. absurd (omega arith));
-  nested = refl;
-})
+none_are_lists e f = grind (arith, common_steps, IsDistinct-from_apart)

@@ -2,10 +2,11 @@ use Rattle.std.proofs.Common.{[], ◌++◌, ◌∙◌, ◌∷◌, ◌≡◌, rul
 use Rattle.krs_links.specs.Indexed.{linked}
 use Rattle.krs_links.proofs.{LinksLemmas.linked_last, PlacesLemmas.{AreLists-last_other, AreLists-last_ring}}
 use Rattle.krs_links.proofs.lists.append.Goals as goal
+use Rattle.std.proofs.Common.{arith}
+use Rattle.std.proofs.lemmas.Grind.{common_steps}
 
 pub returns-then-not-is-clause-links : goal.returns-then-not-is-clause-links
-returns-then-not-is-clause-links c =
-    c.in_ok-push.ensures.ok ∙ sym (linked_last c.args.name c.args.serial (linked c.args.index.now) c.requires.none)
+returns-then-not-is-clause-links c = grind (arith, common_steps, linked_last)
 
 pub returns-then-not-is-clause-found : goal.returns-then-not-is-clause-found
 returns-then-not-is-clause-found c =
@@ -18,8 +19,7 @@ returns-then-not-is-clause-found c =
     }
 
 pub returns-clause-links : goal.returns-clause-links
-returns-clause-links c =
-    c.in_ok-push-2.ensures.ok ∙ sym (linked_last c.args.name c.args.serial (linked c.args.index.now) c.requires.none)
+returns-clause-links c = grind (arith, common_steps, linked_last)
 
 pub returns-clause-found : goal.returns-clause-found
 returns-clause-found c =

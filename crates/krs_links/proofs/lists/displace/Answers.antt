@@ -4,14 +4,14 @@ use Rattle.krs_links.specs.{Indexed.linked, Links.is_full}
 use Rattle.krs_links.proofs.{IndexLemmas.never_both, IndexedLemmas.linked_in-set}
 use Rattle.krs_links.proofs.PlacesLemmas.{AreLists-displaced, linked_as_at, serial_at_named}
 use Rattle.krs_links.proofs.lists.displace.Goals as goal
+use Rattle.std.proofs.Common.{arith}
+use Rattle.std.proofs.lemmas.Grind.{common_steps}
 
 pub set_serial-requires : goal.set_serial-requires
 set_serial-requires c = record { indexed = c.requires.found.indexed }
 
 pub returns-clause-displaced : goal.returns-clause-displaced
-returns-clause-displaced c =
-    c.serial_at-displaced.ensures
-    ∙ serial_at_named c.args.name.now (linked c.args.index.now) c.args.place c.requires.place
+returns-clause-displaced c = grind (arith, common_steps, serial_at_named)
 
 pub returns-clause-room : goal.returns-clause-room
 returns-clause-room c =
@@ -21,9 +21,7 @@ returns-clause-room c =
     ∙ never_both (is_full links)
 
 pub returns-clause-links : goal.returns-clause-links
-returns-clause-links c =
-    c.set_serial.ensures.links
-    ∙ linked_in-set c.args.name.now c.args.serial c.args.index.now.entries.entries c.args.place c.requires.place
+returns-clause-links c = grind (arith, common_steps, linked_in-set)
 
 pub returns-clause-found : goal.returns-clause-found
 returns-clause-found c =

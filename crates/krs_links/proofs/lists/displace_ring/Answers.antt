@@ -1,14 +1,11 @@
-use Rattle.std.proofs.Common.{◌∙◌, ap, arith, length, sym}
+use Rattle.std.proofs.Common.{◌∙◌, arith, sym}
 use Rattle.krs_links.specs.Indexed.{linked}
 use Rattle.krs_links.proofs.PlacesLemmas.{ring_within, rings_displaced, rings_stay_displaced}
 use Rattle.krs_links.proofs.lists.displace_ring.Goals as goal
+use Rattle.std.proofs.lemmas.Grind.{common_steps}
 
 pub index_mut-requires : goal.index_mut-requires
-index_mut-requires c =
-    let links = linked c.args.index.now in
-    let within = ring_within c.args.name.now links c.args.place c.requires.place (sym c.is.ensures ∙ c.if-is.true) in
-    let long = ap length c.requires.rings in
-    omega (arith, c.args.rings.now.ok)
+index_mut-requires c = grind (arith, common_steps, ring_within)
 
 pub returns-then-is : goal.returns-then-is
 returns-then-is c =

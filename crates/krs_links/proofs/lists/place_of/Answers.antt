@@ -1,7 +1,7 @@
-use Rattle.krs_links.specs.Indexed.{linked}
 use Rattle.krs_links.proofs.PlacesLemmas.{none_given}
 use Rattle.krs_links.proofs.lists.place_of.Goals as goal
+use Rattle.std.proofs.Common.{arith}
+use Rattle.std.proofs.lemmas.Grind.{common_steps}
 
 pub returns-clause-none : goal.returns-clause-none
-returns-clause-none c =
-    none_given c.args.name.now (linked c.args.index.now) c.place_of.result c.place_of.ensures
+returns-clause-none c = grind (arith, common_steps, none_given)

@@ -2,12 +2,6 @@ use Rattle.krs_links.specs.Indexed.{linked}
 use Rattle.krs_links.proofs.PlacesLemmas.{AreLists-removed}
 use Rattle.krs_links.proofs.lists.remove_at.Goals as goal
 
-pub remove_ring_at-requires : goal.remove_ring_at-requires
-remove_ring_at-requires c = record { rings = c.requires.found.lists.nested }
-
-pub remove-requires : goal.remove-requires
-remove-requires c = record { indexed = c.requires.found.indexed }
-
 pub returns-clause-found : goal.returns-clause-found
 returns-clause-found c = record {
   lists = rw c.remove.ensures.links

@@ -1,8 +1,9 @@
 use Rattle.std.proofs.Common.{◌∙◌, ap, arith, length, sym}
-use Rattle.krs_links.specs.{Indexed.linked, Links.{LinkList, nested, serials}}
+use Rattle.krs_links.specs.{Indexed.linked}
 use Rattle.krs_links.proofs.IndexLemmas.{link_named_at, no_link_at}
 use Rattle.krs_links.proofs.PlacesLemmas.{removed_past, ring_within_at, rings_removed_at, rings_stay_removed_at}
 use Rattle.krs_links.proofs.lists.remove_ring_at.Goals as goal
+use Rattle.std.proofs.lemmas.Grind.{common_steps}
 
 pub remove-requires : goal.remove-requires
 remove-requires c =
@@ -28,8 +29,4 @@ returns-else-is c =
     c.requires.rings ∙ rings_stay_removed_at links c.args.place _ here other
 
 pub returns-in_default : goal.returns-in_default
-returns-in_default c =
-    let links = linked c.args.index.now in
-    c.requires.rings
-    ∙ sym (ap (λ (ls : LinkList). serials (nested ls))
-    (removed_past links c.args.place (no_link_at links c.args.place (sym c.in_default.ensures))))
+returns-in_default c = grind (arith, common_steps, removed_past, no_link_at)

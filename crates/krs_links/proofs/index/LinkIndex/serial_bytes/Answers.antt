@@ -1,10 +1,11 @@
 use Rattle.std.proofs.Common.{[], ◌++◌, ◌+◌, ◌<◌, ◌∙◌, ◌∷◌, ◌≡◌, add-one, ap, append-nil, arith, get_or, length, List}
-use Rattle.std.proofs.Common.{refl, slice_get, Some, subst, suc, sym, take, w32, zero, ℕ}
+use Rattle.std.proofs.Common.{refl, slice_get, Some, suc, sym, take, w32, zero, ℕ}
 use Rattle.std.specs.{Int.to_le_bytes, Map.values_of}
 use Rattle.std.proofs.Math.Seq.{take-suc}
 use Rattle.std.proofs.lemmas.{Grind.flat_map-append, Option.{get_or_from_slice_get, slice_get_within}}
-use Rattle.krs_links.specs.{Indexed.{linked, linked_in}, Links.{bytes_of, serials}, declared.index.Link.Link}
+use Rattle.krs_links.specs.{Indexed.{linked_in}, Links.{bytes_of, serials}, declared.index.Link.Link}
 use Rattle.krs_links.proofs.index.LinkIndex.serial_bytes.Goals as goal
+use Rattle.std.proofs.lemmas.Grind.{common_steps}
 
 -- what is taken up to a place, and behind it what stands there
 next_taken : (xs : List ℕ) (i x : ℕ) → slice_get xs i ≡ Some x → take (i + 1) xs ≡ take i xs ++ (x ∷ [])
@@ -27,20 +28,4 @@ serial_there (e ∷ es) zero link within is = ap (λ (l : Link). Some l.serial) 
 serial_there (e ∷ es) (suc i) link within is = serial_there es i link (omega arith) is
 
 pub loop-link-preserved : goal.loop-link-preserved
-loop-link-preserved c =
-    let entries = c.args.self.now.entries.entries in
-    let i = c.loop-link.link-index in
-    let link = c.link-item.result in
-    let same : c.as_slice-links.result.now ≡ values_of entries = c.as_slice-links.ensures ∙ c.values.ensures.rest in
-    let within : i < length (values_of entries) = subst (λ (xs : List Link). i < length xs) same
-    c.loop-link-test.true in
-    let is : link ≡ get_or (values_of entries) i link =
-    subst (λ (xs : List Link). link ≡ get_or xs i link) same c.link-item.is in
-    let here = serial_there entries i link within is in
-    let more = more_bytes (serials (linked c.args.self.now)) c.loop-link.bytes.items i link.serial here
-    c.loop-link.invariant.bytes in
-    record {
-      bytes = c.push_serial.ensures.items ∙ more;
-      len = omega (arith, c.push_serial.ensures.len, c.loop-link.invariant.len);
-      room = omega (arith, c.push_serial.ensures.capacity, c.loop-link.invariant.room);
-    }
+loop-link-preserved c = grind (arith, common_steps, get_or, serial_there, more_bytes)

@@ -1,8 +1,7 @@
 use Rattle.krs_links.proofs.IndexedLemmas.{AllStand-set}
 use Rattle.krs_links.proofs.index.LinkIndex.set_serial.Goals as goal
+use Rattle.std.proofs.Common.{arith}
+use Rattle.std.proofs.lemmas.Grind.{common_steps}
 
 pub returns-clause-indexed : goal.returns-clause-indexed
-returns-clause-indexed c =
-    let index = c.args.self.now in
-    rw c.set_serial.ensures
-    (AllStand-set index.seed index.span index.entries.entries c.args.place c.args.serial c.requires.indexed)
+returns-clause-indexed c = grind (arith, common_steps, AllStand-set)

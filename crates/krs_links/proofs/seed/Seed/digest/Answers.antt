@@ -1,5 +1,0 @@
-use Rattle.std.proofs.Common.{rules}
-use Rattle.krs_links.proofs.seed.Seed.digest.Goals as goal
-
-pub returns : goal.returns
-returns c = search rules
