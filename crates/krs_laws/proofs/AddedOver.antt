@@ -1,36 +1,30 @@
 -- What ADD overwrote leaves no trace.
-use Rattle.std.proofs.Common.{ap, arith, Bool, codes, cond, List, None, Ok, refl, Result, subst, sym, ℕ, ℤ, ◌+◌, ◌<◌}
+use Rattle.std.proofs.Common.{ap, arith, codes, List, Ok, refl, Result, subst, sym, ℕ, ℤ, ◌+◌, ◌<◌}
 use Rattle.std.proofs.Common.{◌∙◌, ◌≡◌}
 use Rattle.krs_types.specs.declared.ask.{Answer.{Answer, TheVariants.Number}, Op.{Op, TheVariants.Add}}
 use Rattle.krs_types.specs.declared.{context.Context.Context, errno.Errno.Errno, key_id.KeyId.KeyId, name.Name.Name}
-use Rattle.krs_types.specs.{declared.note.KeyEvent.TheVariants.{Linked, Updated as UpdatedNote}, KeyId.key_id_of}
+use Rattle.krs_types.specs.{KeyId.key_id_of}
 use Rattle.krs_model.specs.Asks.Adding.{add, added, added_in, added_serial, admitted, Made, Place, place_of, Updated}
 use Rattle.krs_model.specs.{Hiding.{blind, Hiding, over}, Lookup.{context_of, serial_of}, Making.made_for}
-use Rattle.krs_model.specs.{Making.special_ring, Notes.Telling.{about, about_link, named}, Outcome.Outcome}
-use Rattle.krs_model.specs.{Secrecy.HidesOnly, State.{Key, raised, State}, Step.{Ends, Step}, Table.{at, IsBelow}}
-use Rattle.krs_model.specs.Table.{IsDistinct, put, Table}
+use Rattle.krs_model.specs.{Making.special_ring, Outcome.Outcome}
+use Rattle.krs_model.specs.{Secrecy.HidesOnly, State.{Key, raised, State}, Step.{Ends, Step}, Table.{IsBelow}}
+use Rattle.krs_model.specs.Table.{IsDistinct, put}
 use Rattle.krs_model.proofs.{Asks.Later.{bind_ok, same_ok}, Hiding.{Adding.same_place, Links.made_blind}}
 use Rattle.krs_model.proofs.{Hiding.Sweeps.same_there, Isolation.Flows.given_below, MadeKeyring.Which.IsMade}
 use Rattle.krs_model.proofs.MadeKeyring.Which.{made_for_is, NoneMade, ProcessMade, ThreadMade}
 use Rattle.krs_model.proofs.Tables.{Distinct.put_distinct, Entries.rises_distinct}
 use Rattle.krs_laws.specs.Overwritten.{AddsForget}
 use Rattle.krs_laws.proofs.Overwriting.{AsksAlike, served_same, then_ok, updated_keys}
+use Rattle.std.proofs.lemmas.Grind.{common_steps}
 
 -- ---- the state that it meets, with a keyring made where it wants one
-
 record IsAbove (s : State) (n : ℕ) : Type 0 where
   distinct : IsDistinct s.keys
   given : n < s.next_serial
 
 more_above : (s : State) (n : ℕ) (ring : Key) (t : State) → IsBelow s.keys s.next_serial → IsAbove s n
     → t.keys ≡ put s.keys s.next_serial ring → t.next_serial ≡ s.next_serial + 1 → IsAbove t n
-more_above s n ring t below above keys next =
-    let given : n < s.next_serial = above.given in
-    let none : at s.keys s.next_serial ≡ None = below s.next_serial (omega arith) in
-    record {
-      distinct = subst IsDistinct (sym keys) (put_distinct s.keys s.next_serial ring none above.distinct);
-      given = omega arith;
-    }
+more_above s n ring t below above keys next = grind (arith, common_steps, put_distinct)
 
 made_above :
     (s : State) (number : ℕ) (c : Context) (id : Result KeyId Errno) (made : State × Context) (n : ℕ)
@@ -42,26 +36,17 @@ made_above s number c id _ n below above (ProcessMade is none) =
     more_above s n (special_ring (codes "_pid") c.caller) _ below above refl refl
 
 -- ---- what it leaves
-
 -- where the serial was given before, the payload that was hidden is overwritten
 added_same :
     (hide : Hiding) (s : State) (c : Context) (name : Name) (payload : List ℕ) (serial : ℕ) (place : Place)
     → IsAbove s serial → HidesOnly serial hide → added_serial s place ≡ serial
     → ◌≡◌ {A = State × Answer} (added (blind hide s) c name payload place, Number (added_serial (blind hide s) place))
     (added s c name payload place, Number (added_serial s place))
-added_same hide s c name payload serial (Updated found) above only is =
-    let to : Table Key → State × Answer = λ es. (record s { keys = es }, Number found) in
-    ap to
-    (updated_keys hide found payload s.keys above.distinct (subst (λ (n : ℕ). HidesOnly n hide) (sym is) only))
-added_same hide s c name payload serial (Made ring) above only is =
-    let given : serial < s.next_serial = above.given in
-    let same : s.next_serial ≡ serial = is in
-    absurd (omega arith)
+added_same hide s c name payload serial (Updated found) above only is = grind (arith, common_steps, updated_keys)
+added_same hide s c name payload serial (Made ring) above only is = grind (arith, common_steps)
 
 numbered : (r : Outcome) (a b : State) (n k : ℕ) → r ≡ Ok (a, Number n) → r ≡ Ok (b, Number k) → n ≡ k
-numbered r a b n k was is =
-    let same : Number n ≡ Number k = ap (λ (x : State × Answer). x.1) (same_ok r (a, Number n) (b, Number k) was is) in
-    cc
+numbered r a b n k was is = grind (arith, common_steps, same_ok)
 
 add_same :
     (hide : Hiding) (s : State) (client context : ℕ) (type_name desc payload : List ℕ) (ring : ℤ) (serial : ℕ)
@@ -91,12 +76,8 @@ add_alike :
     → IsBelow s.keys s.next_serial → IsAbove s serial → HidesOnly serial hide
     → AsksAlike s (blind hide s) client context (Add type_name desc payload ring) (Number serial)
 unfolding context_of serial_of
-add_alike hide s client context type_name desc payload ring serial below above only = record {
-  notes = ap (λ (b : Bool). cond b (about UpdatedNote (Ok serial))
-      (about_link Linked (named s client context ring) (Ok serial))) (same_there hide s.keys serial);
-  ended = refl;
-  meant = λ mid. add_same hide s client context type_name desc payload ring serial mid below above only;
-}
+add_alike hide s client context type_name desc payload ring serial below above only =
+    grind (arith, common_steps, same_there, add_same)
 
 pub adds_forget : AddsForget
 unfolding Step

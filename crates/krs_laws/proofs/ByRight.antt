@@ -63,7 +63,6 @@ made_next s c id _ stands (MadeOne t d desc before after has is) = (
 )
 
 -- ---- one ask a line
-
 session_made :
     (s : State) (client context : ℕ) (op : Op) (name : List ℕ) (c : Caller) → AsksAs s client context op c
     → IsMadeBy s client context op (session_ring name c)
@@ -435,7 +434,6 @@ all_rightly s client context (Invalidate id) stands = invalidate_rightly s clien
 all_rightly s client context op stands = search rights depth 12
 
 -- ---- a step
-
 none_kept : (b : Bool) (o : Option Key) (key : Key) → o ≡ Some key → cond b o None ≡ None → b ≡ false
 none_kept true o key is h = absurd (none-some key (sym h ∙ is))
 none_kept false o key is h = refl

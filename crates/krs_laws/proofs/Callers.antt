@@ -6,7 +6,7 @@ use Rattle.std.specs.{List.AllByRecursion, declared.cmp.Ordering.TheVariants.{Eq
 use Rattle.std.proofs.lemmas.Option.{none-some, same_Some}
 use Rattle.krs_types.specs.declared.{ask.{Answer.Answer, Op.Op}, errno.Errno.Errno}
 use Rattle.krs_model.specs.{Asks.Leaving.left, Notes.Posting.{dropped_watches, Note, note_for, Post, posts, posts_of}}
-use Rattle.krs_model.specs.Notes.{Posting.{records_for, removal_for, watches_at}, Telling.{ended_by, named, notes_of}}
+use Rattle.krs_model.specs.Notes.{Posting.{records_for, removal_for, watches_at}, Telling.{ended_by, notes_of}}
 use Rattle.krs_model.specs.{Orderly.Each, Outcome.Outcome, Queues.{place_cmp, Queues, queues_of, Watch, watch_at}}
 use Rattle.krs_model.specs.{Receiving.called, Sound.IsSound, State.{Key, raised, State}}
 use Rattle.krs_model.specs.{Step.{Ends, posts_by, Serves, Step, watches_left}, Sweep.IsSwept, Table.{at, Table}}
@@ -16,9 +16,10 @@ use Rattle.krs_model.proofs.{Notes.Fitting.each_filter, Sound.{Queues.ended_set,
 use Rattle.krs_model.proofs.{Sound.Watches.each_without, Sweep.QueueAsks.effect_swept}
 use Rattle.krs_laws.specs.Noting.{AllNotesAreCalledFor, IsCalledFor, IsWatched}
 use Rattle.krs_laws.proofs.Watchers.{all_watched, same_place}
+use Rattle.std.proofs.Common.{arith}
+use Rattle.std.proofs.lemmas.Grind.{common_steps}
 
 -- ---- posts
-
 -- each of these posts is called for by one of these watches
 abbrev AreCalledFor : List Watch → List Post → Type 0
 AreCalledFor ws [] = Unit {0}
@@ -32,26 +33,15 @@ called_append ws (p ∷ ps) qs f g = (f.0, called_append ws ps qs f.1 g)
 called_filter : (ws : List Watch) (passes : Post → Bool) (ps : List Post) → AreCalledFor ws ps
     → AreCalledFor ws (filter passes ps)
 called_filter ws passes [] h = tt
-called_filter ws passes (p ∷ ps) h =
-    elim (passes p) as (λ b. AreCalledFor ws (cond b (p ∷ filter passes ps) (filter passes ps))) [
-      | true ↦ (h.0, called_filter ws passes ps h.1)
-      | false ↦ called_filter ws passes ps h.1
-    ]
+called_filter ws passes (p ∷ ps) h = grind (arith, common_steps, called_filter ws passes ps h.1)
 
 -- those for one queue
 called_at : (ws : List Watch) (q : ℕ) (ps : List Post) → AreCalledFor ws ps
     → AllByRecursion (IsCalledFor ws q) (records_for q ps)
 called_at ws q [] h = tt
-called_at ws q (p ∷ ps) h =
-    let rest = filter (λ d. d.0 == q) ps in
-    elim (p.0 == q) as (λ b. (p.0 == q) ≡ b
-    → AllByRecursion (IsCalledFor ws q) (map (λ d. d.1) (cond b (p ∷ rest) rest))) [
-      | true ↦ λ t. (subst (λ (n : ℕ). IsCalledFor ws n p.1) (eqb-true p.0 q t) h.0, called_at ws q ps h.1)
-      | false ↦ λ t. called_at ws q ps h.1
-    ] refl
+called_at ws q (p ∷ ps) h = grind (arith, common_steps, eqb-true, called_at ws q ps h.1)
 
 -- ---- notes and removals
-
 told_called : (all : List Watch) (note : Note) (ws : List Watch) → Each (λ w. IsWatched w all) ws
     → AreCalledFor all (map (note_for note) (watches_at note.key ws))
 told_called all note [] h = tt
@@ -76,7 +66,6 @@ removals_called all [] h = tt
 removals_called all (w ∷ ws) h = (h.0, removals_called all ws h.1)
 
 -- ---- watches that end
-
 -- a watch that is found is one of them
 found_watched : (ws : List Watch) (key number n : ℕ) → watch_at ws key number ≡ Some n → IsWatched ((key, number), n) ws
 found_watched [] key number n h = absurd (none-some n h)
@@ -98,10 +87,9 @@ ended_called s client context _ _ _ (Filters number entries queue there) = tt
 ended_called s client context _ _ _ (Reads number room queue there) = tt
 ended_called s client context _ _ _ (Closes number queue there) = tt
 ended_called s client context _ _ _ (Watches id watch_id number key n queue here there asked small) =
-    rw (asked, ended_set s.watches (named s client context id) number n) tt
+    grind (arith, common_steps, ended_set)
 ended_called s client context _ _ _ (Unwatches id watch_id number key n queue here names there asked is) =
-    let ended = found_watched s.watches key number n is in
-    rw (names, asked, is) (ended, tt)
+    grind (arith, common_steps, found_watched)
 ended_called s client context _ _ _ Leaves = tt
 
 -- an ask sets no watch, or leaves a swept state

@@ -1,9 +1,10 @@
 -- No ask sets the clock.
 use Rattle.std.proofs.Common.{◌∙◌, ◌≡◌, ◌≤◌, ap, arith, Err, max, Ok, refl, Result, ℕ}
 use Rattle.krs_types.specs.declared.{ask.{Answer.Answer, Op.Op}, errno.Errno.Errno, event.Event.Event}
-use Rattle.krs_model.specs.{Asks.Leaving.left, State.{raised, State}, Step.{Ends, Step}}
+use Rattle.krs_model.specs.{Asks.Leaving.left, State.{State}, Step.{Ends, Step}}
 use Rattle.krs_model.proofs.Asks.Effects.{Closes, Effect, effect_of, Filters, Leaves, OfKeys, Opens, Reads, Unwatches}
 use Rattle.krs_model.proofs.Asks.Effects.{Watches}
+use Rattle.std.proofs.lemmas.Grind.{common_steps}
 
 left_clock : (s : State) (client : ℕ) → (left s client).clock ≡ s.clock
 unfolding left
@@ -31,7 +32,4 @@ ended_clock s new client context op (Err e) ends = ap (λ (t : State). t.clock) 
 -- the clock never falls back
 pub step_clock : (old new : State) (event : Event) → Step old event new → old.clock ≤ new.clock
 unfolding Step
-step_clock old new event step =
-    let same : new.clock ≡ max old.clock event.moment =
-    ended_clock (raised old event.moment) new event.lane event.ask.context event.ask.op event.reply step in
-    omega arith
+step_clock old new event step = grind (arith, common_steps, max, ended_clock)

@@ -1,16 +1,16 @@
 -- A client has at most 64 contexts.
-use Rattle.std.proofs.Common.{[], ◌+◌, ◌<◌, ◌==◌, ◌||◌, ◌∙◌, ◌∷◌, ◌≡◌, ◌≤◌, ap, arith, Bool, cond, Err, false, filter}
+use Rattle.std.proofs.Common.{[], ◌+◌, ◌<◌, ◌==◌, ◌||◌, ◌∙◌, ◌∷◌, ◌≡◌, ◌≤◌, arith, Bool, cond, false, filter}
 use Rattle.std.proofs.Common.{nat_cmp, nat_le, not, Ok, Option, refl, subst, sym, true, ℕ}
 use Rattle.std.proofs.lemmas.{Bool.Decides.nat_tests, List.Sums.sum_by-cons}
-use Rattle.std.specs.{BTreeMap.is_at, declared.cmp.Ordering.TheVariants.{Equal, Greater, Less}, Map.values_of}
+use Rattle.std.specs.{declared.cmp.Ordering.TheVariants.{Equal, Greater, Less}, Map.values_of}
 use Rattle.std.specs.Ordering.{match_ordering}
 use Rattle.krs_types.specs.declared.{ask.Op.Op, context.{Context.Context, UidRings.UidRings}}
-use Rattle.krs_types.specs.declared.errno.Errno.TheVariants.{EINVAL}
 use Rattle.krs_model.specs.Asks.{Entering.without_thread, Hello.{context_count, has_context_left}}
 use Rattle.krs_model.specs.{Asks.{Invalidating.context_without, Leaving.left}, State.State, Table.{alter, map_values}}
 use Rattle.krs_model.specs.Table.{put, Table, without}
 use Rattle.krs_model.proofs.Asks.Houses.{Alters, Begins, Departs, Detaches, entering, Enters, Execs, Exits, Houses}
 use Rattle.krs_model.proofs.{Asks.Houses.{Rings, Same, Threads}, History.Belongings.own_client}
+use Rattle.std.proofs.lemmas.Grind.{common_steps}
 
 -- 1 where the context is the client's
 abbrev one_of : ℕ → Context → ℕ
@@ -36,50 +36,27 @@ alter_count : (client : ℕ) (es : Table Context) (n : ℕ) (f : Context → Con
     → ((c : Context) → (f c).client ≡ c.client)
     → context_count client (alter es n f) ≡ context_count client es
 alter_count client [] n f same = refl
-alter_count client (e ∷ es) n f same =
-    let one : one_of client (f e.1) ≡ one_of client e.1 = ap (λ (k : ℕ). cond (k == client) 1 0) (same e.1) in
-    elim (is_at (nat_cmp n) e.0) as
-    (λ b. context_count client (cond b ((e.0, f e.1) ∷ es) (e ∷ alter es n f)) ≡ context_count client (e ∷ es)) [
-      | true ↦ omega (arith, counted client (e.0, f e.1) es, counted client e es)
-      | false ↦ omega (arith, counted client e (alter es n f), counted client e es, alter_count client es n f same)
-    ]
+alter_count client (e ∷ es) n f same = grind (arith, common_steps, nat_cmp, counted, alter_count client es n f same)
 
 map_count : (client : ℕ) (es : Table Context) (f : Context → Context) → ((c : Context) → (f c).client ≡ c.client)
     → context_count client (map_values f es) ≡ context_count client es
 map_count client [] f same = refl
-map_count client (e ∷ es) f same =
-    let one : one_of client (f e.1) ≡ one_of client e.1 = ap (λ (k : ℕ). cond (k == client) 1 0) (same e.1) in
-    omega (arith, counted client (e.0, f e.1) (map_values f es), counted client e es, map_count client es f same)
+map_count client (e ∷ es) f same = grind (arith, common_steps, counted, map_count client es f same)
 
 filter_count : (client : ℕ) (p : ℕ × Context → Bool) (es : Table Context)
     → context_count client (filter p es) ≤ context_count client es
 filter_count client p [] = omega arith
-filter_count client p (e ∷ es) =
-    elim (p e) as (λ b. context_count client (cond b (e ∷ filter p es) (filter p es)) ≤ context_count client (e ∷ es)) [
-      | true ↦ omega (arith, counted client e (filter p es), counted client e es, filter_count client p es)
-      | false ↦ omega (arith, counted client e es, filter_count client p es)
-    ]
+filter_count client p (e ∷ es) = grind (arith, common_steps, counted, filter_count client p es)
 
 without_count : (client : ℕ) (es : Table Context) (n : ℕ)
     → context_count client (without es n) ≤ context_count client es
 without_count client [] n = omega arith
-without_count client (e ∷ es) n =
-    elim (is_at (nat_cmp n) e.0) as
-    (λ b. context_count client (cond b es (e ∷ without es n)) ≤ context_count client (e ∷ es)) [
-      | true ↦ omega (arith, counted client e es)
-      | false ↦ omega (arith, counted client e (without es n), counted client e es, without_count client es n)
-    ]
+without_count client (e ∷ es) n = grind (arith, common_steps, nat_cmp, counted, without_count client es n)
 
 -- an ask that makes a context finds room for it
 few_left : (s : State) (client : ℕ) (x : Unit {0}) → has_context_left s client ≡ Ok x
     → context_count client s.contexts < 64
-few_left s client x h =
-    elim (nat_le 64 (context_count client s.contexts)) as
-    (λ b. nat_le 64 (context_count client s.contexts) ≡ b → cond b (Err EINVAL) (Ok tt) ≡ Ok x
-    → context_count client s.contexts < 64) [
-      | true ↦ λ t no. cc
-      | false ↦ λ t yes. grind (arith, nat_tests)
-    ] refl h
+few_left s client x h = grind (arith, common_steps, nat_le, nat_tests)
 
 -- a further context of the client
 put_few : (s : State) (client other n : ℕ) (c : Context) → c.client ≡ client → context_count client s.contexts < 64

@@ -1,21 +1,21 @@
 -- An ask that isn't long leaves held what was held, but for one key that links nothing.
-use Rattle.std.proofs.Common.{[], ⊎_elim, ◌+◌, ◌==◌, ◌∙◌, ◌∷◌, ◌≡◌, ◌⊎◌, ap, arith, Bool, bytes_eq, cond, Err, false}
+use Rattle.std.proofs.Common.{[], ⊎_elim, ◌+◌, ◌==◌, ◌∙◌, ◌∷◌, ◌≡◌, ◌⊎◌, ap, arith, Bool, bytes_eq, cond, false}
 use Rattle.std.proofs.Common.{find, inl, inr, List, None, Ok, Option, option_map, option_to_list, refl, Result, Some}
 use Rattle.std.proofs.Common.{subst, sym, true, true≢false, unwrap_or, ℕ, ℤ}
 use Rattle.std.proofs.lemmas.{Bool.Decides.nat_tests, Option.{none-some, same_Some}}
-use Rattle.krs_types.specs.{KeyId.key_id_of, Refusing.or_refuse, Rows.{names_keyrings, row_of}}
-use Rattle.krs_types.specs.Kind.{begins_with, checked, is_bad_text, kind_name, kind_named, kinds, same_kind}
+use Rattle.krs_types.specs.{KeyId.key_id_of, Rows.{names_keyrings, row_of}}
+use Rattle.krs_types.specs.Kind.{kind_name, kind_named, same_kind}
 use Rattle.krs_types.specs.declared.ask.Op.{Op, TheVariants.{Add, Clear, CloseQueue, Exec, Exit, Invalidate, Join}}
 use Rattle.krs_types.specs.declared.ask.Op.TheVariants.{Leave, Link, Move, Request, Revoke, Search, Unlink}
 use Rattle.krs_types.specs.declared.{caller.Caller.Caller, context.{Context.Context, UidRings.UidRings}}
-use Rattle.krs_types.specs.declared.errno.Errno.{Errno, TheVariants.{EINVAL, ENODEV, EPERM}}
+use Rattle.krs_types.specs.declared.errno.Errno.{Errno}
 use Rattle.krs_types.specs.declared.{event.Event.Event, key_id.KeyId.KeyId, kind.Kind.{Kind, TheVariants.Keyring}}
 use Rattle.krs_types.specs.declared.name.Name.{Name}
 use Rattle.krs_types.proofs.KindRows.{equal_kinds}
 use Rattle.krs_model.specs.Asks.Adding.{add, added, admitted, Made, new_key, Place, place_of, Updated}
 use Rattle.krs_model.specs.Asks.{Changing.{changed, paid_with, updated}, Finding.made_where}
 use Rattle.krs_model.specs.Asks.Hello.{with_context, with_uid}
-use Rattle.krs_model.specs.{Levels.is_in, Linking.{is_named, linked_content, with_link}, Lookup.context_of}
+use Rattle.krs_model.specs.{Levels.is_in, Linking.{is_named, with_link}, Lookup.context_of}
 use Rattle.krs_model.specs.Making.{made_for, thread_to, with_process, with_thread}
 use Rattle.krs_model.specs.{Possession.links_of_content, Queues.{Queues, with_queues}, Reach.links_of_key_at}
 use Rattle.krs_model.specs.Sound.{is_links, IsFitting, IsSound}
@@ -29,13 +29,14 @@ use Rattle.krs_model.proofs.MadeKeyring.Which.{IsMade, made_for_is, NoneMade, Pr
 use Rattle.krs_model.proofs.Reach.Levels.{in_one, in_right, or_true, true_or}
 use Rattle.krs_model.proofs.Sound.Attached.{attached_at, attached_by, attached_entry, attachments, context_keys}
 use Rattle.krs_model.proofs.Sound.Attached.{in_context, in_process, in_uid, uid_keys}
-use Rattle.krs_model.proofs.Sound.Changes.{at_change, at_further, at_put, IsChanged, IsPut, LinksTo, Stands}
+use Rattle.krs_model.proofs.Sound.Changes.{at_change, at_further, at_put, IsChanged, LinksTo, Stands}
 use Rattle.krs_model.proofs.Sound.{Changes.with_linked, Links.named_same}
 use Rattle.krs_model.proofs.Sound.Steps.{legal_sound, raised_sound, sound_stands}
 use Rattle.krs_model.proofs.Sound.NewContexts.{made_for_stands, some_there, with_uid_stands}
 use Rattle.krs_model.proofs.{Sweep.Laws.linking_is_there, Tables.{Changes.at_put_none, Entries.rises_distinct}}
 use Rattle.krs_laws.specs.{Integrity.ChangesByRight, Marks.{DropsOneAtMost, IsDropped, ShortAsksDropOneAtMost}}
 use Rattle.krs_laws.proofs.ByRight.{step_by_right}
+use Rattle.std.proofs.lemmas.Grind.{common_steps}
 
 -- what is attached and linked stays so
 record Grows (s t : State) : Type 0 where
@@ -53,29 +54,15 @@ grows_same : (s : State) → Grows s s
 grows_same s = record { attached = λ k i. i; linked = λ j k i. i }
 
 grows_on : (s t u : State) → Grows s t → Grows t u → Grows s u
-grows_on s t u first then = record {
-  attached = λ k i. then.attached k (first.attached k i);
-  linked = λ j k i. then.linked j k (first.linked j k i);
-}
+grows_on s t u first then = grind (arith, common_steps)
 
 spares_on : (s t u : State) → Grows s t → Spares t u → Spares s u
-spares_on s t u first then = record {
-  but = then.but;
-  attached = λ k i. then.attached k (first.attached k i);
-  linked = λ j k i. then.linked j k (first.linked j k i);
-  barren = λ j k is i. then.barren j k is (first.linked j k i);
-}
+spares_on s t u first then = grind (arith, common_steps)
 
 grown_spares : (s t : State) → Grows s t → Spares s t
-grown_spares s t grows = record {
-  but = None;
-  attached = grows.attached;
-  linked = λ j k i. inl (grows.linked j k i);
-  barren = λ j k none i. none-some j none;
-}
+grown_spares s t grows = grind (arith, common_steps, none-some)
 
 -- ---- what a step drops
-
 still_held :
     (s t : State) (k : ℕ) (spares : Spares s t) → IsHeld s.keys (roots s) k
     → (IsHeld t.keys (roots t) k) ⊎ (spares.but ≡ Some k)
@@ -101,7 +88,6 @@ one_dropped s new event held right spared = λ j k a b.
     same_Some j k (sym (is j a) ∙ is k b)
 
 -- ---- attachments and keys that come
-
 attached_stays :
     {X : Type 0} (g : X → List ℕ) (es fs : Table X) (q : ℕ) → Rises es
     → ((n : ℕ) (v : X) → at es n ≡ Some v → is_in q (g v) ≡ true
@@ -115,13 +101,7 @@ attached_stays {X} g es fs q rises stays h =
 attached_put :
     {X : Type 0} (g : X → List ℕ) (es : Table X) (n : ℕ) (v : X) (q : ℕ) → Rises es → at es n ≡ None
     → is_in q (attachments g es) ≡ true → is_in q (attachments g (put es n v)) ≡ true
-attached_put {X} g es n v q rises none =
-    attached_stays g es (put es n v) q rises (λ m w there i. (
-      w,
-      ⊎_elim (λ (r : IsPut es n v m). absurd (none-some w (sym none ∙ (ap (at es) (sym r.0) ∙ there)))) (λ e. e ∙ there)
-          (at_put es n m v),
-      i,
-    ))
+attached_put {X} g es n v q rises none = grind (arith, common_steps, attached_stays, ⊎_elim, none-some, at_put)
 
 attached_alter :
     {X : Type 0} (g : X → List ℕ) (es : Table X) (n : ℕ) (f : X → X) (q : ℕ) → Rises es
@@ -140,16 +120,13 @@ roots_stay :
     → ((k : ℕ) → is_in k (process_roots s.processes) ≡ true → is_in k (process_roots t.processes) ≡ true)
     → ((k : ℕ) → is_in k (uid_roots s.uids) ≡ true → is_in k (uid_roots t.uids) ≡ true)
     → (k : ℕ) → is_in k (roots s) ≡ true → is_in k (roots t) ≡ true
-roots_stay s t contexts processes uids k =
-    attached_by (context_roots s.contexts) (process_roots s.processes) (uid_roots s.uids) k
-    (λ h. in_context t k (contexts k h)) (λ h. in_process t k (processes k h)) (λ h. in_uid t k (uids k h))
+roots_stay s t contexts processes uids k = grind (arith, common_steps, attached_by, in_context, in_process, in_uid)
 
 links_put :
     (es : Table Key) (n : ℕ) (v : Key) (j k : ℕ) → at es n ≡ None → LinksTo k (at es j) → LinksTo k (at (put es n v) j)
 links_put es n v j k none i = subst (LinksTo k) (sym (at_further es n j v none (linking_is_there k (at es j) i))) i
 
 -- ---- contexts, and keyrings that are made
-
 thread_grows : (s : State) (c : Context) → Stands s
     → Grows s (record s { contexts = put s.contexts s.next_context c; next_context = s.next_context + 1 })
 thread_grows s c stands =
@@ -201,9 +178,7 @@ unattached q o none i = absurd (true≢false (sym i ∙ ap (λ (z : Option ℕ).
 
 threaded_keeps : (n q : ℕ) (v : Context) → v.thread ≡ None → is_in q (context_keys v) ≡ true
     → is_in q (context_keys (thread_to n v)) ≡ true
-threaded_keeps n q v none i =
-    ⊎_elim (λ here. unattached q v.thread none here) (λ later. in_right q (n ∷ []) (option_to_list v.session) later)
-    (in_one q (option_to_list v.thread) (option_to_list v.session) i)
+threaded_keeps n q v none i = grind (arith, common_steps, ⊎_elim, unattached, in_right, option_to_list, in_one)
 
 is_made_grows :
     (s : State) (number : ℕ) (c : Context) (id : Result KeyId Errno) (made : State × Context)
@@ -238,7 +213,6 @@ where_grows true s client number c id own stands = made_grows s client number c 
 where_grows false s client number c id own stands = grows_same s
 
 -- ---- keys that are changed
-
 queues_grows : (s : State) (q : Queues) → Grows s (with_queues s q)
 queues_grows s q = record { attached = λ k i. i; linked = λ j k i. i }
 
@@ -252,12 +226,7 @@ changed_grows :
     (s : State) (n : ℕ) (f : Key → Key)
     → ((k : ℕ) (v : Key) → is_in k (links_of_content v.content) ≡ true
     → is_in k (links_of_content (f v).content) ≡ true) → Grows s (changed s n f)
-changed_grows s n f keeps = record {
-  attached = λ k i. i;
-  linked = λ j k i.
-      ⊎_elim (λ (r : IsChanged s.keys n f j). subst (LinksTo k) (sym r.1) (mapped_links f (at s.keys j) k (keeps k) i))
-      (λ e. subst (LinksTo k) (sym e) i) (at_change s.keys n j f);
-}
+changed_grows s n f keeps = grind (arith, common_steps, ⊎_elim, mapped_links, at_change)
 
 paid_links : (payload : List ℕ) (content : Content) (k : ℕ) → is_in k (links_of_content content) ≡ true
     → is_in k (links_of_content (paid_with payload content)) ≡ true
@@ -268,7 +237,6 @@ updated_grows : (s : State) (n : ℕ) (payload : List ℕ) → Grows s (changed 
 updated_grows s n payload = changed_grows s n (updated payload) (λ k v i. paid_links payload v.content k i)
 
 -- ---- ADD
-
 found_passes : {X : Type 0} (p : X → Bool) (xs : List X) (x : X) → find p xs ≡ Some x → p x ≡ true
 found_passes p [] x h = absurd (none-some x h)
 found_passes p (y ∷ ys) x h =
@@ -299,12 +267,7 @@ linked_or_displaced :
     (p : ℕ → Bool) (n : ℕ) (o : Option Key) (k : ℕ) → LinksTo k o
     → (LinksTo k (option_map (with_linked p n) o)) ⊎ (find p (links_of_key o) ≡ Some k)
 linked_or_displaced p n None k i = inl i
-linked_or_displaced p n (Some ring) k i =
-    elim ring.content as (λ (content : Content). is_in k (links_of_content content) ≡ true
-    → (is_in k (links_of_content (linked_content p n content)) ≡ true) ⊎ (find p (links_of_content content) ≡ Some k)) [
-      | Payload bytes ↦ λ there. inl there
-      | Links links ↦ λ there. in_or_displaced p links n k there
-    ] i
+linked_or_displaced p n (Some ring) k i = grind (arith, common_steps, in_or_displaced)
 
 payload_links : (content : Content) (k : ℕ) → is_links content ≡ false → is_in k (links_of_content content) ≡ true → ⊥
 payload_links (Payload bytes) k plain i = true≢false (sym i)
@@ -315,9 +278,7 @@ plain_links :
     (name : Name) (o : Option Key) (k : ℕ) → same_kind name.kind Keyring ≡ false
     → ((key : Key) → o ≡ Some key → IsFitting key) → is_named name o ≡ true → LinksTo k o → ⊥
 plain_links name None k plain fits is i = true≢false (sym is)
-plain_links name (Some key) k plain fits is i =
-    payload_links key.content k
-    (fits key refl ∙ (ap (λ (z : Name). same_kind z.kind Keyring) (sym (named_same name key is)) ∙ plain)) i
+plain_links name (Some key) k plain fits is i = grind (arith, common_steps, payload_links, named_same)
 
 added_spares :
     (s : State) (c : Context) (name : Name) (payload : List ℕ) (place : Place) → same_kind name.kind Keyring ≡ false
@@ -347,17 +308,7 @@ added_spares s c name payload (Made ring) plain stands =
 
 named_as : (type_name : List ℕ) (kind : Kind) → kind_named type_name ≡ Ok kind
     → bytes_eq type_name (kind_name kind) ≡ true
-named_as type_name kind h =
-    let p : Kind → Bool = λ k. bytes_eq type_name (kind_name k) in
-    elim (is_bad_text 31 type_name) as (λ b. cond b (Err EINVAL) (cond (begins_with type_name 46) (Err EPERM)
-    (or_refuse ENODEV (find p kinds))) ≡ Ok kind → p kind ≡ true) [
-      | true ↦ λ e. cc
-      | false ↦ λ e. elim (begins_with type_name 46) as (λ b.
-          cond b (Err EPERM) (or_refuse ENODEV (find p kinds)) ≡ Ok kind → p kind ≡ true) [
-            | true ↦ λ f. cc
-            | false ↦ λ f. found_passes p kinds kind (refused_is (find p kinds) ENODEV kind f)
-          ] e
-    ] h
+named_as type_name kind h = grind (arith, common_steps, bytes_eq, found_passes, refused_is)
 
 -- what isn't named as keyrings are is of another type
 admitted_plain :
@@ -365,15 +316,7 @@ admitted_plain :
     → admitted type_name desc payload ≡ Ok name → same_kind name.kind Keyring ≡ false
 unfolding admitted
 admitted_plain type_name desc payload name other h =
-    let a = bind_ok (kind_named type_name) _ name h in
-    let b = bind_ok (checked a.0 desc payload) _ name a.2 in
-    let mine : Name = record { kind = a.0; desc = desc } in
-    let is : a.0 ≡ name.kind = ap (λ (z : Name). z.kind) (same_ok (Ok mine) mine name refl b.2) in
-    elim (same_kind name.kind Keyring) as (λ b. same_kind name.kind Keyring ≡ b → b ≡ false) [
-      | true ↦ λ e. absurd (true≢false (sym (subst (λ (k : Kind). bytes_eq type_name (kind_name k) ≡ true)
-          (is ∙ equal_kinds name.kind Keyring e) (named_as type_name a.0 a.1)) ∙ other))
-      | false ↦ λ e. refl
-    ] refl
+    grind (arith, common_steps, bind_ok, same_ok, true≢false, bytes_eq, equal_kinds, named_as)
 
 add_spared :
     (s : State) (client context : ℕ) (type_name desc payload : List ℕ) (ring : ℤ) → Stands s
@@ -390,7 +333,6 @@ add_spared s client context type_name desc payload ring stands other =
     (made_for_stands s context c ring stands))))))
 
 -- ---- the asks
-
 ruleset spared = (
   meets_after,
   meets_within,

@@ -1,22 +1,22 @@
 -- Payloads and links stay within their limits.
-use Rattle.std.proofs.Common.{[], ap, arith, Bool, codes, cond, Err, false, find, length, List, nat_le, None, not, Ok}
+use Rattle.std.proofs.Common.{[], ap, arith, Bool, codes, cond, Err, false, find, length, List, nat_le, None, Ok}
 use Rattle.std.proofs.Common.{Option, refl, Result, Some, subst, sym, true, true≢false, ℕ, ℤ, ⊎_elim, ◌&&◌, ◌+◌, ◌<◌}
 use Rattle.std.proofs.{Common.{◌==◌, ◌∙◌, ◌∷◌, ◌≡◌, ◌≤◌}, lemmas.{Bool.Decides.nat_tests, Option.none-some}}
 use Rattle.std.proofs.lemmas.Option.{same_Some}
 use Rattle.krs_types.specs.declared.{context.Context.Context, errno.Errno.{Errno, TheVariants.{EACCES, EINVAL}}}
-use Rattle.krs_types.specs.declared.{errno.Errno.TheVariants.{ENFILE, ENOKEY, EPERM}, key_id.KeyId.KeyId}
+use Rattle.krs_types.specs.declared.{errno.Errno.TheVariants.{ENOKEY}, key_id.KeyId.KeyId}
 use Rattle.krs_types.specs.declared.kind.{Kind.TheVariants.Keyring, PayloadRule.{PayloadRule, TheVariants.NoBytes}}
 use Rattle.krs_types.specs.declared.{kind.PayloadRule.TheVariants.SomeBytes, name.Name.Name}
-use Rattle.krs_types.specs.{declared.rights.Want.TheVariants.Granted, KeyId.key_id_of, Kind.{checked, described}}
-use Rattle.krs_types.specs.{Kind.{described_as, kind_named, paid_by, row_of, same_kind}, Refusing.{or_refuse, ◌>>=◌}}
+use Rattle.krs_types.specs.{declared.rights.Want.TheVariants.Granted, KeyId.key_id_of}
+use Rattle.krs_types.specs.{Kind.{paid_by, same_kind}, Refusing.{or_refuse}}
 use Rattle.krs_types.specs.Rights.{has_all, WRITE}
 use Rattle.krs_model.specs.{Access.{is_alive, rights_on}, Asks.Adding.{added, admitted, by_match, if_room, Made}}
-use Rattle.krs_model.specs.Asks.{Adding.{new_key, over_match, Place, place_of, Updated}, Changing.{changed, emptied}}
+use Rattle.krs_model.specs.Asks.{Adding.{new_key, over_match, Place, place_of, Updated}, Changing.{emptied}}
 use Rattle.krs_model.specs.Asks.{Changing.{is_updatable, paid_with, updated}, Finding.{found_into, if_linkable}}
-use Rattle.krs_model.specs.Asks.Linked.{cleared_content, link_check, linked_into, name_of, nestable, unless}
-use Rattle.krs_model.specs.{Asks.Linked.{unlinked_content, without_link}, Linking.{has_room, is_named, link_named}}
+use Rattle.krs_model.specs.Asks.Linked.{cleared_content, linked_into}
+use Rattle.krs_model.specs.{Asks.Linked.{unlinked_content}, Linking.{has_room, is_named, link_named}}
 use Rattle.krs_model.specs.{Linking.{linked_content, linking, ring_links, with_link}, Lookup.look_up, Making.made_for}
-use Rattle.krs_model.specs.{Making.special_ring, Possession.possessed, State.{Content, Key, Links, Payload, State}}
+use Rattle.krs_model.specs.{Possession.possessed, State.{Content, Key, Links, Payload, State}}
 use Rattle.krs_model.specs.Table.{alter, at, map_values, put, Table}
 use Rattle.krs_model.proofs.Asks.{Later.{bind_ok, same_ok}, LaterByAsk.{IsMoved, Moves, Stays}, Outcomes.Meets}
 use Rattle.krs_model.proofs.{Asks.Outcomes.{meets_after, meets_ok}, Lookups.Laws.{in_by_match, look_up_usable}}
@@ -24,6 +24,7 @@ use Rattle.krs_model.proofs.MadeKeyring.Which.{IsMade, made_for_is, NoneMade, Pr
 use Rattle.krs_model.proofs.{Sound.Changes.{at_put, IsPut}, Tables.Each.{every_alter, every_map, every_put}}
 use Rattle.krs_laws.specs.Limits.{IsShort}
 use Rattle.krs_laws.proofs.QueueLimits.{filter_length}
+use Rattle.std.proofs.lemmas.Grind.{common_steps}
 
 pub record AllShort (keys : Table Key) : Type 0 where
   pub each : (k : ℕ) (key : Key) → at keys k ≡ Some key → IsShort key.content
@@ -47,8 +48,7 @@ short_map keys f stays all = record { each = every_map IsShortKey keys f stays a
 
 pub unlinked_short : (serial : ℕ) (content : Content) → IsShort content → IsShort (unlinked_content serial content)
 unlinked_short serial (Payload bytes) short = short
-unlinked_short serial (Links links) short =
-    let less = filter_length (λ k. not (k == serial)) links in omega arith
+unlinked_short serial (Links links) short = grind (arith, common_steps, filter_length)
 
 pub cleared_short : (content : Content) → IsShort content → IsShort (cleared_content content)
 cleared_short (Payload bytes) short = short
@@ -66,8 +66,7 @@ both false b h = absurd (true≢false (sym h))
 bounded : (payload : List ℕ) (x : Unit {0}) (b : Bool)
     → (nat_le 1 (length payload) && nat_le (length payload) 32767) ≡ b
     → cond b (Ok tt) (Err EINVAL) ≡ Ok x → length payload ≤ 32767
-bounded payload x true is h =
-    let high = (both (nat_le 1 (length payload)) (nat_le (length payload) 32767) is).1 in grind (arith, nat_tests)
+bounded payload x true is h = grind (arith, common_steps, both, nat_le, nat_tests)
 bounded payload x false is h = cc
 
 nothing_paid : (payload : List ℕ) (x : Unit {0}) (b : Bool) → (length payload == 0) ≡ b
@@ -86,23 +85,12 @@ updated_short payload (Payload bytes) fits short = fits
 updated_short payload (Links links) fits short = short
 
 -- ---- one link more
-
 room_below : (links : List ℕ) (x : Unit {0}) → has_room links None ≡ Ok x → length links < 65535
-room_below links x h =
-    elim (nat_le 65535 (length links)) as
-    (λ b. nat_le 65535 (length links) ≡ b → cond b (Err ENFILE) (Ok tt) ≡ Ok x → length links < 65535) [
-      | true ↦ λ t no. cc
-      | false ↦ λ t yes. grind (arith, nat_tests)
-    ] refl h
+room_below links x h = grind (arith, common_steps, nat_le, nat_tests)
 
 one_more : (p : ℕ → Bool) (links : List ℕ) (serial : ℕ) → length (with_link p links serial) ≤ length links + 1
 one_more p [] serial = omega arith
-one_more p (k ∷ links) serial =
-    let later = one_more p links serial in
-    elim (p k) as (λ b. length (cond b (serial ∷ links) (k ∷ with_link p links serial)) ≤ length (k ∷ links) + 1) [
-      | true ↦ omega arith
-      | false ↦ omega arith
-    ]
+one_more p (k ∷ links) serial = grind (arith, common_steps, one_more p links serial)
 
 displacing : (p : ℕ → Bool) (links : List ℕ) (serial d : ℕ) → find p links ≡ Some d
     → length (with_link p links serial) ≤ length links
@@ -117,12 +105,8 @@ displacing p (k ∷ links) serial d h =
 linked_length :
     (p : ℕ → Bool) (links : List ℕ) (serial : ℕ) (o : Option ℕ) (x : Unit {0}) → find p links ≡ o
     → has_room links o ≡ Ok x → length links ≤ 65535 → length (with_link p links serial) ≤ 65535
-linked_length p links serial None x is room short =
-    let below = room_below links x room in
-    let more = one_more p links serial in
-    omega arith
-linked_length p links serial (Some d) x is room short =
-    let same = displacing p links serial d is in omega arith
+linked_length p links serial None x is room short = grind (arith, common_steps, room_below, one_more)
+linked_length p links serial (Some d) x is room short = grind (arith, common_steps, displacing)
 
 links_are : (content : Content) (links : List ℕ) → ring_links content ≡ Ok links → content ≡ Links links
 links_are (Payload bytes) links h = cc
@@ -132,30 +116,14 @@ room_short :
     (keys : Table Key) (name : Name) (serial : ℕ) (content : Content) (links : List ℕ) (x : Unit {0})
     → content ≡ Links links → has_room links (link_named keys name links) ≡ Ok x → IsShort content
     → IsShort (linked_content (λ k. is_named name (at keys k)) serial content)
-room_short keys name serial content links x is room short =
-    let p : ℕ → Bool = λ k. is_named name (at keys k) in
-    subst (λ (z : Content). IsShort (linked_content p serial z)) (sym is)
-    (linked_length p links serial (link_named keys name links) x refl room (subst IsShort is short))
+room_short keys name serial content links x is room short = grind (arith, common_steps, linked_length)
 
 -- a link more in a keyring that is there
 pub linked_short :
     (s new : State) (into found : ℕ × Key) → at s.keys into.0 ≡ Some into.1 → linked_into s into found ≡ Ok new
     → AllShort s.keys → AllShort new.keys
 linked_short s new into found there linked all =
-    let name = name_of found.1 in
-    let end : State = changed s into.0 (linking s.keys name found.0) in
-    let fits : List ℕ → Result (Unit {0}) Errno = λ links. link_check s.keys into links found in
-    let a = bind_ok (ring_links into.1.content) (λ links. fits links >>= (λ x. Ok end)) new linked in
-    let b = bind_ok (fits a.0) (λ x. Ok end) new a.2 in
-    let room : Result (Unit {0}) Errno = has_room a.0 (link_named s.keys name a.0) in
-    let c = bind_ok (unless into.1.closed EPERM) (λ x. nestable s.keys into.0 found.0 >>= (λ y. room)) b.0 b.1 in
-    let d = bind_ok (nestable s.keys into.0 found.0) (λ y. room) b.0 c.2 in
-    subst (λ (z : State). AllShort z.keys) (same_ok (Ok end) end new refl b.2)
-    (short_alter s.keys into.0 (linking s.keys name found.0) (λ v here short.
-    let same : into.1 ≡ v = same_Some into.1 v (sym there ∙ here) in
-    let links : v.content ≡ Links a.0 =
-    ap (λ (z : Key). z.content) (sym same) ∙ links_are into.1.content a.0 a.1 in
-    room_short s.keys name found.0 v.content a.0 b.0 links d.2 short) all)
+    grind (arith, common_steps, bind_ok, same_ok, short_alter, same_Some, links_are, room_short)
 
 pub moved_short :
     (s : State) (found from into : ℕ × Key) (new : State) → at s.keys into.0 ≡ Some into.1
@@ -163,18 +131,15 @@ pub moved_short :
     → AllShort s.keys → AllShort new.keys
 moved_short s found from into _ there Stays all = all
 moved_short s found from into _ there (Moves mid linked) all =
-    short_alter mid.keys from.0 (without_link found.0) (λ v _ short. unlinked_short found.0 v.content short)
-    (linked_short s mid into found there linked all)
+    grind (arith, common_steps, short_alter, unlinked_short, linked_short)
 
 made_is_short :
     (s : State) (number : ℕ) (c : Context) (id : Result KeyId Errno) (made : State × Context)
     → IsMade s number c id made
     → AllShort s.keys → AllShort made.0.keys
 made_is_short s number c id _ NoneMade all = all
-made_is_short s number c id _ (ThreadMade is yet) all =
-    short_put s.keys s.next_serial (special_ring (codes "_tid") c.caller) (omega arith) all
-made_is_short s number c id _ (ProcessMade is yet) all =
-    short_put s.keys s.next_serial (special_ring (codes "_pid") c.caller) (omega arith) all
+made_is_short s number c id _ (ThreadMade is yet) all = grind (arith, common_steps, short_put, codes)
+made_is_short s number c id _ (ProcessMade is yet) all = grind (arith, common_steps, short_put, codes)
 
 pub made_short :
     (s : State) (number : ℕ) (c : Context) (id : ℤ) → AllShort s.keys → AllShort (made_for s number c id).0.keys
@@ -193,16 +158,10 @@ found_short s c dest into answer goes all =
     meets_ok (linked_short s new into found (look_up_usable s c dest (Granted WRITE) into goes).there linked all)))))
 
 -- ---- ADD
-
 pub admitted_short :
     (type_name desc payload : List ℕ) (name : Name) → admitted type_name desc payload ≡ Ok name → length payload ≤ 32767
 unfolding admitted
-admitted_short type_name desc payload name h =
-    let a = bind_ok (kind_named type_name) _ name h in
-    let b = bind_ok (checked a.0 desc payload) _ name a.2 in
-    let c = bind_ok (described desc) _ b.0 b.1 in
-    let d = bind_ok (described_as a.0 desc) _ b.0 c.2 in
-    paid_short (row_of a.0).payload payload b.0 d.2
+admitted_short type_name desc payload name h = grind (arith, common_steps, bind_ok, paid_short)
 
 -- a further link fits into the keyring
 abbrev Takes : State → Name → List ℕ → Type 0
@@ -223,10 +182,7 @@ if_room_takes :
     (s : State) (name : Name) (ring : ℕ × Key) (links : List ℕ) (o : Option ℕ) (place : Place)
     → if_room s ring links o ≡ Ok place → ((d : ℕ) → o ≡ Some d → link_named s.keys name links ≡ Some d)
     → Takes s name links
-if_room_takes s name ring links o place h is =
-    let unclosed = bind_ok (unless ring.1.closed EPERM) _ place h in
-    let room = bind_ok (has_room links o) _ place unclosed.2 in
-    room_takes s name links o room.0 room.1 is
+if_room_takes s name ring links o place h is = grind (arith, common_steps, bind_ok, room_takes)
 
 -- a new key's place is one that takes it
 abbrev TakesAt : State → Name → List ℕ → Place → Type 0
@@ -278,8 +234,7 @@ links_short :
     (p : ℕ → Bool) (serial : ℕ) (content : Content) (links : List ℕ) → content ≡ Links links
     → (length links ≤ 65535 → length (with_link p links serial) ≤ 65535) → IsShort content
     → IsShort (linked_content p serial content)
-links_short p serial content links is takes short =
-    subst (λ (z : Content). IsShort (linked_content p serial z)) (sym is) (takes (subst IsShort is short))
+links_short p serial content links is takes short = grind (arith, common_steps)
 
 pub added_short :
     (s : State) (c : Context) (name : Name) (payload : List ℕ) (id : ℤ) (place : Place)

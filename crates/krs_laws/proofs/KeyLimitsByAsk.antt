@@ -1,7 +1,6 @@
 -- Payloads and links stay within their limits, ask by ask.
-use Rattle.std.proofs.Common.{◌+◌, ◌==◌, [], arith, Bool, codes, cond, false, length, List, nat_lt, None, Ok, Option}
-use Rattle.std.proofs.Common.{Some, true, ℕ, ℤ, ◌∷◌, ◌≡◌}
-use Rattle.krs_types.specs.Kind.{paid, row_of}
+use Rattle.std.proofs.Common.{◌==◌, arith, Bool, codes, false, List, nat_lt, None, Ok, Option}
+use Rattle.std.proofs.Common.{Some, true, ℕ, ℤ, ◌≡◌}
 use Rattle.krs_types.specs.Rights.{LINK, WRITE}
 use Rattle.krs_types.specs.declared.ask.Op.{Op}
 use Rattle.krs_types.specs.declared.ask.Op.TheVariants.{Add, Link, Move, Request, Search, Update}
@@ -12,18 +11,18 @@ use Rattle.krs_types.specs.declared.errno.Errno.TheVariants.{EINVAL}
 use Rattle.krs_types.specs.declared.rights.Want.{Want}
 use Rattle.krs_types.specs.declared.rights.Want.TheVariants.{Granted}
 use Rattle.krs_model.specs.Asks.Adding.{add, admitted, place_of}
-use Rattle.krs_model.specs.Asks.Changing.{updatable, update, updated}
+use Rattle.krs_model.specs.Asks.Changing.{update}
 use Rattle.krs_model.specs.Asks.Finding.{made_where}
-use Rattle.krs_model.specs.Asks.Hello.{uid_ring, with_uid}
+use Rattle.krs_model.specs.Asks.Hello.{with_uid}
 use Rattle.krs_model.specs.Asks.Joining.{session_joined, session_ring}
 use Rattle.krs_model.specs.Asks.Linked.{unless}
 use Rattle.krs_model.specs.Asks.Moving.{move_link, moved}
 use Rattle.krs_model.specs.Lookup.{context_of, look_up}
-use Rattle.krs_model.specs.Making.{made_for, own_ring}
+use Rattle.krs_model.specs.Making.{made_for}
 use Rattle.krs_model.specs.Search.{found}
 use Rattle.krs_model.specs.State.{Key, State}
 use Rattle.krs_model.specs.Step.{each_ask, outcome_of}
-use Rattle.krs_model.specs.Table.{at, put}
+use Rattle.krs_model.specs.Table.{at}
 use Rattle.krs_model.proofs.Asks.Fares.{meets_by}
 use Rattle.krs_model.proofs.Asks.LaterByAsk.{moved_is}
 use Rattle.krs_model.proofs.Asks.Outcomes.{Meets, meets_after, meets_ok, meets_within}
@@ -34,6 +33,7 @@ use Rattle.krs_laws.specs.Limits.{IsShort}
 use Rattle.krs_laws.proofs.KeyLimits.{added_short, admitted_short, AllShort, cleared_short, emptied_short, found_short}
 use Rattle.krs_laws.proofs.KeyLimits.{linked_short, made_short, moved_short, paid_short, short_alter, short_map}
 use Rattle.krs_laws.proofs.KeyLimits.{short_put, unlinked_short, updated_short}
+use Rattle.std.proofs.lemmas.Grind.{common_steps}
 
 abbrev Shortly : State → ℕ → ℕ → Op → Type 0
 Shortly s client context op = Meets (λ (new : State). AllShort new.keys) (outcome_of s client context op)
@@ -42,12 +42,7 @@ update_short : (s : State) (client context : ℕ) (id : ℤ) (payload : List ℕ
     → Shortly s client context (Update id payload)
 unfolding update
 update_short s client context id payload all =
-    meets_after (context_of s client context) _ (λ c _.
-    meets_after (look_up s c id (Granted WRITE)) _ (λ there _.
-    meets_after (updatable there.1.kind) _ (λ kind _.
-    meets_after (paid kind payload) _ (λ fit is.
-    meets_ok (short_alter s.keys there.0 (updated payload)
-    (λ v _ short. updated_short payload v.content (paid_short (row_of kind).payload payload fit is) short) all)))))
+    grind (arith, common_steps, meets_after, meets_ok, short_alter, updated_short, paid_short)
 
 add_short : (s : State) (client context : ℕ) (type_name desc payload : List ℕ) (ring : ℤ) → Stands s → AllShort s.keys
     → Shortly s client context (Add type_name desc payload ring)
@@ -69,27 +64,17 @@ where_short true s context c id all = made_short s context c id all
 where_short false s context c id all = all
 
 session_short : (name : List ℕ) (c : Caller) → IsShort (session_ring name c).content
-session_short name c =
-    elim (length name == 0) as (λ b. IsShort (cond b (own_ring (codes "_ses") 1057161216 true c)
-    (own_ring name 1058209792 true c)).content) [
-      | true ↦ omega arith
-      | false ↦ omega arith
-    ]
+session_short name c = grind (arith, common_steps, codes)
 
 joined_short : (s : State) (context : ℕ) (c : Context) (name : List ℕ) (answer : Option (ℕ × Key)) → AllShort s.keys
     → Meets (λ (new : State). AllShort new.keys) (session_joined s context c name answer)
 joined_short s context c name (Some there) all = meets_ok all
-joined_short s context c name None all =
-    meets_ok (short_put s.keys s.next_serial (session_ring name c.caller) (session_short name c.caller) all)
+joined_short s context c name None all = grind (arith, common_steps, meets_ok, short_put, session_short)
 
 uid_short : (s : State) (caller : Caller) (rings : Option UidRings) → AllShort s.keys
     → AllShort (with_uid s caller rings).keys
 uid_short s caller (Some rings) all = all
-uid_short s caller None all =
-    let n = s.next_serial in
-    let first = uid_ring (codes "_uid.") [] caller in
-    short_put (put s.keys n first) (n + 1) (uid_ring (codes "_uid_ses.") (n ∷ []) caller) (omega arith)
-    (short_put s.keys n first (omega arith) all)
+uid_short s caller None all = grind (arith, common_steps, codes, short_put)
 
 move_short : (s : State) (client context : ℕ) (key from to : ℤ) (flags : ℕ) → AllShort s.keys
     → Shortly s client context (Move key from to flags)

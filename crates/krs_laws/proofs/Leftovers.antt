@@ -7,6 +7,8 @@ use Rattle.krs_model.specs.{State.{Queue, State}, Sweep.{Attached, context_roots
 use Rattle.krs_model.specs.{Sweep.{roots, uid_roots}, Table.{at, Table}}
 use Rattle.krs_model.proofs.{Sound.Steps.legal_sound, Tables.Changes.is_at_same}
 use Rattle.krs_laws.specs.Emptied.{AreEmptiedInTheEnd, IsEmpty}
+use Rattle.std.proofs.Common.{arith}
+use Rattle.std.proofs.lemmas.Grind.{common_steps}
 
 -- a table with nothing at any number is empty
 none_there : {X : Type 0} (es : Table X) → ((k : ℕ) (v : X) → at es k ≡ Some v → ⊥) → es ≡ []
@@ -24,8 +26,7 @@ unheld keys _ (Linked j k held i) = unheld keys j held
 none_watched : (queues : List (ℕ × Queue)) (watches : List Watch) → queues ≡ []
     → Each (IsWatch queues) watches → watches ≡ []
 none_watched queues [] none each = refl
-none_watched queues (w ∷ ws) none each =
-    absurd (true≢false (sym each.0.queue ∙ ap (λ (es : Table Queue). is_some (at es w.0.1)) none))
+none_watched queues (w ∷ ws) none each = grind (arith, common_steps, true≢false, is_some)
 
 pub all_gone : (s : State) → IsSound s → ((client : ℕ) → HasNothing client s) → IsEmpty s
 all_gone s sound nothing =

@@ -17,9 +17,10 @@ use Rattle.krs_model.proofs.Tables.{Distinct.at_filter_some, Entries.without_was
 use Rattle.krs_laws.specs.{Belonging.{HasOpened, QueuesAreTheirClients}, Emptied.{AreEmptiedByLeaving, HaveLeft}}
 use Rattle.krs_laws.specs.Emptied.{IsEmpty, IsLeft}
 use Rattle.krs_laws.proofs.Leftovers.{all_gone}
+use Rattle.std.proofs.Common.{arith}
+use Rattle.std.proofs.lemmas.Grind.{common_steps}
 
 -- ---- whence a queue is
-
 -- one of the same client was there
 abbrev WasThere : Table Queue → ℕ → Queue → Type 0
 WasThere queues m queue = (was : Queue) × (at queues m ≡ Some was) × (queue.client ≡ was.client)
@@ -79,9 +80,7 @@ effect_whence s client context _ _ _ distinct Leaves m queue there =
 whence_same :
     (queues : Table Queue) (client : ℕ) (op : Op) (answer : Answer) (m : ℕ) (a b : Queue) → a.client ≡ b.client
     → Whence queues client op answer m b → Whence queues client op answer m a
-whence_same queues client op answer m a b same h =
-    ⊎_elim (λ opened. inl (same ∙ opened.0, opened.1, opened.2, opened.3))
-    (λ was. inr (was.0, was.1, same ∙ was.2)) h
+whence_same queues client op answer m a b same h = grind (arith, common_steps, ⊎_elim)
 
 -- its client has just opened it, or it was there
 abbrev Comes : Table Queue → ℕ → Op → Result Answer Errno → ℕ → Queue → Type 0
@@ -114,7 +113,6 @@ step_comes old new event sound step m queue there =
     sound.orderly.distinct step m queue there
 
 -- ---- queues are their clients'
-
 opened_more :
     (client number : ℕ) (past : List Event) (event : Event) → HasOpened client number past
     → (event.lane ≡ client → event.ask.op ≡ Leave → ⊥) → HasOpened client number (past ++ event ∷ [])
@@ -168,7 +166,6 @@ queues_are start empty events end legal =
     from_empty empty.0 events end (subst (λ (s : State). IsLegal s events end) empty.1 legal)
 
 -- ---- all have left
-
 left_stayed : (client : ℕ) (events : List Event) → IsLeft client events → HasStayed client events → ⊥
 left_stayed client [] gone stays = gone
 left_stayed client (event ∷ events) gone stays =

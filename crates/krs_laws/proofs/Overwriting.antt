@@ -1,23 +1,24 @@
 -- What UPDATE overwrote leaves no trace.
-use Rattle.std.proofs.Common.{[], ◌++◌, ◌∙◌, ◌∷◌, ◌≡◌, ◌≢◌, ap, cond, Err, false, IsOk, List, nat_cmp, None, Ok, refl}
+use Rattle.std.proofs.Common.{[], ◌∙◌, ◌∷◌, ◌≡◌, ◌≢◌, ap, cond, Err, false, IsOk, List, nat_cmp, None, Ok, refl}
 use Rattle.std.proofs.Common.{Result, Some, subst, sym, true, true≢false, ℕ, ℤ}
 use Rattle.std.specs.BTreeMap.{is_at}
 use Rattle.std.proofs.lemmas.Option.{none-some}
-use Rattle.krs_types.specs.{Kind.paid, Refusing.◌>>=◌, Rights.WRITE, declared.ask.Answer.Answer}
-use Rattle.krs_types.specs.declared.ask.{Answer.TheVariants.Nothing, Op.{Op, TheVariants.Update}}
-use Rattle.krs_types.specs.declared.{context.Context.Context, errno.Errno.Errno, rights.Want.TheVariants.Granted}
-use Rattle.krs_model.specs.Asks.Changing.{paid_with, updatable, update, updated}
-use Rattle.krs_model.specs.Hiding.{blind, blind_content, blind_key, blind_keys, Hiding, over}
-use Rattle.krs_model.specs.Lookup.{context_of, look_up, serial_of}
-use Rattle.krs_model.specs.Notes.Posting.{dropped_watches, Post, posted_in, posts}
-use Rattle.krs_model.specs.{Notes.Telling.{ended_by, notes_of}, Outcome.Outcome, Queues.queues_of, Secrecy.HidesOnly}
+use Rattle.krs_types.specs.{Refusing.◌>>=◌, declared.ask.Answer.Answer}
+use Rattle.krs_types.specs.declared.ask.{Op.{Op, TheVariants.Update}}
+use Rattle.krs_types.specs.declared.{context.Context.Context, errno.Errno.Errno}
+use Rattle.krs_model.specs.Asks.Changing.{paid_with, update, updated}
+use Rattle.krs_model.specs.Hiding.{blind, blind_content, blind_key, blind_keys, Hiding}
+use Rattle.krs_model.specs.Lookup.{context_of, serial_of}
+use Rattle.krs_model.specs.{Notes.Telling.{ended_by, notes_of}, Secrecy.HidesOnly}
 use Rattle.krs_model.specs.State.{Content, Key, Links, Payload, raised, State}
-use Rattle.krs_model.specs.Step.{Ends, outcome_of, posts_by, Serves, Step, watches_left}
+use Rattle.krs_model.specs.Step.{Ends, outcome_of, Serves, Step}
 use Rattle.krs_model.specs.Table.{alter, at, IsDistinct, Table}
 use Rattle.krs_model.proofs.Asks.Later.{bind_ok, same_ok}
 use Rattle.krs_model.proofs.{Hiding.Lookups.{blind_found, look_up_blind}, Lookups.Serials.found_serial}
 use Rattle.krs_model.proofs.Tables.{Changes.{is_at_same, same_at}, Entries.rises_distinct}
 use Rattle.krs_laws.specs.Overwritten.{UpdatesForget}
+use Rattle.std.proofs.Common.{arith}
+use Rattle.std.proofs.lemmas.Grind.{common_steps}
 
 shown_content : (h : List ℕ → List ℕ) (content : Content) → ((bytes : List ℕ) → h bytes ≡ bytes)
     → blind_content h content ≡ content
@@ -25,9 +26,7 @@ shown_content h (Payload bytes) shown = ap Payload (shown bytes)
 shown_content h (Links serials) shown = refl
 
 shown_entry : (hide : Hiding) (n : ℕ) (e : ℕ × Key) → HidesOnly n hide → e.0 ≢ n → (e.0, blind_key (hide e.0) e.1) ≡ e
-shown_entry hide n e only apart =
-    ap (λ (content : Content). (e.0, record e.1 { content = content }))
-    (shown_content (hide e.0) e.1.content (only e.0 apart))
+shown_entry hide n e only apart = grind (arith, common_steps, shown_content)
 
 other_number : (n k : ℕ) → is_at (nat_cmp n) k ≡ false → k ≢ n
 other_number n k apart e = true≢false (sym (is_at_same n) ∙ (ap (λ (z : ℕ). is_at (nat_cmp n) z) (sym e) ∙ apart))
@@ -50,27 +49,24 @@ paid_over h payload (Payload bytes) = refl
 paid_over h payload (Links serials) = refl
 
 updated_over : (h : List ℕ → List ℕ) (payload : List ℕ) (v : Key) → updated payload (blind_key h v) ≡ updated payload v
-updated_over h payload v =
-    ap (λ (content : Content). record v { content = content; expiry = None }) (paid_over h payload v.content)
+updated_over h payload v = grind (arith, common_steps, paid_over)
 
 -- the payload that was hidden is overwritten
 pub updated_keys : (hide : Hiding) (n : ℕ) (payload : List ℕ) (es : Table Key) → IsDistinct es → HidesOnly n hide
     → alter (blind_keys hide es) n (updated payload) ≡ alter es n (updated payload)
 updated_keys hide n payload [] distinct only = refl
 updated_keys hide n payload (e ∷ es) distinct only =
-    elim (is_at (nat_cmp n) e.0) as (λ b. is_at (nat_cmp n) e.0 ≡ b
-    → cond b ((e.0, updated payload (blind_key (hide e.0) e.1)) ∷ blind_keys hide es)
-    ((e.0, blind_key (hide e.0) e.1) ∷ alter (blind_keys hide es) n (updated payload))
-    ≡ cond b ((e.0, updated payload e.1) ∷ es) (e ∷ alter es n (updated payload))) [
-      | true ↦ λ t.
-          let none : at es n ≡ None = ap (λ (z : ℕ). at es z) (same_at n e.0 t) ∙ distinct.0 in
-          ap (λ (v : Key). (e.0, v) ∷ blind_keys hide es) (updated_over (hide e.0) payload e.1)
-          ∙ ap (λ (xs : Table Key). (e.0, updated payload e.1) ∷ xs) (shown_keys hide n es only none)
-      | false ↦ λ t.
-          ap (λ (x : ℕ × Key). x ∷ alter (blind_keys hide es) n (updated payload))
-          (shown_entry hide n e only (other_number n e.0 t))
-          ∙ ap (λ (xs : Table Key). e ∷ xs) (updated_keys hide n payload es distinct.1 only)
-    ] refl
+    grind (
+      arith,
+      common_steps,
+      nat_cmp,
+      same_at,
+      updated_over,
+      shown_keys,
+      shown_entry,
+      other_number,
+      updated_keys hide n payload es distinct.1 only,
+    )
 
 pub then_ok : {A B : Type 0} (r : Result A Errno) (f : A → Result B Errno) (x : A) (y : B) → r ≡ Ok x → f x ≡ Ok y
     → (r >>= f) ≡ Ok y
@@ -83,24 +79,7 @@ update_same :
     → update (blind hide s) client context id payload ≡ Ok end
 unfolding update context_of
 update_same hide s client context id payload serial whose end distinct only own named h =
-    let a = bind_ok (context_of s client context) _ end h in
-    let b = bind_ok (look_up s a.0 id (Granted WRITE)) _ end a.2 in
-    let c = bind_ok (updatable b.0.1.kind) _ end b.2 in
-    let d = bind_ok (paid c.0 payload) _ end c.2 in
-    let found = b.0 in
-    let here : serial_of s a.0 id ≡ Ok serial = subst (λ (x : Context). serial_of s x id ≡ Ok serial)
-    (same_ok (context_of s client context) whose a.0 own a.1) named in
-    let same : serial ≡ found.0 =
-    same_ok (serial_of s a.0 id) serial found.0 here (found_serial s a.0 id (Granted WRITE) found b.1) in
-    let keys : alter (blind_keys hide s.keys) found.0 (updated payload) ≡ alter s.keys found.0 (updated payload) =
-    updated_keys hide found.0 payload s.keys distinct (subst (λ (z : ℕ). HidesOnly z hide) same only) in
-    let hidden = blind hide s in
-    then_ok (context_of hidden client context) _ a.0 end a.1
-    (then_ok (look_up hidden a.0 id (Granted WRITE)) _ (blind_found hide found) end
-    (look_up_blind hide s a.0 id (Granted WRITE) ∙ ap (over (blind_found hide)) b.1)
-    (then_ok (updatable found.1.kind) _ c.0 end c.1
-    (then_ok (paid c.0 payload) _ d.0 end d.1
-    (ap (λ (es : Table Key). Ok (record s { keys = es }, Nothing)) keys ∙ d.2))))
+    grind (arith, common_steps, bind_ok, same_ok, found_serial, updated_keys, then_ok, blind_found, look_up_blind)
 
 -- with this answer the ask has the same notes in both states, ends the same watches, and leads to the same one
 pub record AsksAlike (s t : State) (client context : ℕ) (op : Op) (answer : Answer) : Type 0 where
@@ -113,21 +92,7 @@ pub served_same :
     (hide : Hiding) (s new : State) (client context : ℕ) (op : Op) (answer : Answer)
     → AsksAlike s (blind hide s) client context op answer → Serves s client context op answer new
     → Serves (blind hide s) client context op answer new
-served_same hide s new client context op answer alike serves =
-    let same = alike.meant serves.mid serves.meant in
-    let dropped : dropped_watches serves.swept.keys (watches_left (outcome_of (blind hide s) client context op))
-    ≡ dropped_watches serves.swept.keys (watches_left (outcome_of s client context op)) =
-    ap (λ (r : Outcome). dropped_watches serves.swept.keys (watches_left r)) (same ∙ sym serves.meant) in
-    let all : posts_by (blind hide s) client context op answer serves.swept.keys
-    ≡ posts_by s client context op answer serves.swept.keys = λ i.
-    posts (queues_of s) (alike.notes i) (alike.ended i ++ dropped i) in
-    record {
-      mid = serves.mid;
-      swept = serves.swept;
-      meant = same;
-      sweep = serves.sweep;
-      posted = serves.posted ∙ ap (λ (ps : List Post). posted_in ps serves.swept) (sym all);
-    }
+served_same hide s new client context op answer alike serves = grind (arith, common_steps)
 
 accepted_same :
     (s t new : State) (client context : ℕ) (op : Op) (reply : Result Answer Errno) → IsOk reply
@@ -141,11 +106,8 @@ update_alike :
     (answer : Answer) → IsDistinct s.keys → HidesOnly serial hide → context_of s client context ≡ Ok whose
     → serial_of s whose id ≡ Ok serial → AsksAlike s (blind hide s) client context (Update id payload) answer
 unfolding context_of serial_of
-update_alike hide s client context id payload serial whose answer distinct only own named = record {
-  notes = refl;
-  ended = refl;
-  meant = λ mid. update_same hide s client context id payload serial whose (mid, answer) distinct only own named;
-}
+update_alike hide s client context id payload serial whose answer distinct only own named =
+    grind (arith, common_steps, update_same)
 
 pub updates_forget : UpdatesForget
 unfolding Step

@@ -1,24 +1,22 @@
 -- Queues and what waits in them stay within their limits.
-use Rattle.std.proofs.Common.{[], ap, arith, Bool, cond, false, filter, length, List, nat_cmp, nat_le, nat_lt, not}
-use Rattle.std.proofs.Common.{Ok, refl, Some, subst, sym, true, ℕ, ◌++◌, ◌+◌, ◌-◌, ◌<◌, ◌==◌, ◌∙◌, ◌∷◌, ◌≡◌, ◌≤◌}
+use Rattle.std.proofs.Common.{[], ap, arith, Bool, filter, length, List, nat_cmp, nat_le, nat_lt, not}
+use Rattle.std.proofs.Common.{Ok, refl, Some, subst, sym, ℕ, ◌++◌, ◌+◌, ◌-◌, ◌<◌, ◌==◌, ◌∙◌, ◌∷◌, ◌≡◌, ◌≤◌}
 use Rattle.std.proofs.lemmas.Bool.Decides.{nat_tests}
-use Rattle.std.specs.{BTreeMap.is_at, declared.cmp.Ordering.TheVariants.{Equal, Greater, Less}}
-use Rattle.std.specs.Ordering.{match_ordering}
 use Rattle.krs_types.specs.declared.ask.{Answer.Answer, Op.{Op, TheVariants.OpenQueue}}
-use Rattle.krs_types.specs.declared.{errno.Errno.TheVariants.{EINVAL, ENFILE}, note.Record.Record}
+use Rattle.krs_types.specs.declared.{errno.Errno.TheVariants.{ENFILE}, note.Record.Record}
 use Rattle.krs_model.specs.Asks.{Leaving.left, Linked.unless, Watching.{after_read, new_queue, open_queue, opened}}
-use Rattle.krs_model.specs.{Asks.Watching.with_filter, Notes.{Bytes.{bytes_of, is_loss}, Front.behind}}
+use Rattle.krs_model.specs.{Asks.Watching.with_filter, Notes.{Bytes.{bytes_of}, Front.behind}}
 use Rattle.krs_model.specs.Notes.{Posting.{after_note, after_notes, Post, post_all, records_for}, Stream.room_of}
-use Rattle.krs_model.specs.{Notes.Waiting.{after_post, is_capacity, total_room, with_loss}, Orderly.AreOrderly}
+use Rattle.krs_model.specs.{Notes.Waiting.{after_post, total_room}, Orderly.AreOrderly}
 use Rattle.krs_model.specs.{Queues.{Queues, queues_of}, State.{Queue, State}, Step.{outcome_of, posts_by, Serves}}
 use Rattle.krs_model.specs.Table.{alter, at, put, Table, without}
 use Rattle.krs_model.proofs.Asks.Done.{Closes, Effect, Filters, Leaves, OfKeys, Opens, Reads, Unwatches, Watches}
 use Rattle.krs_model.proofs.{Asks.Later.bind_ok, Notes.{Called.served_at, Streams.total_room-with_loss}}
 use Rattle.krs_model.proofs.Tables.{Distinct.at_filter_some, Each.{every_alter, every_put, mapped_is}}
 use Rattle.krs_model.proofs.Tables.Entries.{without_was}
+use Rattle.std.proofs.lemmas.Grind.{common_steps}
 
 -- ---- what waits
-
 abbrev Fits : Queue → Type 0
 Fits queue = total_room queue.waiting ≤ queue.capacity
 
@@ -26,10 +24,7 @@ abbrev pub AllWait : Table Queue → Type 0
 AllWait queues = (number : ℕ) (queue : Queue) → at queues number ≡ Some queue → Fits queue
 
 room_one : (note : Record) → room_of note ≤ 1
-room_one note = elim (is_loss note) as (λ b. cond b 0 1 ≤ 1) [
-  | true ↦ omega arith
-  | false ↦ omega arith
-]
+room_one note = grind (arith, common_steps)
 
 room_appended : (waiting : List Record) (note : Record) → total_room (waiting ++ note ∷ [])
     ≡ total_room waiting + room_of note
@@ -39,92 +34,51 @@ room_appended (w ∷ ws) note = let later = room_appended ws note in omega arith
 post_fits : (capacity : ℕ) (note : Record) (waiting : List Record) → total_room waiting ≤ capacity
     → total_room (after_post capacity note waiting) ≤ capacity
 post_fits capacity note waiting fits =
-    elim (nat_lt (total_room waiting) capacity) as (λ b. nat_lt (total_room waiting) capacity ≡ b
-    → total_room (cond b (waiting ++ note ∷ []) (with_loss waiting)) ≤ capacity) [
-      | true ↦ λ t.
-          let below : total_room waiting < capacity = grind (arith, nat_tests) in
-          let more = room_appended waiting note in
-          let one = room_one note in
-          omega arith
-      | false ↦ λ t. let same = total_room-with_loss waiting in omega arith
-    ] refl
+    grind (arith, common_steps, nat_lt, nat_tests, room_appended, room_one, total_room-with_loss)
 
 notes_fit : (notes : List Record) (queue : Queue) → Fits queue → Fits (after_notes notes queue)
 notes_fit [] queue fits = fits
 notes_fit (note ∷ notes) queue fits =
-    notes_fit notes (after_note note queue) (post_fits queue.capacity note queue.waiting fits)
+    grind (
+      arith,
+      common_steps,
+      post_fits,
+      notes_fit notes (after_note note queue) (post_fits queue.capacity note queue.waiting fits),
+    )
 
 behind_room : (room : ℕ) (waiting : List Record) → total_room (behind room waiting) ≤ total_room waiting
 behind_room room [] = omega arith
-behind_room room (note ∷ notes) =
-    let later = behind_room (room - length (bytes_of note)) notes in
-    elim (nat_le (length (bytes_of note)) room) as
-    (λ b. total_room (cond b (behind (room - length (bytes_of note)) notes) (note ∷ notes)) ≤
-    total_room (note ∷ notes)) [
-      | true ↦ omega arith
-      | false ↦ omega arith
-    ]
+behind_room room (note ∷ notes) = grind (arith, common_steps, nat_le, behind_room (room - length (bytes_of note)) notes)
 
 -- ---- how many there are
-
 alter_length : {X : Type 0} (es : Table X) (k : ℕ) (f : X → X) → length (alter es k f) ≡ length es
 alter_length [] k f = refl
-alter_length (e ∷ es) k f =
-    let later = alter_length es k f in
-    elim (is_at (nat_cmp k) e.0) as (λ b. length (cond b ((e.0, f e.1) ∷ es) (e ∷ alter es k f)) ≡ length (e ∷ es)) [
-      | true ↦ refl
-      | false ↦ omega arith
-    ]
+alter_length (e ∷ es) k f = grind (arith, common_steps, nat_cmp, alter_length es k f)
 
 put_length : {X : Type 0} (es : Table X) (k : ℕ) (v : X) → length (put es k v) ≤ length es + 1
 put_length [] k v = omega arith
-put_length (e ∷ es) k v =
-    let later = put_length es k v in
-    elim (nat_cmp k e.0) as
-    (λ r. length (match_ordering r ((k, v) ∷ e ∷ es) ((e.0, v) ∷ es) (e ∷ put es k v)) ≤ length (e ∷ es) + 1) [
-      | Less ↦ omega arith
-      | Equal ↦ omega arith
-      | Greater ↦ omega arith
-    ]
+put_length (e ∷ es) k v = grind (arith, common_steps, nat_cmp, put_length es k v)
 
 without_length : {X : Type 0} (es : Table X) (k : ℕ) → length (without es k) ≤ length es
 without_length [] k = omega arith
-without_length (e ∷ es) k =
-    let later = without_length es k in
-    elim (is_at (nat_cmp k) e.0) as (λ b. length (cond b es (e ∷ without es k)) ≤ length (e ∷ es)) [
-      | true ↦ omega arith
-      | false ↦ omega arith
-    ]
+without_length (e ∷ es) k = grind (arith, common_steps, nat_cmp, without_length es k)
 
 pub filter_length : {X : Type 0} (p : X → Bool) (es : List X) → length (filter p es) ≤ length es
 filter_length p [] = omega arith
-filter_length p (e ∷ es) =
-    let later = filter_length p es in
-    elim (p e) as (λ b. length (cond b (e ∷ filter p es) (filter p es)) ≤ length (e ∷ es)) [
-      | true ↦ omega arith
-      | false ↦ omega arith
-    ]
+filter_length p (e ∷ es) = grind (arith, common_steps, filter_length p es)
 
 posted_length : (ps : List Post) (queues : Table Queue) → length (post_all ps queues) ≡ length queues
 posted_length [] queues = refl
 posted_length (p ∷ ps) queues =
-    posted_length ps (alter queues p.0 (after_note p.1)) ∙ alter_length queues p.0 (after_note p.1)
+    grind (arith, common_steps, alter_length, posted_length ps (alter queues p.0 (after_note p.1)))
 
 few_open : (n : ℕ) (x : Unit {0}) → unless (nat_le 256 n) ENFILE ≡ Ok x → n < 256
-few_open n x h =
-    elim (nat_le 256 n) as (λ b. nat_le 256 n ≡ b → unless b ENFILE ≡ Ok x → n < 256) [
-      | true ↦ λ t no. cc
-      | false ↦ λ t yes. grind (arith, nat_tests)
-    ] refl h
+few_open n x h = grind (arith, common_steps, nat_le, nat_tests)
 
 opened_few : (s : State) (client context capacity : ℕ) (end : State × Answer)
     → outcome_of s client context (OpenQueue capacity) ≡ Ok end → length s.queues < 256
 unfolding open_queue opened
-opened_few s client context capacity end h =
-    let made = bind_ok (opened (queues_of s) client capacity) _ end h in
-    let held = bind_ok (unless (not (is_capacity capacity)) EINVAL) _ made.0 made.1 in
-    let free = bind_ok (unless (nat_le 256 (length s.queues)) ENFILE) _ made.0 held.2 in
-    few_open (length s.queues) free.0 free.1
+opened_few s client context capacity end h = grind (arith, common_steps, bind_ok, nat_le, few_open)
 
 -- what an accepted ask leaves of queues
 pub record QueuesWithin (queues : Table Queue) : Type 0 where

@@ -1,16 +1,18 @@
 -- What is proved of the keys of an accepted ask before the sweep: they change by right. How it comes about: nothing is
 -- done, a key is put, what one holds is written, another part of it is changed.
-use Rattle.std.proofs.Common.{ap, Bool, false, inl, inr, List, None, Ok, Option, option_map, refl, Some, subst, sym}
-use Rattle.std.proofs.{Common.{true, ℕ, ℤ, ⊎_elim, ◌∙◌, ◌≡◌, ◌≢◌, ◌⊎◌}, lemmas.Option.{none-some, same_Some}}
-use Rattle.krs_types.specs.declared.{ask.Op.Op, caller.Caller.Caller, context.Context.Context, rights.Want.Want}
+use Rattle.std.proofs.Common.{ap, false, inl, inr, List, None, Ok, Option, option_map, refl, Some, subst, sym}
+use Rattle.std.proofs.{Common.{true, ℕ, ℤ, ⊎_elim, ◌∙◌, ◌≡◌, ◌⊎◌}, lemmas.Option.{none-some, same_Some}}
+use Rattle.krs_types.specs.declared.{ask.Op.Op, context.Context.Context, rights.Want.Want}
 use Rattle.krs_types.specs.{declared.rights.Want.TheVariants.Granted, Rights.{allows, LINK, WRITE}}
-use Rattle.krs_model.specs.{Access.{is_over, rights_on}, Levels.is_in, Lookup.{context_of, look_up}}
-use Rattle.krs_model.specs.{Making.special_ring, Possession.{links_of_content, possessed}, Reach.links_of_key_at}
+use Rattle.krs_model.specs.{Access.{rights_on}, Levels.is_in, Lookup.{context_of, look_up}}
+use Rattle.krs_model.specs.{Possession.{links_of_content, possessed}, Reach.links_of_key_at}
 use Rattle.krs_model.specs.{State.{Content, Key, State}, Table.{alter, at, put, Table}, Usable.IsUsable}
 use Rattle.krs_model.proofs.{Lookups.Laws.look_up_usable, MadeKeyring.{Lookups.possessed_other, State.at_other}}
 use Rattle.krs_model.proofs.{MadeKeyring.State.{HasMade, HasMadeFor, MadeNone, MadeOne}, Sound.Changes.at_change}
 use Rattle.krs_model.proofs.{Sound.Changes.{at_put, IsChanged, IsPut, LinksTo}, Tables.Each.mapped_is}
-use Rattle.krs_laws.specs.Integrity.{HasRight, IsByRight, IsMadeBy, Kept, MayLink, Written}
+use Rattle.krs_laws.specs.Integrity.{HasRight, IsByRight, IsMadeBy, MayLink}
+use Rattle.std.proofs.Common.{arith}
+use Rattle.std.proofs.lemmas.Grind.{common_steps}
 
 -- a key that may be linked, or that the ask made
 abbrev pub LinkedByRight : State → ℕ → ℕ → ℕ → Type 0
@@ -27,27 +29,10 @@ pub record Rightly (s : State) (client context : ℕ) (op : Op) (keys : Table Ke
 -- a key as it was
 pub unchanged :
     (s : State) (client context : ℕ) (op : Op) (k : ℕ) (key : Key) → IsByRight s client context op k key key
-unchanged s client context op k key = record {
-  kind = refl;
-  desc = refl;
-  joined = refl;
-  content = Kept refl;
-  uid = inl refl;
-  gid = inl refl;
-  perm = inl refl;
-  expiry = inl refl;
-  revoked = inl refl;
-  closed = inl refl;
-}
+unchanged s client context op k key = grind (arith, common_steps)
 
 pub rightly_same : (s : State) (client context : ℕ) (op : Op) → Rightly s client context op s.keys
-rightly_same s client context op = record {
-  changed = λ k before after was is.
-      subst (IsByRight s client context op k before) (same_Some before after (sym was ∙ is))
-      (unchanged s client context op k before);
-  made = λ k key none is. absurd (none-some key (sym none ∙ is));
-  linked = λ j k i. inl i;
-}
+rightly_same s client context op = grind (arith, common_steps, same_Some, unchanged, none-some)
 
 -- a further key
 pub rightly_put :
@@ -123,10 +108,7 @@ pub rightly_written :
     → ((k : ℕ) (v : Key) → is_in k (links_of_content (f v.content)) ≡ true
     → (is_in k (links_of_content v.content) ≡ true) ⊎ LinkedByRight s client context k)
     → Rightly s client context op keys → Rightly s client context op (alter keys n (holding f))
-rightly_written s client context op keys n f right links was =
-    rightly_then s client context op keys n (holding f)
-    (λ before after there _ once. search (Written, right))
-    (λ key _ _ mine. record { caller = mine.caller; asks = mine.asks; own = mine.own; gid = mine.gid }) links was
+rightly_written s client context op keys n f right links was = grind (arith, common_steps, rightly_then)
 
 -- a part of one key is changed
 pub rightly_changed :
@@ -143,27 +125,13 @@ rightly_changed s client context op n f right less =
     (rightly_same s client context op)
 
 -- ---- what is looked up where a keyring counts as made
-
 -- a key that was there grants what it granted
 usable_was :
     (s t : State) (c d : Context) (desc before after : List ℕ) (want : Want) (found : ℕ × Key) (was : Key)
     → HasMade s c t d desc before after → at s.keys s.next_serial ≡ None → at s.keys found.0 ≡ Some was
     → IsUsable t d want found → IsUsable s c want found
 usable_was s t c d desc before after want found was has none there u =
-    let n = s.next_serial in
-    let k = found.0 in
-    let apart : k ≢ n = λ e. none-some was (sym none ∙ (ap (λ (z : ℕ). at s.keys z) (sym e) ∙ there)) in
-    let mine = possessed_other s t c d desc before after k has none apart in
-    let same : at t.keys k ≡ at s.keys k =
-    ap (λ (es : Table Key). at es k) has.keys ∙ at_other s.keys n k (special_ring desc c.caller) apart in
-    record {
-      there = sym same ∙ u.there;
-      live = u.live;
-      running = ap (λ (clock : ℕ). is_over clock found.1.expiry) (sym has.clock) ∙ u.running;
-      granted = subst (λ (b : Bool). allows want (rights_on found.1 c.caller b) b ≡ true) mine
-          (subst (λ (z : Caller). allows want (rights_on found.1 z (possessed t d k)) (possessed t d k) ≡ true)
-          has.caller u.granted);
-    }
+    grind (arith, common_steps, none-some, possessed_other, at_other)
 
 made_usable :
     (s : State) (c : Context) (id : ℤ) (made : State × Context) (want : Want) (found : ℕ × Key) (was : Key)
@@ -202,16 +170,7 @@ link_was :
     → at t.keys k ≡ Some key → allows (Granted LINK) (rights_on key d.caller (possessed t d k)) false ≡ true
     → (at s.keys k ≡ Some key) × (allows (Granted LINK) (rights_on key c.caller (possessed s c k)) false ≡ true)
 link_was s t c d desc before after k key was has none there is grants =
-    let n = s.next_serial in
-    let apart : k ≢ n = λ e. none-some was (sym none ∙ (ap (λ (z : ℕ). at s.keys z) (sym e) ∙ there)) in
-    let mine = possessed_other s t c d desc before after k has none apart in
-    let same : at t.keys k ≡ at s.keys k =
-    ap (λ (es : Table Key). at es k) has.keys ∙ at_other s.keys n k (special_ring desc c.caller) apart in (
-      sym same ∙ is,
-      subst (λ (b : Bool). allows (Granted LINK) (rights_on key c.caller b) false ≡ true) mine
-          (subst (λ (z : Caller). allows (Granted LINK) (rights_on key z (possessed t d k)) false
-          ≡ true) has.caller grants),
-    )
+    grind (arith, common_steps, none-some, possessed_other, at_other)
 
 made_link :
     (s : State) (c : Context) (id : ℤ) (made : State × Context) (k : ℕ) (key was : Key) → HasMadeFor s c id made

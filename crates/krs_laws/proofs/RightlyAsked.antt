@@ -1,5 +1,5 @@
 -- What asks share, by right: keyrings that are made, links, moved links, keys that are found, keys that are added.
-use Rattle.std.proofs.Common.{[], ap, Bool, codes, false, inl, inr, List, None, Ok}
+use Rattle.std.proofs.Common.{[], ap, Bool, codes, inl, inr, List, None, Ok}
 use Rattle.std.proofs.Common.{refl, Result, Some, subst, sym, true, true≢false, ℕ, ℤ, ◌∙◌, ◌≡◌, ⊎_elim}
 use Rattle.krs_types.specs.KeyId.{key_id_of}
 use Rattle.krs_types.specs.Kind.{same_kind}
@@ -24,7 +24,7 @@ use Rattle.krs_model.specs.Asks.Linked.{linked_into, name_of, unlinked_content, 
 use Rattle.krs_model.specs.Levels.{is_in}
 use Rattle.krs_model.specs.Linking.{is_named, linked_content}
 use Rattle.krs_model.specs.Lookup.{context_of, look_up}
-use Rattle.krs_model.specs.Making.{made_for, own_ring, special_ring}
+use Rattle.krs_model.specs.Making.{made_for, own_ring}
 use Rattle.krs_model.specs.Possession.{links_of_content}
 use Rattle.krs_model.specs.State.{Key, State}
 use Rattle.krs_model.specs.Table.{alter, at, put, Table}
@@ -41,21 +41,18 @@ use Rattle.krs_model.proofs.Sound.Changes.{in_linked_content}
 use Rattle.krs_model.proofs.Sound.KeyChanges.{unlinked_lessens, updated_lessens}
 use Rattle.krs_model.proofs.Sound.Links.{linkable_is}
 use Rattle.krs_model.proofs.Tables.Counts.{part_in}
-use Rattle.krs_laws.specs.Integrity.{AsksAs, HasRight, IsMadeBy, Written}
+use Rattle.krs_laws.specs.Integrity.{AsksAs, HasRight, IsMadeBy}
 use Rattle.krs_laws.proofs.Rightly.{linkable_made, LinkedByRight, right_made, Rightly, rightly_put, rightly_same}
 use Rattle.krs_laws.proofs.Rightly.{rightly_then, rightly_written}
+use Rattle.std.proofs.Common.{arith}
+use Rattle.std.proofs.lemmas.Grind.{common_steps}
 
 -- a keyring that the service makes for a caller, with a mask that gives others nothing
 pub ring_made :
     (s : State) (client context : ℕ) (op : Op) (desc : List ℕ) (perm : ℕ) (joined : Bool) (caller : Caller)
     → AsksAs s client context op caller → group_byte perm ≡ 0 → other_byte perm ≡ 0
     → IsMadeBy s client context op (own_ring desc perm joined caller)
-ring_made s client context op desc perm joined caller asks group other = record {
-  caller = caller;
-  asks = asks;
-  own = made_own caller.uid (own_ring desc perm joined caller) refl group other;
-  gid = refl;
-}
+ring_made s client context op desc perm joined caller asks group other = grind (arith, common_steps, made_own)
 
 pub links_nothing :
     {A : Type 0} (k : ℕ) (links : List ℕ) → links ≡ [] → is_in k links ≡ true → A
@@ -67,13 +64,9 @@ is_made_rightly :
     → Rightly s client number op made.0.keys
 is_made_rightly s client number op c id _ none asks NoneMade = rightly_same s client number op
 is_made_rightly s client number op c id _ none asks (ThreadMade is yet) =
-    rightly_put s client number op s.keys s.next_serial (special_ring (codes "_tid") c.caller) none
-    (ring_made s client number op (codes "_tid") 1057030144 false c.caller asks refl refl)
-    (λ k i. links_nothing k [] refl i) (rightly_same s client number op)
+    grind (arith, common_steps, rightly_same, rightly_put, codes, ring_made, links_nothing)
 is_made_rightly s client number op c id _ none asks (ProcessMade is yet) =
-    rightly_put s client number op s.keys s.next_serial (special_ring (codes "_pid") c.caller) none
-    (ring_made s client number op (codes "_pid") 1057030144 false c.caller asks refl refl)
-    (λ k i. links_nothing k [] refl i) (rightly_same s client number op)
+    grind (arith, common_steps, rightly_same, rightly_put, codes, ring_made, links_nothing)
 
 pub made_rightly :
     (s : State) (client number : ℕ) (op : Op) (c : Context) (id : ℤ) → at s.keys s.next_serial ≡ None
@@ -136,17 +129,13 @@ found_rightly s client context op c dest made into answer own none has goes was 
     linked was)))))
 
 -- ---- ADD
-
 -- another payload, by right
 pub updated_then :
     (s : State) (client context : ℕ) (op : Op) (keys : Table Key) (n : ℕ) (payload : List ℕ)
     → ((before : Key) → at s.keys n ≡ Some before → HasRight s client context (Granted WRITE) n)
     → Rightly s client context op keys → Rightly s client context op (alter keys n (updated payload))
 updated_then s client context op keys n payload right was =
-    rightly_then s client context op keys n (updated payload)
-    (λ before after there _ once. search (Written, right, inl, inr))
-    (λ key _ _ mine. record { caller = mine.caller; asks = mine.asks; own = mine.own; gid = mine.gid })
-    (λ k v i. inl (part_in _ _ k ((updated_lessens payload).links v) i)) was
+    grind (arith, common_steps, rightly_then, part_in, updated_lessens)
 
 pub added_rightly :
     (s : State) (client context : ℕ) (op : Op) (c : Context) (ring : ℤ) (made : State × Context) (name : Name)

@@ -1,14 +1,13 @@
 -- Queues are their owners', and watches are set by right.
-use Rattle.std.proofs.Common.{[], ◌==◌, ◌∙◌, ◌∷◌, ◌≡◌, ◌⊎◌, ap, arith, cond, Err, false, inl, inr, is_eq, is_some, IsOk}
+use Rattle.std.proofs.Common.{[], ◌==◌, ◌∙◌, ◌∷◌, ◌≡◌, ◌⊎◌, ap, arith, Err, inl, inr, is_eq, is_some, IsOk}
 use Rattle.std.proofs.Common.{List, nat_cmp, nat_le, negsuc, None, not, Ok, Option, pos, refl, Result, Some, subst, suc}
-use Rattle.std.proofs.{Common.{sym, true, true≢false, zero, ℕ, ℤ}, lemmas.{Bool.Decides.nat_tests, Option.none-some}}
+use Rattle.std.proofs.{Common.{sym, true≢false, zero, ℕ, ℤ}, lemmas.{Bool.Decides.nat_tests, Option.none-some}}
 use Rattle.std.proofs.lemmas.Option.{same_Some}
-use Rattle.std.specs.{declared.cmp.Ordering.TheVariants.{Equal, Greater, Less}, Ordering.match_ordering}
-use Rattle.std.specs.Ordering.{ordering_then}
+use Rattle.std.specs.{declared.cmp.Ordering.TheVariants.{Equal}}
 use Rattle.krs_types.specs.declared.ask.{Answer.Answer, Op.{Op, TheVariants.{CloseQueue, Leave, OpenQueue, ReadQueue}}}
-use Rattle.krs_types.specs.declared.{ask.Op.TheVariants.SetFilter, errno.Errno.{Errno, TheVariants.{EBADF, EBUSY}}}
-use Rattle.krs_types.specs.declared.{errno.Errno.TheVariants.EINVAL, event.Event.Event, rights.Want.TheVariants.Granted}
-use Rattle.krs_types.specs.{Refusing.or_refuse, Rights.VIEW}
+use Rattle.krs_types.specs.declared.{ask.Op.TheVariants.SetFilter, errno.Errno.{Errno, TheVariants.{EBUSY}}}
+use Rattle.krs_types.specs.declared.{event.Event.Event, rights.Want.TheVariants.Granted}
+use Rattle.krs_types.specs.{Rights.VIEW}
 use Rattle.krs_model.specs.Asks.{Leaving.left, Linked.unless, Watching.{close_queue, closed, filtered, read_out}}
 use Rattle.krs_model.specs.Asks.Watching.{read_queue, set_filter, unwatched, watch, watch_id_of, watched, with_watching}
 use Rattle.krs_model.specs.{Lookup.{context_of, look_up}, Orderly.Each, Queues.{if_own_queue, place_cmp, queue_of}}
@@ -23,44 +22,24 @@ use Rattle.krs_laws.specs.{Integrity.HasRight, Noting.{AllWatchesAreByRight, IsS
 use Rattle.krs_laws.specs.Noting.{queue_asked, QueuesAreTheirOwners, WatchesByRight}
 use Rattle.krs_laws.proofs.Rightly.{right_found}
 use Rattle.krs_types.specs.declared.ask.Op.TheVariants as asks
+use Rattle.std.proofs.lemmas.Grind.{common_steps}
 
 -- ---- queues are their owners'
-
 own_is : (client : ℕ) (found queue : Queue) → if_own_queue client found ≡ Ok queue → queue.client ≡ client
-own_is client found queue h =
-    elim (found.client == client) as
-    (λ b. (found.client == client) ≡ b → cond b (Ok found) (Err EBADF) ≡ Ok queue → queue.client ≡ client) [
-      | true ↦ λ t i.
-          let same : found ≡ queue = same_ok (Ok found) found queue refl i in
-          let is : found.client ≡ client = grind (arith, nat_tests) in
-          ap (λ (q : Queue). q.client) (sym same) ∙ is
-      | false ↦ λ t i. cc
-    ] refl h
+own_is client found queue h = grind (arith, common_steps, same_ok, nat_tests)
 
 owner_of :
     (s : State) (client number : ℕ) (queue : Queue) → queue_of s.queues client number ≡ Ok queue
     → OwnsQueue s client number
-owner_of s client number queue h =
-    let there = bind_ok (or_refuse EBADF (at s.queues number)) (if_own_queue client) queue h in
-    record {
-      queue = queue;
-      there = queue_there s.queues client number queue h;
-      own = own_is client there.0 queue there.2;
-    }
+owner_of s client number queue h = grind (arith, common_steps, bind_ok, queue_there, own_is)
 
 -- watched or not, the queue is the client's
 watching_owner :
     (s : State) (client number key : ℕ) (asked : Option ℕ) (queues : Queues)
     → with_watching (queues_of s) client number key asked ≡ Ok queues → OwnsQueue s client number
 unfolding watched unwatched
-watching_owner s client number key (Some id) queues h =
-    let set = bind_ok (watched (queues_of s) client number key id) _ queues h in
-    let own = bind_ok (queue_of s.queues client number) _ set.0 set.1 in
-    owner_of s client number own.0 own.1
-watching_owner s client number key None queues h =
-    let ended = bind_ok (unwatched (queues_of s) client number key) _ queues h in
-    let own = bind_ok (queue_of s.queues client number) _ ended.0 ended.1 in
-    owner_of s client number own.0 own.1
+watching_owner s client number key (Some id) queues h = grind (arith, common_steps, bind_ok, owner_of)
+watching_owner s client number key None queues h = grind (arith, common_steps, bind_ok, owner_of)
 
 ruleset owners = (meets_nested, meets_after, meets_ok, owner_of, watching_owner)
 
@@ -98,15 +77,13 @@ owners_ask old new event number step accepted is =
     record { queue = own.queue; there = own.there; own = own.own }
 
 -- ---- watches are set by right
-
 abbrev IsSetRightly : State → ℕ → ℕ → Op → Watch → Type 0
 IsSetRightly s client context op w = IsWatched w s.watches ⊎ IsSetBy s client context op w
 
 -- each watch is one of them
 pub all_watched : (ws : List Watch) → Each (λ w. IsWatched w ws) ws
 all_watched [] = tt
-all_watched (w ∷ ws) =
-    (inl refl, each_on (λ v. IsWatched v ws) (λ v. IsWatched v (w ∷ ws)) ws (λ v there. inr there) (all_watched ws))
+all_watched (w ∷ ws) = grind (arith, common_steps, each_on, all_watched ws)
 
 were_set : (s : State) (client context : ℕ) (op : Op) → Each (IsSetRightly s client context op) s.watches
 were_set s client context op =
@@ -115,33 +92,18 @@ were_set s client context op =
 
 -- the order of places is of both numbers
 pub same_place : (x y : ℕ × ℕ) → place_cmp x y ≡ Equal → x ≡ y
-same_place x y h =
-    elim (nat_cmp x.0 y.0) as (λ r. nat_cmp x.0 y.0 ≡ r → ordering_then r (nat_cmp x.1 y.1) ≡ Equal → x ≡ y) [
-      | Less ↦ λ t i. cc
-      | Equal ↦ λ t i. λ j. (same_at x.0 y.0 (ap is_eq t) j, same_at x.1 y.1 (ap is_eq i) j)
-      | Greater ↦ λ t i. cc
-    ] refl h
+same_place x y h = grind (arith, common_steps, nat_cmp, same_at, is_eq)
 
 -- with one more watch, in the place of one that stands there
 each_set :
     (P : Watch → Type 0) (ws : List Watch) (key number n : ℕ) → P ((key, number), n) → Each P ws
     → Each P (with_watch ws key number n)
 each_set P [] key number n new h = (new, tt)
-each_set P (w ∷ ws) key number n new h =
-    elim (place_cmp (key, number) w.0) as (λ r. place_cmp (key, number) w.0 ≡ r
-    → Each P (match_ordering r (((key, number), n) ∷ w ∷ ws) ((w.0, n) ∷ ws) (w ∷ with_watch ws key number n))) [
-      | Less ↦ λ t. (new, h)
-      | Equal ↦ λ t. (subst (λ (place : ℕ × ℕ). P (place, n)) (same_place (key, number) w.0 t) new, h.1)
-      | Greater ↦ λ t. (h.0, each_set P ws key number n new h.1)
-    ] refl
+each_set P (w ∷ ws) key number n new h = grind (arith, common_steps, same_place, each_set P ws key number n new h.1)
 
 -- an id that sets a watch is a number
 id_is : (watch_id : ℤ) (n : ℕ) → watch_id_of watch_id ≡ Ok (Some n) → watch_id ≡ pos n
-id_is (pos m) n h =
-    elim (nat_le m 255) as (λ b. cond b (Ok (Some m)) (Err EINVAL) ≡ Ok (Some n) → pos m ≡ pos n) [
-      | true ↦ λ i. cc
-      | false ↦ λ i. cc
-    ] h
+id_is (pos m) n h = grind (arith, common_steps, pos, nat_le)
 id_is (negsuc zero) n h = cc
 id_is (negsuc (suc m)) n h = cc
 

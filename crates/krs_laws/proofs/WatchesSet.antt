@@ -8,6 +8,8 @@ use Rattle.krs_model.proofs.{History.Legal.{legal_more, legal_none}, Notes.Fitti
 use Rattle.krs_model.proofs.Sound.Steps.{start_sound}
 use Rattle.krs_laws.specs.Noting.{AllNotesAreByRight, IsCalledFor, IsSetBy, IsToldByRight, IsWatched, WasSet}
 use Rattle.krs_laws.proofs.{Callers.all_called, Watchers.step_set}
+use Rattle.std.proofs.Common.{arith}
+use Rattle.std.proofs.lemmas.Grind.{common_steps}
 
 -- what holds of each watch holds of one of them
 of_watched : (P : Watch → Type 0) (ws : List Watch) (w : Watch) → Each P ws → IsWatched w ws → P w
@@ -41,14 +43,11 @@ set_on start old new past event legal known step =
     (step_set old new event step)
 
 -- ---- records
-
 told_by_set :
     (start old : State) (before : List Event) (number : ℕ) (note : Record) → Each (WasSet start before) old.watches
     → IsCalledFor old.watches number note → IsToldByRight start before number note
-told_by_set start old before number (Key event id key aux) each is =
-    of_watched (WasSet start before) old.watches ((key, number), id) each is
-told_by_set start old before number (Removal id key) each is =
-    of_watched (WasSet start before) old.watches ((key, number), id) each is
+told_by_set start old before number (Key event id key aux) each is = grind (arith, common_steps, of_watched)
+told_by_set start old before number (Removal id key) each is = grind (arith, common_steps, of_watched)
 told_by_set start old before number Loss each is = is
 
 all_told :
@@ -57,7 +56,7 @@ all_told :
     → AllByRecursion (IsToldByRight start before number) notes
 all_told start old before number [] each all = tt
 all_told start old before number (note ∷ notes) each all =
-    (told_by_set start old before number note each all.0, all_told start old before number notes each all.1)
+    grind (arith, common_steps, told_by_set, all_told start old before number notes each all.1)
 
 pub all_by_right : (start : State) → AllNotesAreByRight start
 all_by_right start empty before old legal event new step number =

@@ -10,6 +10,7 @@ use Rattle.krs_model.proofs.{Sound.Steps.{raised_sound, sound_stands}, Tables.{C
 use Rattle.krs_laws.specs.Limits.{IsWithinLimits, StaysWithinLimits}
 use Rattle.krs_laws.proofs.{ContextLimits.houses_few, KeyLimits.{AllShort, both}, KeyLimitsByAsk.all_short}
 use Rattle.krs_laws.proofs.QueueLimits.{QueuesWithin, served_within}
+use Rattle.std.proofs.lemmas.Grind.{common_steps}
 
 -- but for capacities, which IsSound has
 record Within (s : State) : Type 0 where
@@ -74,9 +75,4 @@ stays_within start sound limits events end legal =
     }) legal)
 
 pub empty_within : (n : ℕ) → IsWithinLimits (starting_at n)
-empty_within n = record {
-  keys = λ k key there. absurd (none-some key there);
-  contexts = λ client. omega arith;
-  queues = omega arith;
-  waiting = λ number queue there. absurd (none-some queue there);
-}
+empty_within n = grind (arith, common_steps, none-some)
