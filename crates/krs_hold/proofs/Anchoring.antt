@@ -1,6 +1,6 @@
 -- From exact counts to a closed choice.
 use Rattle.std.proofs.Common.{[], ⊎_elim, ◌&&◌, ◌++◌, ◌+◌, ◌<◌, ◌==◌, ◌∙◌, ◌∷◌, ◌≡◌, ap, arith, Bool, cond, false}
-use Rattle.std.proofs.Common.{filter, inl, inr, IsSome, List, nat_cmp, None, not, Option, refl, Some, subst, suc, sym}
+use Rattle.std.proofs.Common.{filter, inl, inr, IsSome, List, nat_cmp, None, not, Option, refl, Some, subst, sym}
 use Rattle.std.proofs.Common.{true, true≢false, zero, ℕ}
 use Rattle.std.specs.{BTreeMap.is_at, Cmp.{ranked, unsigned_tied}, List.AllByRecursion}
 use Rattle.std.specs.{List.Sorted.IsStrictlySortedBy, Map.keys_of, declared.cmp.Ordering.TheVariants.Less}
@@ -15,6 +15,7 @@ use Rattle.krs_hold.specs.Chain.{holders_at, IsChain, IsChained, Spares}
 use Rattle.krs_hold.specs.{Tally.{all_links, times}, declared.counts.Count.Count}
 use Rattle.krs_hold.proofs.{Exact.IsCounted, Times.{in-times, other_is, times-append, times-in}}
 use Rattle.krs_model.specs.State as model
+use Rattle.std.proofs.lemmas.Grind.{common_steps}
 
 -- ---- what is left of a table
 filter_all : {X : Type 0} (xs : List X) → xs ≡ filter (λ x. true) xs
@@ -54,17 +55,7 @@ filter_filter :
     {X : Type 0} (p q : ℕ → Bool) (es : Table X)
     → filter (λ e. q e.0) (filter (λ e. p e.0) es) ≡ filter (λ e. p e.0 && q e.0) es
 filter_filter p q [] = refl
-filter_filter p q (e ∷ es) =
-    elim (p e.0) as (λ b. filter (λ d. q d.0) (cond b (e ∷ filter (λ d. p d.0) es) (filter (λ d. p d.0) es))
-    ≡ cond (b && q e.0) (e ∷ filter (λ d. p d.0 && q d.0) es) (filter (λ d. p d.0 && q d.0) es)) [
-      | true ↦ elim (q e.0) as (λ b.
-          cond b (e ∷ filter (λ d. q d.0) (filter (λ d. p d.0) es)) (filter (λ d. q d.0) (filter (λ d. p d.0) es))
-          ≡ cond b (e ∷ filter (λ d. p d.0 && q d.0) es) (filter (λ d. p d.0 && q d.0) es)) [
-            | true ↦ ap (λ zs. e ∷ zs) (filter_filter p q es)
-            | false ↦ filter_filter p q es
-          ]
-      | false ↦ filter_filter p q es
-    ]
+filter_filter p q (e ∷ es) = grind (arith, common_steps, filter, cond, filter_filter p q es)
 
 both_true : (b c : Bool) → b ≡ true → c ≡ true → (b && c) ≡ true
 both_true true c h g = g
@@ -85,9 +76,7 @@ spares_all attached old = record { kept = λ k. true; each = λ k there anchor. 
 shown_kept :
     (kept : ℕ → Bool) (old new : Table Key) → new ≡ filter (λ e. kept e.0) old → (k : ℕ)
     → at (shown new) k ≡ cond (kept k) (at (shown old) k) None
-shown_kept kept old new e k =
-    ap (λ (es : Table Key). at (shown es) k) e
-    ∙ (ap (λ (es : Table model.Key). at es k) (filter_map_keys seen old kept) ∙ at_kept kept (shown old) k)
+shown_kept kept old new e k = grind (arith, common_steps, filter_map_keys, at_kept)
 
 there_kept :
     (kept : ℕ → Bool) (old new : Table Key) → new ≡ filter (λ e. kept e.0) old → (k : ℕ) → kept k ≡ true
@@ -99,10 +88,7 @@ anchored_less :
     (keys : Table model.Key) (attached : List ℕ) (p q : ℕ → Bool) (k : ℕ)
     → IsAnchored keys attached (λ j. p j && q j) k
     → IsAnchored keys attached p k
-anchored_less keys attached p q k h = ⊎_elim
-    (λ (i : is_in k attached ≡ true). inl i)
-    (λ (l : (j : ℕ) × ((p j && q j) ≡ true) × (is_in k (links_of_key_at keys j) ≡ true)).
-    inr (l.0, first_true (p l.0) (q l.0) l.1, l.2)) h
+anchored_less keys attached p q k h = grind (arith, common_steps, ⊎_elim, inl, inr, first_true)
 
 -- one after the other
 pub spares_on :
@@ -144,12 +130,7 @@ link_counts (e ∷ es) j k h =
 not_anchored :
     (keys : Table model.Key) (attached : List ℕ) (es : Table Count) (kept : ℕ → Bool) (k : ℕ)
     → IsCounted keys attached [] es → holders_at (at es k) ≡ 0 → IsAnchored keys attached kept k → ⊥
-not_anchored keys attached es kept k h empty anchor =
-    let sum : holders_at (at es k) ≡ 0 + (times k attached + times k (all_links keys)) = h.exact k in
-    ⊎_elim
-    (λ (i : is_in k attached ≡ true). let r = in-times k attached i in absurd (omega (arith, sum, empty, r)))
-    (λ (l : (j : ℕ) × (kept j ≡ true) × (is_in k (links_of_key_at keys j) ≡ true)).
-    let r = link_counts keys l.0 k l.2 in absurd (omega (arith, sum, empty, r))) anchor
+not_anchored keys attached es kept k h empty anchor = grind (arith, common_steps, ⊎_elim, in-times, link_counts)
 
 other_than : (k q : ℕ) → (q ≡ k → ⊥) → not (q == k) ≡ true
 other_than k q n = ap not (other_is q k n)
@@ -190,10 +171,7 @@ own_self (e ∷ es) s = (
 )
 
 more_times : (k : ℕ) (xs : List ℕ) (n : ℕ) → is_in k xs ≡ false → 0 < times k xs + n → 0 < n
-more_times k xs n out h = elim n as (λ m. 0 < times k xs + m → 0 < m) [
-  | zero ↦ λ g. absurd (true≢false (sym (times-in k xs (omega (arith, g))) ∙ out))
-  | suc m ↦ λ g. omega arith
-] h
+more_times k xs n out h = grind (arith, common_steps, true≢false, times-in)
 
 count_links :
     (all es : Table model.Key) (k : ℕ) → Own all es → 0 < times k (all_links es)
@@ -217,12 +195,7 @@ chain_empty es (x ∷ ks) k h i = none-some x h.0
 some_hold :
     (keys : Table model.Key) (attached : List ℕ) (es : Table Count) (k : ℕ) → IsChained es None
     → IsCounted keys attached [] es → IsSome (at keys k) → 0 < holders_at (at es k)
-some_hold keys attached es k chained h there =
-    elim (holders_at (at es k)) as (λ n. holders_at (at es k) ≡ n → 0 < n) [
-      | zero ↦ λ none. absurd (chain_empty es chained.chain k chained.linked
-          (chained.whole k (chained.due k (h.counted k there) none)))
-      | suc m ↦ λ more. omega arith
-    ] refl
+some_hold keys attached es k chained h there = grind (arith, common_steps, zero, chain_empty)
 
 keeping_there : (b : Bool) (o : Option model.Key) → IsSome (cond b o None) → b ≡ true
 keeping_there true o h = refl
@@ -261,25 +234,11 @@ pub keeps_anchored :
     (attached : List ℕ) (old new : Table Key) (es : Table Count) → IsStrictlySortedBy nat_cmp (keys_of new)
     → IsChained es None → IsCounted (shown new) attached [] es → Spares attached old new
     → KeepsAnchored attached old new
-keeps_anchored attached old new es sorted chained h spared = record {
-  kept = spared.kept;
-  choice = record {
-    only = λ k there keep.
-        let stands : IsSome (at (shown new) k) =
-        subst IsSome (sym (there_kept spared.kept old new spared.keys k keep)) there in
-        anchored_by attached old new es spared.kept k spared.keys sorted h
-        (some_hold (shown new) attached es k chained h stands);
-    each = spared.each;
-  };
-  keys = spared.keys;
-}
+keeps_anchored attached old new es sorted chained h spared =
+    grind (arith, common_steps, there_kept, anchored_by, some_hold)
 
 -- in an acyclic table just the held keys stay
 pub anchored_sweeps :
     (attached : List ℕ) (old new : Table Key) → IsAcyclic (links_of_key_at (shown old)) → KeepsAnchored attached old new
     → Sweeps attached old new
-anchored_sweeps attached old new acyclic k = record {
-  kept = k.kept;
-  picks = closed_held (shown old) attached k.kept acyclic k.choice;
-  keys = k.keys;
-}
+anchored_sweeps attached old new acyclic k = grind (arith, common_steps, closed_held)

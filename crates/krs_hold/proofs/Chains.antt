@@ -1,6 +1,6 @@
 -- Laws of the chain of the counts that wait.
-use Rattle.std.proofs.Common.{[], ⊎_elim, ◌&&◌, ◌+◌, ◌-◌, ◌<◌, ◌==◌, ◌||◌, ◌∙◌, ◌∷◌, ◌≡◌, ◌≤◌, ap, arith, cond, false}
-use Rattle.std.proofs.Common.{is_some, IsSome, List, nat_cmp, None, not, Option, option_map, refl, Some, subst, sym}
+use Rattle.std.proofs.Common.{[], ⊎_elim, ◌+◌, ◌-◌, ◌<◌, ◌∙◌, ◌∷◌, ◌≡◌, ◌≤◌, ap, arith, cond, false}
+use Rattle.std.proofs.Common.{is_some, IsSome, List, nat_cmp, None, Option, option_map, refl, Some, subst, sym}
 use Rattle.std.proofs.Common.{true, true≢false, ℕ}
 use Rattle.std.specs.BTreeMap.{is_at}
 use Rattle.std.proofs.lemmas.{Bool.{cases_eq, Decides.nat_tests}, Option.{none-some, same_Some}}
@@ -9,6 +9,7 @@ use Rattle.krs_model.proofs.Tables.Changes.{alter_none, at_alter_same, at_put_sa
 use Rattle.krs_hold.specs.Chain.{Chained, falls, falls_at, gone, gone_all, holders_at, is_waiting, IsChain, IsChained}
 use Rattle.krs_hold.specs.{Chain.{lowered, next_at, raised, rested, total_weight, weight}, declared.counts.Count.Count}
 use Rattle.krs_hold.proofs.{Places.{alter_other, at_some, put_other, without_other}, Times.{in_head, in_rest, in_tail}}
+use Rattle.std.proofs.lemmas.Grind.{common_steps}
 
 -- a chain stays where its counts wait and name the next as before
 pub chain_same :
@@ -23,28 +24,10 @@ chain_same es fs first (k ∷ ks) same h =
     (h.0, (here.0 ∙ h.1.0, (h.1.1.0, subst (λ (o : Option ℕ). IsChain fs o ks) (sym here.1) below)))
 
 pub falls_true : (c : Count) → falls c ≡ true → (c.holders ≡ 1) × (c.waiting ≡ false)
-falls_true c h =
-    elim c.waiting as (λ w. ((c.holders == 1) && not w) ≡ true → (c.holders ≡ 1) × (w ≡ false)) [
-      | true ↦ λ g. absurd (elim (c.holders == 1) as (λ b. (b && false) ≡ true
-          → ⊥) [ true ↦ λ f. true≢false (sym f) | false ↦ λ f. true≢false (sym f) ] g)
-      | false ↦ λ g. (
-        elim (c.holders == 1) as (λ b. (c.holders == 1) ≡ b → (b && true) ≡ true
-            → c.holders ≡ 1) [
-              | true ↦ λ t f. grind (arith, nat_tests)
-              | false ↦ λ t f. absurd (true≢false
-                  (sym f))
-            ] refl g,
-        refl,
-      )
-    ] h
+falls_true c h = grind (arith, common_steps, true≢false, nat_tests)
 
 pub falls_false : (c : Count) → falls c ≡ false → c.holders ≡ 1 → c.waiting ≡ true
-falls_false c h one =
-    let t : (c.holders == 1) ≡ true = grind (arith, nat_tests) in
-    elim c.waiting as (λ w. ((c.holders == 1) && not w) ≡ false → w ≡ true) [
-      | true ↦ λ g. refl
-      | false ↦ λ g. absurd (true≢false (subst (λ b. (b && true) ≡ false) t g))
-    ] h
+falls_false c h one = grind (arith, common_steps, nat_tests, true≢false)
 
 pub lowered_stays :
     (first : Option ℕ) (c : Count) → falls c ≡ false → lowered first c ≡ record c { holders = c.holders - 1 }
@@ -64,11 +47,7 @@ out_of :
     → is_in k ks ≡ false
 out_of es first [] k h r = refl
 out_of es first (x ∷ ks) k h r =
-    elim (x == k) as (λ b. (x == k) ≡ b → (b || is_in k ks) ≡ false) [
-      | true ↦ λ t. let s : x ≡ k = grind (arith, nat_tests) in absurd (true≢false (sym h.1.0
-          ∙ (ap (λ (z : ℕ). is_waiting (at es z)) s ∙ r)))
-      | false ↦ λ t. out_of es (next_at (at es x)) ks k h.1.1.1 r
-    ] refl
+    grind (arith, common_steps, nat_tests, true≢false, out_of es (next_at (at es x)) ks k h.1.1.1 r)
 
 -- a count that changes as to its holders alone leaves the chain as it is
 altered :
@@ -100,13 +79,7 @@ altered es first k f waits nexts due h =
 staying :
     (es : Table Count) (first : Option ℕ) (k : ℕ) (c : Count) → at es k ≡ Some c → falls c ≡ false
     → IsChained es first → IsChained (alter es k (lowered first)) first
-staying es first k c e f h =
-    let mine : at (alter es k (lowered first)) k ≡ Some (record c { holders = c.holders - 1 }) =
-    at_some es k (lowered first) c e ∙ ap Some (lowered_stays first c f) in
-    altered es first k (lowered first) (ap is_waiting mine ∙ sym (ap is_waiting e))
-    (ap next_at mine ∙ sym (ap next_at e))
-    (λ there none. ap is_waiting mine ∙ due_stays c f (sym (ap holders_at mine) ∙ none) (λ z. sym (ap is_waiting e)
-    ∙ h.due k (rw e refl) (ap holders_at e ∙ z))) h
+staying es first k c e f h = grind (arith, common_steps, at_some, lowered_stays, altered, due_stays)
 
 -- a count of 0 that comes into the chain
 pub pushed :
@@ -146,9 +119,7 @@ pushed es fs first k rests mine others h =
 falling :
     (es : Table Count) (first : Option ℕ) (k : ℕ) (c : Count) → at es k ≡ Some c → falls c ≡ true
     → IsChained es first → IsChained (alter es k (lowered first)) (Some k)
-falling es first k c e f h = pushed es (alter es k (lowered first)) first k (ap is_waiting e
-    ∙ (falls_true c f).1) (at_some es k (lowered first) c e
-    ∙ ap Some (lowered_falls first c f)) (λ q n. alter_other es k q (lowered first) n) h
+falling es first k c e f h = grind (arith, common_steps, pushed, falls_true, at_some, lowered_falls, alter_other)
 
 -- a new count
 -- a new count of one holder, which does not wait
@@ -156,37 +127,12 @@ pub held_chained :
     (es : Table Count) (first : Option ℕ) (k : ℕ) → at es k ≡ None → IsChained es first
     → IsChained (put es k (record { holders = 1; waiting = false; next = None })) first
 held_chained es first k none h =
-    let c : Count = record { holders = 1; waiting = false; next = None } in
-    let fs = put es k c in
-    let mine : at fs k ≡ Some c = at_put_same es k c in
-    let others : (q : ℕ) → (q ≡ k → ⊥) → at fs q ≡ at es q = λ q n. put_other es k q c n in
-    let out : is_in k h.chain ≡ false = out_of es first h.chain k h.linked (ap is_waiting none) in
-    let apart : (q : ℕ) → is_in q h.chain ≡ true → q ≡ k
-    → ⊥ = λ q i s. true≢false (sym i ∙ (ap (λ (z : ℕ). is_in z h.chain) s ∙ out)) in
-    record {
-      chain = h.chain;
-      linked = chain_same es fs first h.chain
-          (λ q i. (ap is_waiting (others q (apart q i)), ap next_at (others q (apart q i)))) h.linked;
-      whole = λ q w. ⊎_elim
-          (λ s. absurd (true≢false (sym w ∙ ap is_waiting (ap (at fs) s ∙ mine))))
-          (λ n. h.whole q (sym (ap is_waiting (others q n)) ∙ w))
-          (cases_eq q k);
-      due = λ q there zero. ⊎_elim
-          (λ s. let same : 1 ≡ 0 = sym (ap holders_at (ap (at fs) s ∙ mine)) ∙ zero in absurd (omega (arith, same)))
-          (λ n. ap is_waiting (others q n)
-          ∙ h.due q (subst IsSome (others q n) there) (sym (ap holders_at (others q n)) ∙ zero))
-          (cases_eq q k);
-    }
+    grind (arith, common_steps, at_put_same, put_other, out_of, true≢false, chain_same, ⊎_elim, cases_eq)
 
 pub made_chained :
     (es : Table Count) (first : Option ℕ) (k : ℕ) → at es k ≡ None → IsChained es first
     → IsChained (put es k (record { holders = 0; waiting = true; next = first })) (Some k)
-made_chained es first k none h = pushed es (put es k (record {
-  holders = 0;
-  waiting = true;
-  next =
-      first;
-})) first k (ap is_waiting none) (at_put_same es k _) (λ q n. put_other es k q _ n) h
+made_chained es first k none h = grind (arith, common_steps, pushed, at_put_same, put_other)
 
 raised_waits : (o : Option Count) → is_waiting (option_map raised o) ≡ is_waiting o
 raised_waits None = refl
@@ -204,22 +150,12 @@ raised_some (Some c) s z = absurd (omega (arith, z))
 pub raised_chained :
     (es : Table Count) (first : Option ℕ) (k : ℕ) → IsChained es first → IsChained (alter es k raised) first
 raised_chained es first k h =
-    let mine : at (alter es k raised) k ≡ option_map raised (at es k) = at_alter_same es k raised in
-    altered es first k raised (ap is_waiting mine ∙ raised_waits (at es k)) (ap next_at mine ∙ raised_next (at es k))
-    (λ there none. absurd (raised_some (at es k) (subst IsSome mine there) (sym (ap holders_at mine) ∙ none))) h
+    grind (arith, common_steps, option_map, at_alter_same, altered, raised_waits, raised_next, raised_some)
 
 pub gone_chained :
     (es : Table Count) (first : Option ℕ) (k : ℕ) → IsChained es first
     → IsChained (alter es k (lowered first)) (cond (falls_at (at es k)) (Some k) first)
-gone_chained es first k h =
-    elim (at es k) as (λ o. at es k ≡ o → IsChained (alter es k (lowered first)) (cond (falls_at o) (Some k) first)) [
-      | None ↦ λ e. subst (λ (zs : Table Count). IsChained zs first) (sym (alter_none es k (lowered first) e)) h
-      | Some c ↦ λ e. elim (falls c) as (λ b. falls c ≡ b
-          → IsChained (alter es k (lowered first)) (cond b (Some k) first)) [
-            | true ↦ λ f. falling es first k c e f h
-            | false ↦ λ f. staying es first k c e f h
-          ] refl
-    ] refl
+gone_chained es first k h = grind (arith, common_steps, alter_none, falling, staying)
 
 pub gone_all_chained :
     (ks : List ℕ) (t : Chained) → IsChained t.counts t.first → IsChained (gone_all t ks).counts (gone_all t ks).first
@@ -253,29 +189,19 @@ popped :
     → IsPopped k (alter es k rested) (next_at (at es k))
 popped es k [] l w d = absurd (none-some k (sym l))
 popped es k (x ∷ ks) l w d =
-    let fs = alter es k rested in
-    let s : k ≡ x = same_Some k x l.0 in
-    let others : (q : ℕ) → (q ≡ k → ⊥) → at fs q ≡ at es q = λ q n. alter_other es k q rested n in
-    let waits : is_waiting (at es k) ≡ true = subst (λ (z : ℕ). is_waiting (at es z) ≡ true) (sym s) l.1.0 in
-    let out : is_in k ks ≡ false = subst (λ (z : ℕ). is_in z ks ≡ false) (sym s) l.1.1.0 in
-    let below : IsChain es (next_at (at es k)) ks = subst
-    (λ (z : ℕ). IsChain es (next_at (at es z)) ks) (sym s) l.1.1.1 in
-    let apart : (q : ℕ) → is_in q ks ≡ true → q ≡ k
-    → ⊥ = λ q i e. true≢false (sym i ∙ (ap (λ (z : ℕ). is_in z ks) e ∙ out)) in
-    let mine : is_waiting (at fs k) ≡ false = let c = waiting_some (at es k) waits in
-    ap is_waiting (at_some es k rested c.0 c.1) in
-    record {
-      chain = ks;
-      linked = chain_same es fs (next_at (at es k)) ks
-          (λ q i. (ap is_waiting (others q (apart q i)), ap next_at (others q (apart q i)))) below;
-      out = out;
-      whole = λ q h. ⊎_elim
-          (λ e. absurd (true≢false (sym h ∙ (ap (λ (z : ℕ). is_waiting (at fs z)) e ∙ mine))))
-          (λ n. in_rest q x ks (λ e. n (e ∙ sym s)) (w q (sym (ap is_waiting (others q n)) ∙ h)))
-          (cases_eq q k);
-      due = λ q n there none. ap is_waiting (others q n)
-          ∙ d q (subst IsSome (others q n) there) (sym (ap holders_at (others q n)) ∙ none);
-    }
+    grind (
+      arith,
+      common_steps,
+      same_Some,
+      alter_other,
+      true≢false,
+      waiting_some,
+      at_some,
+      chain_same,
+      ⊎_elim,
+      in_rest,
+      cases_eq,
+    )
 
 pub rest_popped :
     (es : Table Count) (k : ℕ) → IsChained es (Some k) → IsPopped k (alter es k rested) (next_at (at es k))
@@ -285,66 +211,27 @@ rest_popped es k h = popped es k h.chain h.linked h.whole h.due
 pub kept_chained :
     (es : Table Count) (first : Option ℕ) (k : ℕ) → IsPopped k es first → (holders_at (at es k) ≡ 0 → ⊥)
     → IsChained es first
-kept_chained es first k h held = record {
-  chain = h.chain;
-  linked = h.linked;
-  whole = h.whole;
-  due = λ q there none. ⊎_elim (λ s. absurd (held (subst (λ (z : ℕ). holders_at (at es z) ≡ 0) s none)))
-      (λ n. h.due q n there none) (cases_eq q k);
-}
+kept_chained es first k h held = grind (arith, common_steps, ⊎_elim, cases_eq)
 
 -- it goes
 pub dropped_chained :
     (es : Table Count) (first : Option ℕ) (k : ℕ) → IsPopped k es first → at (without es k) k ≡ None
     → IsChained (without es k) first
 dropped_chained es first k h none =
-    let fs = without es k in
-    let others : (q : ℕ) → (q ≡ k → ⊥) → at fs q ≡ at es q = λ q n. without_other es k q n in
-    let apart : (q : ℕ) → is_in q h.chain ≡ true → q ≡ k
-    → ⊥ = λ q i e. true≢false (sym i ∙ (ap (λ (z : ℕ). is_in z h.chain) e ∙ h.out)) in
-    let mine : is_waiting (at fs k) ≡ false = ap is_waiting none in
-    record {
-      chain = h.chain;
-      linked = chain_same es fs first h.chain
-          (λ q i. (ap is_waiting (others q (apart q i)), ap next_at (others q (apart q i)))) h.linked;
-      whole = λ q w. ⊎_elim
-          (λ e. absurd (true≢false (sym w ∙ (ap (λ (z : ℕ). is_waiting (at fs z)) e ∙ mine))))
-          (λ n. h.whole q (sym (ap is_waiting (others q n)) ∙ w))
-          (cases_eq q k);
-      due = λ q there zero. ⊎_elim
-          (λ e. absurd (true≢false (sym (subst (λ (z : ℕ). IsSome (at fs z)) e there) ∙ ap is_some none)))
-          (λ n. ap is_waiting (others q n)
-          ∙ h.due q n (subst IsSome (others q n) there) (sym (ap holders_at (others q n)) ∙ zero))
-          (cases_eq q k);
-    }
+    grind (arith, common_steps, without_other, true≢false, chain_same, ⊎_elim, cases_eq, is_some)
 
 -- ---- what is left to do
 weight_lowered : (first : Option ℕ) (c : Count) → weight (lowered first c) ≤ weight c
-weight_lowered first c =
-    elim (falls c) as (λ b. falls c ≡ b
-    → weight (cond b (record { holders = 0; waiting = true; next = first }) (record c {
-      holders =
-          c.holders - 1;
-    })) ≤ weight c) [
-      | true ↦ λ f. let one : c.holders ≡ 1 = (falls_true c f).0 in omega arith
-      | false ↦ λ f. omega arith
-    ] refl
+weight_lowered first c = grind (arith, common_steps, falls_true)
 
 weight_gone :
     (es : Table Count) (k : ℕ) (first : Option ℕ) → total_weight (alter es k (lowered first)) ≤ total_weight es
 weight_gone [] k first = omega arith
-weight_gone (e ∷ es) k first =
-    elim (is_at (nat_cmp k) e.0) as
-    (λ b. total_weight (cond b ((e.0, lowered first e.1) ∷ es) (e ∷ alter es k
-    (lowered first))) ≤ weight e.1 + total_weight es) [
-      | true ↦ let r = weight_lowered first e.1 in omega (arith, r)
-      | false ↦ let r = weight_gone es k first in omega (arith, r)
-    ]
+weight_gone (e ∷ es) k first = grind (arith, common_steps, nat_cmp, weight_lowered, weight_gone es k first)
 
 pub weight_gone_all : (ks : List ℕ) (t : Chained) → total_weight (gone_all t ks).counts ≤ total_weight t.counts
 weight_gone_all [] t = omega arith
-weight_gone_all (k ∷ ks) t = let r = weight_gone_all ks (gone t k) in let s = weight_gone t.counts k t.first in
-    omega (arith, r, s)
+weight_gone_all (k ∷ ks) t = grind (arith, common_steps, weight_gone, weight_gone_all ks (gone t k))
 
 pub weight_rested :
     (es : Table Count) (k : ℕ) → is_waiting (at es k) ≡ true → total_weight (alter es k rested) < total_weight es
@@ -358,9 +245,4 @@ weight_rested (e ∷ es) k h =
 
 pub weight_without : (es : Table Count) (k : ℕ) → total_weight (without es k) ≤ total_weight es
 weight_without [] k = omega arith
-weight_without (e ∷ es) k =
-    elim (is_at (nat_cmp k) e.0) as
-    (λ b. total_weight (cond b es (e ∷ without es k)) ≤ weight e.1 + total_weight es) [
-      | true ↦ omega arith
-      | false ↦ let r = weight_without es k in omega (arith, r)
-    ]
+weight_without (e ∷ es) k = grind (arith, common_steps, nat_cmp, weight_without es k)

@@ -11,6 +11,7 @@ use Rattle.krs_model.proofs.{Reach.Levels.same_is, Tables.Changes.at_map}
 use Rattle.krs_hold.specs.Tally.{all_less, all_links, IsTallied, number_at, times}
 use Rattle.krs_hold.proofs.{Gathered.gathered, Tallies.tallied_let_go_all}
 use Rattle.krs_hold.proofs.Times.{other_is, times-append, times-cons, times-other, times-same}
+use Rattle.std.proofs.lemmas.Grind.{common_steps}
 
 -- how often a serial is left where one key goes
 abbrev pub left : ℕ → ℕ → ℕ → ℕ
@@ -20,20 +21,13 @@ left-none : (serial q : ℕ) → 0 ≡ left serial q 0
 left-none serial q = elim (q == serial) as (λ b. ◌≡◌ {A = ℕ} 0 (cond b 0 0)) [ true ↦ refl | false ↦ refl ]
 
 left-plus : (serial q m n : ℕ) → left serial q m + left serial q n ≡ left serial q (m + n)
-left-plus serial q m n = elim (q == serial) as (λ b. cond b 0 m + cond b 0 n ≡ cond b 0 (m + n)) [
-  | true ↦ refl
-  | false ↦ refl
-]
+left-plus serial q m n = grind (arith, common_steps, cond)
 
 -- of two lists, one after the other
 times-both :
     (serial q : ℕ) (xs ys zs ws : List ℕ) → times q zs ≡ left serial q (times q xs)
     → times q ws ≡ left serial q (times q ys) → times q (zs ++ ws) ≡ left serial q (times q (xs ++ ys))
-times-both serial q xs ys zs ws first second =
-    times-append q zs ws
-    ∙ (ap (λ n. n + times q ws) first
-    ∙ (ap (λ n. left serial q (times q xs) + n) second
-    ∙ (left-plus serial q (times q xs) (times q ys) ∙ ap (left serial q) (sym (times-append q xs ys)))))
+times-both serial q xs ys zs ws first second = grind (arith, common_steps, times-append, left-plus)
 
 -- of the entries of a table, where it holds of each
 times-map :
@@ -41,9 +35,7 @@ times-map :
     → ((v : X) → times q (g (f v)) ≡ left serial q (times q (g v)))
     → times q (gathered g (map_values f es)) ≡ left serial q (times q (gathered g es))
 times-map g f serial q [] each = left-none serial q
-times-map g f serial q (e ∷ es) each =
-    times-both serial q (g e.1) (gathered g es) (g (f e.1)) (gathered g (map_values f es)) (each e.1)
-    (times-map g f serial q es each)
+times-map g f serial q (e ∷ es) each = grind (arith, common_steps, times-both, gathered, times-map g f serial q es each)
 
 -- the key itself is gone, and another stays
 gone-one : (serial q k : ℕ) → (k == serial) ≡ true → 0 ≡ left serial q (cond (k == q) 1 0)
@@ -58,28 +50,13 @@ pub times-others :
     → times q (filter (λ k. not (k == serial)) ks) ≡ left serial q (times q ks)
 times-others serial q [] = left-none serial q
 times-others serial q (k ∷ ks) =
-    let rest = filter (λ j. not (j == serial)) ks in
-    let later = times-others serial q ks in
-    let split : left serial q (cond (k == q) 1 0) + left serial q (times q ks) ≡ left serial q (times q (k ∷ ks)) =
-    left-plus serial q (cond (k == q) 1 0) (times q ks) ∙ ap (left serial q) (sym (times-cons q k ks)) in
-    elim (k == serial) as (λ b. (k == serial) ≡ b
-    → times q (cond (not b) (k ∷ rest) rest) ≡ left serial q (times q (k ∷ ks))) [
-      | true ↦ λ gone. let none = gone-one serial q k gone in omega (arith, later, none, split)
-      | false ↦ λ kept.
-          times-cons q k rest
-          ∙ (ap (λ n. cond (k == q) 1 0 + n) later
-          ∙ (ap (λ n. n + left serial q (times q ks)) (kept-one serial q k kept) ∙ split))
-    ] refl
+    grind (arith, common_steps, filter, cond, left-plus, times-cons, gone-one, kept-one, times-others serial q ks)
 
 detached_list :
     (serial : ℕ) (o : Option ℕ)
     → option_to_list (detached serial o) ≡ filter (λ k. not (k == serial)) (option_to_list o)
 detached_list serial None = refl
-detached_list serial (Some k) =
-    elim (k == serial) as (λ b. option_to_list (cond b None (Some k)) ≡ cond (not b) (k ∷ []) []) [
-      | true ↦ refl
-      | false ↦ refl
-    ]
+detached_list serial (Some k) = grind (arith, common_steps, option_to_list, cond)
 
 -- of an attachment that is let go of, where it is of the key
 times-detached :
@@ -91,9 +68,7 @@ times-two :
     (serial q : ℕ) (a b : Option ℕ)
     → times q (option_to_list (detached serial a) ++ option_to_list (detached serial b))
     ≡ left serial q (times q (option_to_list a ++ option_to_list b))
-times-two serial q a b =
-    times-both serial q (option_to_list a) (option_to_list b) (option_to_list (detached serial a))
-    (option_to_list (detached serial b)) (times-detached serial q a) (times-detached serial q b)
+times-two serial q a b = grind (arith, common_steps, times-both, option_to_list, times-detached)
 
 -- of all attachments
 pub times-roots : (s : State) (serial q : ℕ) → times q (roots (invalidated s serial))
@@ -129,13 +104,12 @@ times-links keys serial q =
 -- a serial stands as often in a list of itself as the list is long, and no other does
 times-itself : (n serial : ℕ) → times serial (replicate n serial) ≡ n
 times-itself zero serial = refl
-times-itself (suc n) serial =
-    let one = times-same serial (replicate n serial) in let later = times-itself n serial in omega (arith, one, later)
+times-itself (suc n) serial = grind (arith, common_steps, times-same, replicate, times-itself n serial)
 
 times-no_other : (n serial q : ℕ) → (q ≡ serial → ⊥) → times q (replicate n serial) ≡ 0
 times-no_other zero serial q apart = refl
 times-no_other (suc n) serial q apart =
-    times-other q serial (replicate n serial) apart ∙ times-no_other n serial q apart
+    grind (arith, common_steps, times-other, replicate, times-no_other n serial q apart)
 
 left-same : (serial n : ℕ) → left serial serial n ≡ 0
 left-same serial n = ap (λ b. cond b 0 n) (same_is serial serial refl)

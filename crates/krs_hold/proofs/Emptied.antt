@@ -7,6 +7,7 @@ use Rattle.krs_model.specs.Table.{alter, at, Table}
 use Rattle.krs_hold.specs.Chain.{Chained, emptied, empties, falls, falls_at, gone, gone_all, lowered, unheld}
 use Rattle.krs_hold.specs.declared.counts.Count.{Count}
 use Rattle.krs_hold.proofs.{Chains.{falls_false, falls_true, lowered_falls, lowered_stays}, Places.{alter_to, at_some}}
+use Rattle.std.proofs.lemmas.Grind.{common_steps}
 
 -- a change that leaves what is there
 alter_same : {X : Type 0} (es : Table X) (k : ℕ) (f : X → X) (v : X) → at es k ≡ Some v → f v ≡ v → alter es k f ≡ es
@@ -27,13 +28,7 @@ alter_as es k f g v h e = sym (alter_to es k f v (g v) h e) ∙ alter_to es k g 
 alter_twice : {X : Type 0} (es : Table X) (k : ℕ) (f g : X → X)
     → alter (alter es k f) k g ≡ alter es k (λ v. g (f v))
 alter_twice [] k f g = refl
-alter_twice (d ∷ es) k f g =
-    elim (is_at (nat_cmp k) d.0) as (λ b. is_at (nat_cmp k) d.0 ≡ b
-    → alter (cond b ((d.0, f d.1) ∷ es) (d ∷ alter es k f)) k g
-    ≡ cond b ((d.0, g (f d.1)) ∷ es) (d ∷ alter es k (λ v. g (f v)))) [
-      | true ↦ λ t. rw t refl
-      | false ↦ λ t. rw t (ap (λ zs. d ∷ zs) (alter_twice es k f g))
-    ] refl
+alter_twice (d ∷ es) k f g = grind (arith, common_steps, nat_cmp, cond, alter_twice es k f g)
 
 -- the counts and the chain after a count was emptied
 abbrev pub without_holders : Chained → ℕ → Count → Chained
@@ -48,19 +43,13 @@ never true = refl
 never false = refl
 
 empties_none : (c : Count) → c.holders ≡ 0 → empties c ≡ false
-empties_none c z =
-    let none : nat_lt 0 c.holders ≡ false = grind (arith, nat_tests) in ap (λ b. b && not c.waiting) none
+empties_none c z = grind (arith, common_steps, nat_lt, nat_tests)
 
 empties_some : (n : ℕ) (w : Bool) → n ≡ 1 → w ≡ false → (nat_lt 0 n && not w) ≡ true
-empties_some n w one free =
-    let some : nat_lt 0 n ≡ true = grind (arith, nat_tests) in
-    ap (λ b. b && not w) some ∙ ap not free
+empties_some n w one free = grind (arith, common_steps, nat_lt, nat_tests)
 
 some_more : (m : ℕ) → (m ≡ 0 → ⊥) → (nat_lt 0 m && true) ≡ (nat_lt 0 (suc m) && true)
-some_more m n =
-    let here : nat_lt 0 m ≡ true = grind (arith, nat_tests) in
-    let next : nat_lt 0 (suc m) ≡ true = grind (arith, nat_tests) in
-    ap (λ b. b && true) (here ∙ sym next)
+some_more m n = grind (arith, common_steps, nat_lt, nat_tests)
 
 pub same_chain : (a b : Table Count) (x y : Option ℕ) → a ≡ b → x ≡ y
     → chained a x ≡ chained b y
@@ -71,9 +60,7 @@ and_false x y = never x ∙ sym (never y)
 
 -- a count that has none is empty
 emptied_none : (first : Option ℕ) (c : Count) → c.holders ≡ 0 → emptied first c ≡ c
-emptied_none first c z =
-    ap (λ b. cond b (unheld first) (record c { holders = 0 })) (empties_none c z)
-    ∙ ap (λ (n : ℕ). record c { holders = n }) (sym z)
+emptied_none first c z = grind (arith, common_steps, cond, empties_none)
 
 -- its last holder goes
 empties_falls : (c : Count) → falls c ≡ true → empties c ≡ true
@@ -81,24 +68,13 @@ empties_falls c f = empties_some c.holders c.waiting (falls_true c f).0 (falls_t
 
 -- it has more
 empties_more : (m : ℕ) (w : Bool) → (m ≡ 0 → w ≡ true) → (nat_lt 0 m && not w) ≡ (nat_lt 0 (suc m) && not w)
-empties_more m w last =
-    elim w as (λ b. (m ≡ 0 → b ≡ true) → (nat_lt 0 m && not b) ≡ (nat_lt 0 (suc m) && not b)) [
-      | true ↦ λ l. and_false (nat_lt 0 m) (nat_lt 0 (suc m))
-      | false ↦ λ l. some_more m (λ z. true≢false (sym (l z)))
-    ] last
+empties_more m w last = grind (arith, common_steps, nat_lt, and_false, some_more, true≢false)
 
 -- the last of them
 last_goes : (m : ℕ) (t : Chained) (k : ℕ) (c : Count) → at t.counts k ≡ Some c → c.holders ≡ suc m → falls c ≡ true
     → gone_all (gone t k) (replicate m k) ≡ without_holders t k c
 last_goes m t k c h z f =
-    let one : c.holders ≡ 1 = (falls_true c f).0 in
-    let none : m ≡ 0 = omega (arith, z, one) in
-    ap (λ (q : ℕ). gone_all (gone t k) (replicate q k)) none
-    ∙ same_chain _ _ _ _
-    (alter_as t.counts k (lowered t.first) (emptied t.first) c h (lowered_falls t.first c f
-    ∙ sym (ap (λ b. cond b (unheld t.first) (record c { holders = 0 })) (empties_falls c f))))
-    (ap (λ o. cond (falls_at o) (Some k) t.first) h
-    ∙ ap (λ b. cond b (Some k) t.first) (f ∙ sym (empties_falls c f)))
+    grind (arith, common_steps, falls_true, replicate, same_chain, alter_as, lowered_falls, cond, empties_falls)
 
 -- one that is not the last
 one_goes : (m : ℕ) (t : Chained) (k : ℕ) (c : Count) → at t.counts k ≡ Some c → c.holders ≡ suc m → falls c ≡ false

@@ -1,14 +1,15 @@
 -- Exact counts, as they are kept.
-use Rattle.std.proofs.Common.{[], ⊎_elim, ◌+◌, ◌-◌, ◌∙◌, ◌∷◌, ◌≡◌, ap, arith, cond, false, is_some, IsSome, List, None}
-use Rattle.std.proofs.Common.{Option, option_map, refl, Some, subst, sym, true, true≢false, unwrap_or, ℕ}
+use Rattle.std.proofs.Common.{[], ⊎_elim, ◌+◌, ◌-◌, ◌∙◌, ◌∷◌, ◌≡◌, ap, arith, cond, is_some, IsSome, List, None}
+use Rattle.std.proofs.Common.{Option, option_map, refl, Some, subst, sym, true≢false, unwrap_or, ℕ}
 use Rattle.std.proofs.lemmas.Bool.{cases_eq}
 use Rattle.krs_model.specs.Possession.{links_of_content}
 use Rattle.krs_model.specs.{State.Key, Sweep.links_of_key, Table.{alter, at, Table, without}}
 use Rattle.krs_model.proofs.Tables.Changes.{at_alter_same, at_map}
-use Rattle.krs_hold.specs.Chain.{Chained, falls, gone, gone_all, holders_at, lowered, numbers_of, rested}
+use Rattle.krs_hold.specs.Chain.{Chained, gone, gone_all, holders_at, lowered, numbers_of, rested}
 use Rattle.krs_hold.specs.{Tally.{all_links, IsTallied, number_at, times}, declared.counts.Count.Count}
 use Rattle.krs_hold.proofs.{Chains.falls_true, Gathered.{given_by, times-without}}
 use Rattle.krs_hold.proofs.{Places.{alter_other, is_some_alter, without_other}, Times.{times-other, times-same}}
+use Rattle.std.proofs.lemmas.Grind.{common_steps}
 
 -- the counts are exact: as their numbers are
 pub record IsCounted (keys : Table Key) (attached owed : List ℕ) (counts : Table Count) : Type 0 where
@@ -40,19 +41,10 @@ counted_from keys attached owed es h = record {
 pub tallied_from :
     (keys : Table Key) (attached owed : List ℕ) (es : Table Count) → IsCounted keys attached owed es
     → IsTallied keys attached owed (numbers_of es)
-tallied_from keys attached owed es h = record {
-  counted = λ k s. is_some_shown es k ∙ h.counted k s;
-  exact = λ k. number_is es k ∙ h.exact k;
-}
+tallied_from keys attached owed es h = grind (arith, common_steps, is_some_shown, number_is)
 
 pub holders_lowered : (first : Option ℕ) (c : Count) → (lowered first c).holders ≡ c.holders - 1
-holders_lowered first c =
-    elim (falls c) as (λ b. falls c ≡ b
-    → (cond b (record { holders = 0; waiting = true; next = first }) (record c { holders = c.holders - 1 })).holders
-    ≡ c.holders - 1) [
-      | true ↦ λ f. let one : c.holders ≡ 1 = (falls_true c f).0 in omega (arith, one)
-      | false ↦ λ f. refl
-    ] refl
+holders_lowered first c = grind (arith, common_steps, cond, falls_true)
 
 lowered_at : (first : Option ℕ) (o : Option Count) → holders_at (option_map (lowered first) o) ≡ holders_at o - 1
 lowered_at first None = omega arith
@@ -63,48 +55,42 @@ gone_counted :
     (keys : Table Key) (attached owed : List ℕ) (es : Table Count) (first : Option ℕ) (k : ℕ)
     → IsCounted keys attached (k ∷ owed) es → IsCounted keys attached owed (alter es k (lowered first))
 gone_counted keys attached owed es first k h =
-    let fs = alter es k (lowered first) in
-    record {
-      counted = λ q s. is_some_alter es k q (lowered first) ∙ h.counted q s;
-      exact = λ q. ⊎_elim
-          (λ (e : q ≡ k).
-          subst (λ (z : ℕ). holders_at (at fs z) ≡ times z owed + (times z attached + times z (all_links keys)))
-          (sym e)
-          (let was = h.exact k in
-          let less : holders_at (at fs k) ≡ holders_at (at es k) - 1 =
-          ap holders_at (at_alter_same es k (lowered first)) ∙ lowered_at first (at es k) in
-          let one = times-same k owed in
-          omega (arith, was, less, one)))
-          (λ (n : q ≡ k → ⊥). ap holders_at (alter_other es k q (lowered first) n)
-          ∙ (h.exact q ∙ ap (λ m. m + (times q attached + times q (all_links keys))) (times-other q k owed n)))
-          (cases_eq q k);
-    }
+    grind (
+      arith,
+      common_steps,
+      is_some_alter,
+      ⊎_elim,
+      at_alter_same,
+      lowered_at,
+      times-same,
+      alter_other,
+      times-other,
+      cases_eq,
+    )
 
 pub gone_all_counted :
     (keys : Table Key) (attached ks : List ℕ) (t : Chained) → IsCounted keys attached ks t.counts
     → IsCounted keys attached [] (gone_all t ks).counts
 gone_all_counted keys attached [] t h = h
 gone_all_counted keys attached (k ∷ ks) t h =
-    gone_all_counted keys attached ks (gone t k) (gone_counted keys attached ks t.counts t.first k h)
+    grind (
+      arith,
+      common_steps,
+      gone_counted,
+      gone_all_counted keys attached ks (gone t k) (gone_counted keys attached ks t.counts t.first k h),
+    )
 
 rested_at : (o : Option Count) → holders_at (option_map rested o) ≡ holders_at o
 rested_at None = refl
 rested_at (Some c) = refl
 
 rested_same : (es : Table Count) (k q : ℕ) → holders_at (at (alter es k rested) q) ≡ holders_at (at es q)
-rested_same es k q = ⊎_elim
-    (λ (s : q ≡ k). subst (λ (z : ℕ). holders_at (at (alter es k rested) z) ≡ holders_at (at es z)) (sym s)
-    (ap holders_at (at_alter_same es k rested) ∙ rested_at (at es k)))
-    (λ (n : q ≡ k → ⊥). ap holders_at (alter_other es k q rested n))
-    (cases_eq q k)
+rested_same es k q = grind (arith, common_steps, ⊎_elim, at_alter_same, rested_at, alter_other, cases_eq)
 
 pub rested_counted :
     (keys : Table Key) (attached owed : List ℕ) (es : Table Count) (k : ℕ) → IsCounted keys attached owed es
     → IsCounted keys attached owed (alter es k rested)
-rested_counted keys attached owed es k h = record {
-  counted = λ q s. is_some_alter es k q rested ∙ h.counted q s;
-  exact = λ q. rested_same es k q ∙ h.exact q;
-}
+rested_counted keys attached owed es k h = grind (arith, common_steps, is_some_alter, rested_same)
 
 given-links : (o : Option Key) → given_by (λ key. links_of_content key.content) o ≡ links_of_key o
 given-links None = refl

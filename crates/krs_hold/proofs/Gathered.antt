@@ -6,6 +6,7 @@ use Rattle.std.proofs.lemmas.Option.{none-some, same_Some}
 use Rattle.krs_model.specs.Table.{alter, at, put, Table, without}
 use Rattle.krs_hold.specs.Tally.{times}
 use Rattle.krs_hold.proofs.Times.{times-append}
+use Rattle.std.proofs.lemmas.Grind.{common_steps}
 
 -- what each entry gives, one after the other: the attachments of contexts, or the links of keys
 abbrev pub gathered : {X : Type 0} → (X → List ℕ) → Table X → List ℕ
@@ -40,16 +41,7 @@ pub times-without :
     → times q (given_by g (at es k)) + times q (gathered g (without es k)) ≡ times q (gathered g es)
 times-without g [] k q = omega arith
 times-without g (e ∷ es) k q =
-    let was = times-append q (g e.1) (gathered g es) in
-    elim (is_at (nat_cmp k) e.0) as (λ b.
-    times q (given_by g (cond b (Some e.1) (at es k))) + times q (gathered g (cond b es (e ∷ without es k)))
-    ≡ times q (g e.1 ++ gathered g es)) [
-      | true ↦ sym was
-      | false ↦
-          let later = times-without g es k q in
-          let now = times-append q (g e.1) (gathered g (without es k)) in
-          omega (arith, later, was, now)
-    ]
+    grind (arith, common_steps, times-append, gathered, nat_cmp, given_by, cond, times-without g es k q)
 
 -- an entry that is changed
 pub times-alter :
@@ -79,14 +71,4 @@ pub times-filter :
     ≡ times q (gathered g es)
 times-filter g stays [] q = omega arith
 times-filter g stays (e ∷ es) q =
-    let was = times-append q (g e.1) (gathered g es) in
-    let later = times-filter g stays es q in
-    elim (stays e) as (λ b.
-    times q (gathered g (cond b (e ∷ filter stays es) (filter stays es)))
-    + times q (gathered g (cond (not b) (e ∷ filter (λ d. not (stays d)) es) (filter (λ d. not (stays d)) es)))
-    ≡ times q (g e.1 ++ gathered g es)) [
-      | true ↦ let now = times-append q (g e.1) (gathered g (filter stays es)) in omega (arith, was, later, now)
-      | false ↦
-          let now = times-append q (g e.1) (gathered g (filter (λ d. not (stays d)) es)) in
-          omega (arith, was, later, now)
-    ]
+    grind (arith, common_steps, times-append, gathered, cond, filter, times-filter g stays es q)

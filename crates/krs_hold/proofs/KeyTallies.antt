@@ -2,7 +2,7 @@
 use Rattle.std.proofs.Common.{[], ◌++◌, ◌+◌, ◌==◌, ◌||◌, ◌∙◌, ◌∷◌, ◌≡◌, ap, arith, cond, eqb-true, false, find, IsSome}
 use Rattle.std.proofs.Common.{List, None, not, Option, option_map, option_to_list, refl, Some, subst, sym, true}
 use Rattle.std.proofs.{Common.{true≢false, ℕ}, lemmas.Option.same_Some}
-use Rattle.krs_types.specs.{Name.same_name, declared.name.Name.Name}
+use Rattle.krs_types.specs.{declared.name.Name.Name}
 use Rattle.krs_model.specs.{Levels.is_in, Possession.links_of_content, Table.{alter, at, put, Table}}
 use Rattle.krs_model.proofs.Tables.Changes.{alter_map, at_map, put_map}
 use Rattle.krs_links.specs.Links.{link_put, LinkList, serial_named, serials, unlinked_key}
@@ -16,6 +16,7 @@ use Rattle.krs_hold.proofs.Tallies.{tallied_hold, tallied_let_go, tallied_let_go
 use Rattle.krs_hold.proofs.Times.{times-append, times-cons}
 use Rattle.krs_keys.specs.declared.key.Change.TheVariants as change
 use Rattle.krs_model.specs.State as model
+use Rattle.std.proofs.lemmas.Grind.{common_steps}
 
 -- a link more: of its own serial one more, and of what it displaces one less
 times-linked :
@@ -24,22 +25,7 @@ times-linked :
     ≡ times q (serial ∷ []) + times q (serials links)
 times-linked [] name serial q = refl
 times-linked (link ∷ links) name serial q =
-    let was = times-cons q link.1 (serials links) in
-    elim (same_name name link.0) as (λ b.
-    times q (serials (cond b ((name, serial) ∷ links) (link ∷ link_put links name serial)))
-    + times q (option_to_list (option_map (λ (l : Name × ℕ). l.1)
-    (cond b (Some link) (find (λ (l : Name × ℕ). same_name name l.0) links))))
-    ≡ times q (serial ∷ []) + times q (link.1 ∷ serials links)) [
-      | true ↦
-          let now = times-cons q serial (serials links) in
-          let one = times-cons q serial [] in
-          let gone = times-cons q link.1 [] in
-          omega (arith, was, now, one, gone)
-      | false ↦
-          let now = times-cons q link.1 (serials (link_put links name serial)) in
-          let later = times-linked links name serial q in
-          omega (arith, was, now, later)
-    ]
+    grind (arith, common_steps, times-cons, cond, option_to_list, option_map, find, times-linked links name serial q)
 
 -- a link less: a key is linked once
 times-keyless :
@@ -70,9 +56,7 @@ times-keyless names serial q (link ∷ links) named there =
 shown_alter :
     (keys : Table Key) (k : ℕ) (f : Key → Key) (v : Key) → at keys k ≡ Some v
     → shown (alter keys k f) ≡ alter (shown keys) k (λ x. seen (f v))
-shown_alter keys k f v there =
-    alter_map seen keys k f (λ x. seen (f v)) (λ w here. ap (λ (z : Key). seen (f z)) (same_Some w v (sym here
-    ∙ there)))
+shown_alter keys k f v there = grind (arith, common_steps, alter_map, same_Some)
 
 -- a key that is changed: what it links less is owed, and what it links more was
 pub tallied_alter :
@@ -130,13 +114,7 @@ pub tallied_unlink :
     → is_in serial (serials (named_links_of_content v.content)) ≡ true → IsTallied (shown keys) attached [] numbers
     → IsTallied (shown (alter keys ring (without_key serial))) attached [] (one_less serial numbers)
 tallied_unlink keys attached numbers names ring serial v there named link_put h =
-    let after = alter keys ring (without_key serial) in
-    tallied_let_go (shown after) attached [] numbers serial
-    (tallied_alter keys attached [] (serial ∷ []) numbers ring (without_key serial) v there
-    (λ q.
-    let counts = times-keyless names serial q (named_links_of_content v.content) named link_put in
-    let left = ap (λ (links : LinkList). times q (serials links)) (links-keyless serial v.content) in
-    omega (arith, counts, left)) h)
+    grind (arith, common_steps, tallied_let_go, tallied_alter, times-keyless, links-keyless)
 
 paid_links :
     (payload : List ℕ) (content : Content) → named_links_of_content (paid_with payload content)
@@ -156,15 +134,12 @@ times-changed :
     (c : Change) (v : Key) (q : ℕ)
     → times q (serials (named_links_of_content v.content))
     ≡ times q (taken_by c v.content) + times q (serials (named_links_of_content (changed c v).content))
-times-changed (change.Payload payload) v q =
-    let same = ap (λ (ls : LinkList). times q (serials ls)) (paid_links payload v.content) in omega (arith, same)
+times-changed (change.Payload payload) v q = grind (arith, common_steps, paid_links)
 times-changed (change.Mask mask) v q = omega arith
 times-changed (change.Owner uid gid) v q = omega arith
 times-changed (change.Expiry expiry) v q = omega arith
-times-changed change.Revoked v q =
-    let none = ap (λ (ls : LinkList). times q (serials ls)) (emptied_links v.content) in omega (arith, none)
-times-changed change.Cleared v q =
-    let none = ap (λ (ls : LinkList). times q (serials ls)) (cleared_links v.content) in omega (arith, none)
+times-changed change.Revoked v q = grind (arith, common_steps, emptied_links)
+times-changed change.Cleared v q = grind (arith, common_steps, cleared_links)
 times-changed change.Closed v q = omega arith
 
 -- `let_go_all` of what the change takes out, and `set`

@@ -1,20 +1,19 @@
 -- Laws of tables: what is at another number after a change, a value that is written back, and one that is changed
 -- where it was put.
 use Rattle.std.proofs.Common.{[], ⊎_elim, ◌∙◌, ◌∷◌, ◌≡◌, ap, cond, false, is_some, nat_cmp, None, Option, option_map}
-use Rattle.std.proofs.Common.{refl, Some, subst, sym, true, ℕ}
+use Rattle.std.proofs.Common.{refl, Some, sym, ℕ}
 use Rattle.std.specs.BTreeMap.{is_at}
 use Rattle.std.specs.{Map.set_value, Ordering.match_ordering, declared.cmp.Ordering.TheVariants.{Equal, Greater, Less}}
 use Rattle.std.proofs.lemmas.Bool.{cases_eq}
 use Rattle.krs_model.specs.Table.{alter, at, put, Table, without}
 use Rattle.krs_model.proofs.Tables.Changes.{alter_some, at_alter_other, at_alter_same, at_put_other, is_at_same}
 use Rattle.krs_model.proofs.Tables.Changes.{same_at}
+use Rattle.std.proofs.Common.{arith}
+use Rattle.std.proofs.lemmas.Grind.{common_steps}
 
 -- a number is not at another
 pub other_at : (q k : ℕ) → (q ≡ k → ⊥) → is_at (nat_cmp q) k ≡ false
-other_at q k h = elim (is_at (nat_cmp q) k) as (λ b. is_at (nat_cmp q) k ≡ b → b ≡ false) [
-  | true ↦ λ t. absurd (h (same_at q k t))
-  | false ↦ λ t. refl
-] refl
+other_at q k h = grind (arith, common_steps, nat_cmp, same_at)
 
 pub alter_other : {X : Type 0} (es : Table X) (k q : ℕ) (f : X → X) → (q ≡ k → ⊥) → at (alter es k f) q ≡ at es q
 alter_other es k q f n = at_alter_other es k q f (other_at q k n)
@@ -24,13 +23,7 @@ put_other es k q v n = at_put_other es k q v (other_at q k n)
 
 pub without_other : {X : Type 0} (es : Table X) (k q : ℕ) → (q ≡ k → ⊥) → at (without es k) q ≡ at es q
 without_other [] k q n = refl
-without_other (e ∷ es) k q n =
-    elim (is_at (nat_cmp k) e.0) as (λ b. is_at (nat_cmp k) e.0 ≡ b
-    → at (cond b es (e ∷ without es k)) q ≡ cond (is_at (nat_cmp q) e.0) (Some e.1) (at es q)) [
-      | true ↦ λ t.
-          let no : is_at (nat_cmp q) e.0 ≡ false = other_at q e.0 (λ s. n (s ∙ sym (same_at k e.0 t))) in rw no refl
-      | false ↦ λ t. ap (λ o. cond (is_at (nat_cmp q) e.0) (Some e.1) o) (without_other es k q n)
-    ] refl
+without_other (e ∷ es) k q n = grind (arith, common_steps, nat_cmp, cond, other_at, same_at, without_other es k q n)
 
 -- what a change at a number makes of the value there
 pub alter_to :
@@ -50,12 +43,7 @@ is_some_map f (Some x) = refl
 -- a change leaves what is there there
 pub is_some_alter :
     {X : Type 0} (es : Table X) (k q : ℕ) (f : X → X) → is_some (at (alter es k f) q) ≡ is_some (at es q)
-is_some_alter es k q f =
-    ⊎_elim
-    (λ (s : q ≡ k). subst (λ (z : ℕ). is_some (at (alter es k f) z) ≡ is_some (at es z)) (sym s)
-    (ap is_some (at_alter_same es k f) ∙ is_some_map f (at es k)))
-    (λ (n : q ≡ k → ⊥). ap is_some (alter_other es k q f n))
-    (cases_eq q k)
+is_some_alter es k q f = grind (arith, common_steps, ⊎_elim, is_some, at_alter_same, is_some_map, alter_other, cases_eq)
 
 -- what is changed where it was put
 pub alter_put : {X : Type 0} (es : Table X) (k : ℕ) (v : X) (f : X → X) → alter (put es k v) k f ≡ put es k (f v)

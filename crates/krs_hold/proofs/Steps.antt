@@ -10,6 +10,7 @@ use Rattle.krs_hold.proofs.Chains.{dropped_chained, first_waits, gone_all_chaine
 use Rattle.krs_hold.proofs.{Chains.{weight_gone_all, weight_rested, weight_without}, Exact.counted_from}
 use Rattle.krs_hold.proofs.Exact.{dropped_counted, gone_all_counted, IsCounted, rested_counted, tallied_from}
 use Rattle.krs_model.specs.State as model
+use Rattle.std.proofs.lemmas.Grind.{common_steps}
 
 -- what `rest` leaves: the first of the chain is taken out of it
 pub record IsRested (es : Table Count) (k : ℕ) (fs : Table Count) (next : Option ℕ) : Type 0 where
@@ -20,9 +21,7 @@ pub record IsRested (es : Table Count) (k : ℕ) (fs : Table Count) (next : Opti
 pub rest_weighs :
     (es : Table Count) (k : ℕ) (fs : Table Count) (next : Option ℕ) → IsRested es k fs next
     → total_weight fs < total_weight es
-rest_weighs es k fs next r =
-    subst (λ (zs : Table Count). total_weight zs < total_weight es) (sym r.counts)
-    (weight_rested es k (first_waits es k r.chained))
+rest_weighs es k fs next r = grind (arith, common_steps, weight_rested, first_waits)
 
 pub kept_chain :
     (es : Table Count) (k : ℕ) (fs : Table Count) (next : Option ℕ) → IsRested es k fs next
@@ -38,10 +37,7 @@ kept_chain es k fs next r held =
 pub kept_exact :
     (keys : Table Key) (attached : List ℕ) (es : Table Count) (k : ℕ) (fs : Table Count) (next : Option ℕ)
     → IsRested es k fs next → AreExact keys (numbers_of es) attached → AreExact keys (numbers_of fs) attached
-kept_exact keys attached es k fs next r h =
-    subst (λ (zs : Table Count). AreExact keys (numbers_of zs) attached) (sym r.counts)
-    (tallied_from (shown keys) attached [] (alter es k rested)
-    (rested_counted (shown keys) attached [] es k (counted_from (shown keys) attached [] es h)))
+kept_exact keys attached es k fs next r h = grind (arith, common_steps, tallied_from, rested_counted, counted_from)
 
 -- what `drop_key` leaves of the counts
 pub record IsLess (keys : Table Key) (k : ℕ) (fs : Table Count) (next : Option ℕ) (u : Chained) : Type 0 where
@@ -51,14 +47,7 @@ pub record IsLess (keys : Table Key) (k : ℕ) (fs : Table Count) (next : Option
 pub dropped_chain :
     (keys : Table Key) (es : Table Count) (k : ℕ) (fs : Table Count) (next : Option ℕ) (u : Chained)
     → IsRested es k fs next → IsLess keys k fs next u → IsChained u.counts u.first
-dropped_chain keys es k fs next u r l =
-    let start : IsChained (without fs k) next =
-    subst (λ (zs : Table Count). IsChained (without zs k) next) (sym r.counts)
-    (subst (λ (o : Option ℕ). IsChained (without (alter es k rested) k) o) (sym r.after)
-    (dropped_chained (alter es k rested) (next_at (at es k)) k (rest_popped es k r.chained)
-    (ap (λ (zs : Table Count). at (without zs k) k) (sym r.counts) ∙ l.no_count))) in
-    subst (λ (v : Chained). IsChained v.counts v.first) l.counts
-    (gone_all_chained (links_of_key (at (shown keys) k)) (record { counts = without fs k; first = next }) start)
+dropped_chain keys es k fs next u r l = grind (arith, common_steps, dropped_chained, rest_popped, gone_all_chained)
 
 pub dropped_weighs :
     (keys : Table Key) (es : Table Count) (k : ℕ) (fs : Table Count) (next : Option ℕ) (u : Chained)

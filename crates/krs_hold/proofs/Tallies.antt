@@ -1,12 +1,13 @@
 -- What each change of keys, attachments or numbers owes the others.
-use Rattle.std.proofs.Common.{[], ⊎_elim, ◌++◌, ◌+◌, ◌-◌, ◌∙◌, ◌∷◌, ◌≡◌, ◌≤◌, ap, arith, cond, false, is_some, IsSome}
-use Rattle.std.proofs.Common.{List, None, Option, option_map, refl, Some, subst, sym, true, true≢false, unwrap_or, ℕ}
+use Rattle.std.proofs.Common.{[], ⊎_elim, ◌++◌, ◌+◌, ◌-◌, ◌∙◌, ◌∷◌, ◌≡◌, ◌≤◌, ap, arith, cond, is_some, IsSome}
+use Rattle.std.proofs.Common.{List, None, Option, option_map, refl, Some, subst, sym, true≢false, unwrap_or, ℕ}
 use Rattle.std.proofs.lemmas.Bool.{cases_eq}
 use Rattle.krs_model.specs.{Possession.links_of_content, State.Key, Table.{alter, at, put, Table}}
 use Rattle.krs_model.proofs.Tables.Changes.{at_alter_same, at_put_same}
 use Rattle.krs_hold.specs.Tally.{all_less, all_links, IsTallied, number_at, one_less, one_more, times, with_number}
 use Rattle.krs_hold.proofs.Gathered.{times-alter, times-put}
 use Rattle.krs_hold.proofs.{Places.{alter_other, is_some_alter, put_other}, Times.{times-other, times-same}}
+use Rattle.std.proofs.lemmas.Grind.{common_steps}
 
 number_map : (f : ℕ → ℕ) (o : Option ℕ) → IsSome o → unwrap_or (option_map f o) 0 ≡ f (unwrap_or o 0)
 number_map f None h = absurd (true≢false (sym h))
@@ -37,23 +38,14 @@ pub tallied_hold :
     (keys : Table Key) (attached owed : List ℕ) (numbers : Table ℕ) (k : ℕ) → IsSome (at numbers k)
     → IsTallied keys attached owed numbers → IsTallied keys attached (k ∷ owed) (one_more k numbers)
 tallied_hold keys attached owed numbers k there h =
-    let here : number_at (one_more k numbers) k ≡ number_at numbers k + 1 =
-    ap (λ (o : Option ℕ). unwrap_or o 0) (at_alter_same numbers k (λ n. n + 1))
-    ∙ number_map (λ n. n + 1) (at numbers k) there in
-    changed_at keys attached owed (k ∷ owed) numbers k (λ n. n + 1)
-    (let was = h.exact k in let one = times-same k owed in omega (arith, here, was, one))
-    (λ q n. sym (times-other q k owed n)) h
+    grind (arith, common_steps, unwrap_or, at_alter_same, number_map, changed_at, times-same, times-other)
 
 -- one holder less takes off what was owed
 pub tallied_let_go :
     (keys : Table Key) (attached owed : List ℕ) (numbers : Table ℕ) (k : ℕ)
     → IsTallied keys attached (k ∷ owed) numbers → IsTallied keys attached owed (one_less k numbers)
 tallied_let_go keys attached owed numbers k h =
-    let here : number_at (one_less k numbers) k ≡ number_at numbers k - 1 =
-    ap (λ (o : Option ℕ). unwrap_or o 0) (at_alter_same numbers k (λ n. n - 1)) ∙ number_less (at numbers k) in
-    changed_at keys attached (k ∷ owed) owed numbers k (λ n. n - 1)
-    (let was = h.exact k in let one = times-same k owed in omega (arith, here, was, one))
-    (λ q n. times-other q k owed n) h
+    grind (arith, common_steps, unwrap_or, at_alter_same, number_less, changed_at, times-same, times-other)
 
 -- and so for each of a list
 pub tallied_let_go_all :
@@ -61,49 +53,31 @@ pub tallied_let_go_all :
     → IsTallied keys attached owed (all_less ks numbers)
 tallied_let_go_all keys attached [] owed numbers h = h
 tallied_let_go_all keys attached (k ∷ ks) owed numbers h =
-    tallied_let_go_all keys attached ks owed (one_less k numbers)
-    (tallied_let_go keys attached (ks ++ owed) numbers k h)
+    grind (
+      arith,
+      common_steps,
+      tallied_let_go,
+      tallied_let_go_all keys attached ks owed (one_less k numbers) (tallied_let_go keys attached (ks ++ owed)
+          numbers k h),
+    )
 
 -- room changes no number
 pub number_with : (numbers : Table ℕ) (k q : ℕ) → number_at (with_number k numbers) q ≡ number_at numbers q
 number_with numbers k q =
-    elim (at numbers k) as (λ o. at numbers k ≡ o
-    → number_at (cond (is_some o) numbers (put numbers k 0)) q ≡ number_at numbers q) [
-      | Some n ↦ λ e. refl
-      | None ↦ λ e. ⊎_elim
-          (λ (s : q ≡ k). subst (λ (z : ℕ). number_at (put numbers k 0) z ≡ number_at numbers z) (sym s)
-          (ap (λ (o : Option ℕ). unwrap_or o 0) (at_put_same numbers k 0)
-          ∙ ap (λ (o : Option ℕ). unwrap_or o 0) (sym e)))
-          (λ (n : q ≡ k → ⊥). ap (λ (o : Option ℕ). unwrap_or o 0) (put_other numbers k q 0 n)) (cases_eq q k)
-    ] refl
+    grind (arith, common_steps, cond, is_some, ⊎_elim, unwrap_or, at_put_same, put_other, cases_eq)
 
 pub some_with : (numbers : Table ℕ) (k : ℕ) → IsSome (at (with_number k numbers) k)
-some_with numbers k =
-    elim (is_some (at numbers k)) as (λ b. is_some (at numbers k) ≡ b
-    → is_some (at (cond b numbers (put numbers k 0)) k) ≡ true) [
-      | true ↦ λ e. e
-      | false ↦ λ e. ap is_some (at_put_same numbers k 0)
-    ] refl
+some_with numbers k = grind (arith, common_steps, is_some, cond, at_put_same)
 
 pub more_with :
     (numbers : Table ℕ) (k q : ℕ) → IsSome (at numbers q) → IsSome (at (with_number k numbers) q)
-more_with numbers k q there = ⊎_elim
-    (λ (s : q ≡ k). subst (λ (z : ℕ). IsSome (at (with_number k numbers) z)) (sym s) (some_with numbers k))
-    (λ (n : q ≡ k → ⊥).
-    elim (is_some (at numbers k)) as (λ b. is_some (at (cond b numbers (put numbers k 0)) q) ≡ true) [
-      | true ↦ there
-      | false ↦ ap is_some (put_other numbers k q 0 n) ∙ there
-    ])
-    (cases_eq q k)
+more_with numbers k q there = grind (arith, common_steps, ⊎_elim, some_with, is_some, cond, put_other, cases_eq)
 
 -- room for a further count changes no number
 pub tallied_with :
     (keys : Table Key) (attached owed : List ℕ) (numbers : Table ℕ) (k : ℕ) → IsTallied keys attached owed numbers
     → IsTallied keys attached owed (with_number k numbers)
-tallied_with keys attached owed numbers k h = record {
-  counted = λ q s. more_with numbers k q (h.counted q s);
-  exact = λ q. number_with numbers k q ∙ h.exact q;
-}
+tallied_with keys attached owed numbers k h = grind (arith, common_steps, more_with, number_with)
 
 -- a new key, for which there is room: what it links was owed
 pub tallied_put :
@@ -156,16 +130,8 @@ all_less-append (x ∷ xs) ys numbers = all_less-append xs ys (one_less x number
 
 -- one holder more: at its own serial, and at another
 pub number_more : (numbers : Table ℕ) (k : ℕ) → number_at (one_more k numbers) k ≤ number_at numbers k + 1
-number_more numbers k =
-    let here : number_at (one_more k numbers) k ≡ unwrap_or (option_map (λ n. n + 1) (at numbers k)) 0 =
-    ap (λ (o : Option ℕ). unwrap_or o 0) (at_alter_same numbers k (λ n. n + 1)) in
-    elim (at numbers k) as (λ o. number_at (one_more k numbers) k ≡ unwrap_or (option_map (λ n. n + 1) o) 0
-    → number_at (one_more k numbers) k ≤ unwrap_or o 0 + 1) [
-      | None ↦ λ e. omega (arith, e)
-      | Some n ↦ λ e. omega (arith, e)
-    ] here
+number_more numbers k = grind (arith, common_steps, unwrap_or, option_map, at_alter_same)
 
 pub number_other :
     (numbers : Table ℕ) (k q : ℕ) → (q ≡ k → ⊥) → number_at (one_more k numbers) q ≡ number_at numbers q
-number_other numbers k q apart =
-    ap (λ (o : Option ℕ). unwrap_or o 0) (alter_other numbers k q (λ n. n + 1) apart)
+number_other numbers k q apart = grind (arith, common_steps, unwrap_or, alter_other)

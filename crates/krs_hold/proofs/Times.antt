@@ -5,12 +5,10 @@ use Rattle.std.proofs.lemmas.{Bool.Decides.nat_tests, List.Sums.{sum_by-append, 
 use Rattle.krs_model.specs.Levels.{is_in}
 use Rattle.krs_model.proofs.Reach.Levels.{or_true, same_is}
 use Rattle.krs_hold.specs.Tally.{times}
+use Rattle.std.proofs.lemmas.Grind.{common_steps}
 
 pub other_is : (x k : ℕ) → (x ≡ k → ⊥) → (x == k) ≡ false
-other_is x k h = elim (x == k) as (λ b. (x == k) ≡ b → b ≡ false) [
-  | true ↦ λ t. absurd (h (grind (arith, nat_tests)))
-  | false ↦ λ t. refl
-] refl
+other_is x k h = grind (arith, common_steps, nat_tests)
 
 pub in_head : (k : ℕ) (ks : List ℕ) → is_in k (k ∷ ks) ≡ true
 in_head k ks = rw (same_is k k refl) refl
@@ -31,8 +29,7 @@ pub times-same : (k : ℕ) (xs : List ℕ) → times k (k ∷ xs) ≡ 1 + times 
 times-same k xs = times-cons k k xs ∙ ap (λ b. cond b 1 0 + times k xs) (same_is k k refl)
 
 pub times-other : (q k : ℕ) (xs : List ℕ) → (q ≡ k → ⊥) → times q (k ∷ xs) ≡ times q xs
-times-other q k xs n =
-    times-cons q k xs ∙ (ap (λ b. cond b 1 0 + times q xs) (other_is k q (λ s. n (sym s))) ∙ omega arith)
+times-other q k xs n = grind (arith, common_steps, times-cons, other_is)
 
 pub times-in : (k : ℕ) (xs : List ℕ) → 0 < times k xs → is_in k xs ≡ true
 times-in k [] h = absurd (omega arith)

@@ -2,18 +2,14 @@ use Rattle.std.proofs.Common.{◌∙◌, ◌≡◌, ◌≤◌, ap, arith, sym, t
 use Rattle.krs_keys.specs.Hashed.{by_serial}
 use Rattle.krs_hold.specs.Chain.{Chained}
 use Rattle.krs_hold.proofs.{Anchoring.spares_all, Steps.{dropped_chain, dropped_exact, dropped_spares, dropped_weighs}}
-use Rattle.krs_hold.proofs.Steps.{IsRested, kept_chain, kept_exact, rest_weighs}
+use Rattle.krs_hold.proofs.Steps.{kept_chain, kept_exact, rest_weighs}
 use Rattle.krs_hold.proofs.WatchedKeys.{unwatched_goes}
 use Rattle.krs_hold.proofs.cascade.look.Goals.{else-has, then-has}
 use Rattle.krs_hold.proofs.cascade.look.Goals as goal
+use Rattle.std.proofs.lemmas.Grind.{common_steps}
 
 pub returns-then-holders-gt0-clause-chained : goal.returns-then-holders-gt0-clause-chained
-returns-then-holders-gt0-clause-chained g c =
-    let r : IsRested _ _ _ _ =
-    record { chained = c.requires; counts = c.rest-next.ensures.counts; after = c.rest-next.ensures.next } in
-    let held = c.holders.ensures in
-    let some = c.if-holders-gt0.true in
-    kept_chain _ _ _ _ r (omega (arith, held, some))
+returns-then-holders-gt0-clause-chained g c = grind (arith, common_steps, kept_chain)
 
 pub returns-then-holders-gt0-clause-less : goal.returns-then-holders-gt0-clause-less
 returns-then-holders-gt0-clause-less g c =

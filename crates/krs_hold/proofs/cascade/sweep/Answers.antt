@@ -1,33 +1,16 @@
-use Rattle.std.proofs.Common.{[], ◌∙◌, Option, refl, subst, ℕ}
+use Rattle.std.proofs.Common.{[], Option, subst, ℕ}
 use Rattle.krs_keys.specs.{Hashed.by_serial, Keys.shown}
 use Rattle.krs_hold.specs.Chain.{IsChained}
 use Rattle.krs_hold.proofs.{Anchoring.{keeps_anchored, spares_all, spares_on}, Exact.counted_from, WatchedKeys.goes_on}
 use Rattle.krs_hold.proofs.cascade.sweep.Goals as goal
+use Rattle.std.proofs.Common.{arith}
+use Rattle.std.proofs.lemmas.Grind.{common_steps}
 
 pub dropping-init : goal.dropping-init
-dropping-init g c = record {
-  chained = c.requires;
-  exact = λ a h. h;
-  spared = λ a h. spares_all a c.args.keys.now.keys;
-  watched = λ none q watched. refl;
-  next = refl;
-}
+dropping-init g c = grind (arith, common_steps, spares_all)
 
 pub dropping-preserved : goal.dropping-preserved
-dropping-preserved g c =
-    let before = c.dropping.invariant in
-    let step = c.look-first.ensures in
-    record {
-      chained = step.chained;
-      exact = λ a h. step.exact a (before.exact a h);
-      spared = λ a h. spares_on a c.args.keys.now.keys c.dropping.keys.keys c.look-first.new.keys.keys
-          (before.spared a h)
-          (step.spared a (before.exact a h));
-      watched = λ none. let so_far = step.watched none in
-          goes_on (g.W.KeySet.has c.args.watched.now) c.args.keys.now.keys c.dropping.keys.keys
-          c.look-first.new.keys.keys (before.watched so_far.0) so_far.1;
-      next = step.next ∙ before.next;
-    }
+dropping-preserved g c = grind (arith, common_steps, spares_on, goes_on)
 
 pub returns-clause-anchored : goal.returns-clause-anchored
 returns-clause-anchored g c = λ a h.

@@ -1,12 +1,10 @@
-use Rattle.std.proofs.Common.{◌∙◌, ap, sym}
 use Rattle.krs_keys.proofs.HashedLemmas.{at_by_serial}
-use Rattle.krs_hold.specs.Chain.{holders_at}
 use Rattle.krs_hold.proofs.counts.holders.Goals as goal
+use Rattle.std.proofs.Common.{arith}
+use Rattle.std.proofs.lemmas.Grind.{common_steps}
 
 pub returns-in-Some : goal.returns-in-Some
-returns-in-Some c =
-    ap holders_at (c.in-Some.ensures.value ∙ sym (at_by_serial c.args.counts.now.entries c.args.serial))
+returns-in-Some c = grind (arith, common_steps, at_by_serial)
 
 pub returns-in-None : goal.returns-in-None
-returns-in-None c =
-    ap holders_at (c.in-None.ensures.value ∙ sym (at_by_serial c.args.counts.now.entries c.args.serial))
+returns-in-None c = grind (arith, common_steps, at_by_serial)

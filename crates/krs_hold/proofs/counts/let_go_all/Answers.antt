@@ -1,4 +1,4 @@
-use Rattle.std.proofs.Common.{◌+◌, ◌<◌, ◌∙◌, ◌∷◌, ◌≡◌, add-one, ap, arith, drop, length, List, Option, refl, slice_get}
+use Rattle.std.proofs.Common.{◌+◌, ◌<◌, ◌∙◌, ◌∷◌, ◌≡◌, add-one, arith, drop, length, List, Option, refl, slice_get}
 use Rattle.std.proofs.{Common.{Some, sym, ℕ}, Math.Seq.drop-cons, lemmas.List.length-map}
 use Rattle.std.proofs.lemmas.Option.{get_or_from_slice_get, none-some, slice_get-get_or, slice_get_within}
 use Rattle.krs_model.specs.Table.{Table}
@@ -7,6 +7,7 @@ use Rattle.krs_keys.specs.Hashed.{by_serial}
 use Rattle.krs_hold.specs.{Chain.{Chained, gone, gone_all}, declared.counts.Count.Count}
 use Rattle.krs_hold.proofs.counts.let_go_all.Goals.{in-Some, in_default}
 use Rattle.krs_hold.proofs.counts.let_go_all.Goals as goal
+use Rattle.std.proofs.lemmas.Grind.{common_steps}
 
 -- what is left from a place on begins with what stands there
 next_left : (xs : List ℕ) (i x : ℕ) → slice_get xs i ≡ Some x → drop i xs ≡ x ∷ drop (i + 1) xs
@@ -16,9 +17,7 @@ next_left xs i x h =
 -- and the next holder goes first
 passed : (t u v : Chained) (xs : List ℕ) (i x : ℕ) → slice_get xs i ≡ Some x → gone_all t (drop i xs) ≡ v
     → u ≡ gone t x → gone_all u (drop (i + 1) xs) ≡ v
-passed t u v xs i x h was is =
-    ap (λ (z : Chained). gone_all z (drop (i + 1) xs)) is
-    ∙ (sym (ap (gone_all t) (next_left xs i x h)) ∙ was)
+passed t u v xs i x h was is = grind (arith, common_steps, next_left)
 
 abbrev chain_of : Table Count → Option ℕ → Chained
 chain_of a x = record { counts = a; first = x }

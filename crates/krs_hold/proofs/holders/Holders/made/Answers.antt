@@ -4,14 +4,11 @@ use Rattle.krs_keys.proofs.HashedLemmas.{at_by_serial, by_serial_put}
 use Rattle.krs_hold.specs.Tally.{with_number}
 use Rattle.krs_hold.proofs.Numbers.{chain_made, no_number, number_made, number_stays}
 use Rattle.krs_hold.proofs.holders.Holders.made.Goals as goal
+use Rattle.std.proofs.Common.{arith}
+use Rattle.std.proofs.lemmas.Grind.{common_steps}
 
 pub returns-then-contains_key-clause-ok : goal.returns-then-contains_key-clause-ok
-returns-then-contains_key-clause-ok c =
-    let es = c.self.inside.counts.entries in
-    let there = ap is_some (at_by_serial es c.number-serial.result)
-    ∙ (sym c.contains_key.ensures ∙ c.if-contains_key.true) in
-    number_stays (by_serial es) _ c.number-serial.result c.self.view_is there
-    ∙ ap (λ k. with_number k c.args.self.now) c.number-serial.ensures
+returns-then-contains_key-clause-ok c = grind (arith, common_steps, is_some, at_by_serial, number_stays)
 
 pub invariant_of-self : goal.invariant_of-self
 invariant_of-self c =
@@ -31,9 +28,4 @@ returns-in-Ok-clause-ok c =
     ∙ ap (λ k. with_number k c.args.self.now) c.number-serial.ensures
 
 pub returns-in-Err-clause-there : goal.returns-in-Err-clause-there
-returns-in-Err-clause-there c = λ there.
-    let es = c.self.inside.counts.entries in
-    let absent = ap is_some (at_by_serial es c.number-serial.result)
-    ∙ (sym c.contains_key.ensures ∙ c.if-contains_key.false) in
-    absurd (no_number (by_serial es) c.args.self.now c.args.serial c.number-serial.result c.number-serial.ensures
-    c.self.view_is absent there)
+returns-in-Err-clause-there c = grind (arith, common_steps, is_some, at_by_serial, no_number)
