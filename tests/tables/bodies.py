@@ -35,7 +35,7 @@ def program():
 def misfits():
     """Each with why it can't be applied."""
     bodies, found = program(), {}
-    for name in sorted(os.listdir(f"{rows.TOP}/crates")):
+    for name in sorted(it.name for it in os.scandir(f"{rows.TOP}/crates") if it.is_dir()):
         crate = SimpleNamespace(name=name, folder=f"{rows.TOP}/crates/{name}")
         source = bodies.Source(crate)
         functions = {it.name for those in source.functions.values() for it in those}
