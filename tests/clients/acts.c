@@ -4,6 +4,7 @@
 #include <limits.h>
 #include <linux/capability.h>
 #include <sched.h>
+#include <sys/fsuid.h>
 #include <sys/prctl.h>
 #include <sys/syscall.h>
 
@@ -132,14 +133,20 @@ static void drop_groups(void) {
     printf(", %s %d\n", fine ? "other groups" : "failed", count_sockets());
 }
 
+/* The first of 64 groups: of large numbers, where the user namespace has them. */
+static gid_t first_group(void) {
+    setfsgid(1000000063);
+    return setfsgid(0) == 1000000063 ? 1000000000 : 60000;
+}
+
 /* group N ALL: root makes a key that a group may read; another user reads it, who has so many groups, of which that is
  * the Nth. */
 static void read_by_group(void) {
-    gid_t groups[64];
+    gid_t groups[64], first = first_group();
     char byte;
     int nth = atoi(words[0]), count = atoi(words[1]);
     key_serial_t key = add_key("user", "of a group", "x", 1, KEY_SPEC_USER_KEYRING);
-    for (int i = 0; i < 64; i++) groups[i] = 1000000000 + (gid_t)i;
+    for (int i = 0; i < 64; i++) groups[i] = first + (gid_t)i;
     bool fine = nth <= count && count <= 64 && keyctl_chown(key, (uid_t)-1, groups[nth - 1]) == 0 &&
                 keyctl_setperm(key, GROUP_MAY_READ) == 0;
     pid_t child = fork();

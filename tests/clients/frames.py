@@ -7,7 +7,7 @@ import sys
 import time
 
 import servers
-from servers import client_of, compare, conclude, keyretain, number, outcome, reply, served
+from servers import attempt, client_of, compare, conclude, keyretain, number, outcome, reply, served
 
 program = sys.argv[1]
 
@@ -199,5 +199,5 @@ def try_python_first():
 
 for case in (try_python, try_python_serials, try_python_late, try_python_first, try_all, try_late, try_first,
              try_restarted, try_child, try_statuses, try_broken):
-    case()
+    attempt(case)
 conclude()

@@ -17,7 +17,7 @@ import time
 
 import servers
 from keyretain import connection
-from servers import answer_all, client_of, compare, outcome, plain, reply, served, told_by
+from servers import answer_all, attempt, client_of, compare, outcome, plain, reply, served, told_by
 import keyretain
 
 
@@ -518,7 +518,7 @@ if __name__ == "__main__":
                  try_large_ahead, try_too_far, try_answered_then_gone, try_two_at_once, try_deadlines,
                  try_one_look, try_backlog, try_nonsense, try_listings, try_values, try_pickled, try_standard,
                  try_reused, try_pipe_signal, try_words):
-        case()
+        attempt(case)
     try_every_step("an ask", lambda client: client.read(1, 5))
     try_every_step("asks sent ahead", ahead)
     servers.conclude()

@@ -13,7 +13,7 @@ from contextlib import contextmanager, suppress
 
 import daemons
 import servers
-from servers import compare, in_child, keyretain, outcome, skipped, told_by
+from servers import attempt, compare, in_child, keyretain, outcome, skipped, told_by
 
 OWN, DAEMON, OTHER = os.geteuid(), 65533, 65534  # uids
 places = getattr(keyretain, "places", keyretain)
@@ -325,5 +325,5 @@ if __name__ == "__main__":
         cases += [try_found, try_found_root, try_effective, try_another_runtime_directory, try_closed,
                   try_named, try_unknown, try_system, try_set_uid, try_capabilities]
     for case in cases:
-        case()
+        attempt(case)
     servers.conclude()

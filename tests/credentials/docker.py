@@ -3,7 +3,7 @@ of its README and of its package `credentials`, without docker."""
 import json
 import os
 
-from helpers import compare, conclude, daemon, helper, keepers, keyretain, looking, run, until
+from helpers import attempt, compare, conclude, daemon, helper, keepers, keyretain, looking, run, until
 
 NOT_FOUND = b"credentials not found in native keychain\n"
 NO_SERVER = b"no credentials server URL\n"
@@ -100,5 +100,5 @@ def try_words():
 
 
 for case in (try_steps, try_others, try_unusable, try_words):
-    case()
+    attempt(case)
 conclude()

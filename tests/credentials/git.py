@@ -6,7 +6,7 @@ import subprocess
 import tempfile
 import time
 
-from helpers import (FOLDER, compare, conclude, daemon, helper, is_one_line, keepers, keyretain, looking, run,
+from helpers import (FOLDER, attempt, compare, conclude, daemon, helper, is_one_line, keepers, keyretain, looking, run,
                      skipped, until, write)
 
 PROGRAM = "git-credential-keyretain"
@@ -381,7 +381,7 @@ def try_no_keeper():
              "from keyretain.credentials.git import main\nsys.exit(main(sys.argv[3:]))")
     with daemon(), tempfile.TemporaryDirectory(prefix="keyretain.") as folder:
         silent = folder + "/keyretain-keeper"
-        write(silent, "#!/bin/sh\nexec sleep 100\n", 0o755)
+        write(silent, "#!/bin/sh\nexec sleep 10\n", 0o755)
         for keeper in ("/nowhere/keyretain-keeper", "/bin/true", "/bin/cat", silent):
             status, _, err = run(["python3", "-I", "-B", "-c", words, package, keeper, "store"],
                                  lines("protocol=https host=a username=u password=p"))
@@ -393,5 +393,5 @@ def try_no_keeper():
 for case in (try_steps, try_bytes, try_others, try_expiry, try_words, try_silent_daemon, try_no_core, try_elsewhere,
              try_crowd, try_keeper, try_groups, try_other_user, try_linked_keyring, try_killed_keeper, try_session,
               try_no_keeper):
-    case()
+    attempt(case)
 conclude()

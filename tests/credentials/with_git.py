@@ -9,7 +9,7 @@ import threading
 from contextlib import contextmanager
 from http.server import BaseHTTPRequestHandler, ThreadingHTTPServer
 
-from helpers import FOLDER, compare, conclude, daemon, keepers, run, skipped, until, write
+from helpers import FOLDER, attempt, compare, conclude, daemon, keepers, run, skipped, until, write
 
 USER, PASSWORD = "alice", "s3 \u20ac:"
 HELPER = ("-c", "credential.helper=", "-c", "credential.helper=keyretain --timeout 1000")
@@ -177,7 +177,7 @@ def try_push():
 
 
 for case in (try_credentials, try_timeouts, try_no_daemon):
-    case()
+    attempt(case)
 if subprocess.run(["git", "http-backend"], stdin=subprocess.DEVNULL, capture_output=True, check=False,
                   env={"PATH": os.environ["PATH"]}).stdout:
     try_push()

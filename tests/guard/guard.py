@@ -16,13 +16,13 @@ import told
 
 
 def run_all(function):
-    try:
-        function()
-        for run in list(stage.ALL):
-            run.end()
-    except Exception as error:
-        stage.check(function.__name__, repr(error), "no exception")
+    if not stage.attempt(function) or not stage.attempt(end_all):
         stage.kill_all()
+
+
+def end_all():
+    for run in list(stage.ALL):
+        run.end()
 
 
 def main():

@@ -1,5 +1,6 @@
 """The guard that is tried with a daemon behind it, clients of any user, and their frames, for the parts of guard.py."""
 import contextlib
+import functools
 import os
 import re
 import select
@@ -11,7 +12,7 @@ import sys
 import tempfile
 import time
 
-from compare import compare, conclude, skipped  # noqa: F401 # for who imports this
+from compare import attempt, compare, conclude, skipped  # noqa: F401 # for who imports this
 import daemons
 from daemons import PATIENCE, become
 from versions import asked, frame, hello  # noqa: F401
@@ -37,7 +38,7 @@ def check(name, got, wanted):
 
 def by_root(what):
     """Has a function that root alone can run, and says what isn't tried by others."""
-    return lambda function: function if ROOT else lambda: skipped(f'{what}: not root')
+    return lambda function: function if ROOT else functools.wraps(function)(lambda: skipped(f'{what}: not root'))
 
 
 def check_soon(name, found, wanted):

@@ -8,9 +8,10 @@ export PYTHONPATH=$lib PYTHONDONTWRITEBYTECODE=1
 patience=60 # seconds that one answer, or the end of a process, may take
 step=0.02   # seconds between two looks
 passed=0 failed=0 runs=0
-path='' log='' daemon='' status='' tried=''
+path='' log='' daemon='' status='' tried='' told_of=''
 declare -A to=() from=() # ends of clients that stand open here
 trap 'exit 1' INT TERM HUP
+! command -v cc >/dev/null || [[ :$PATH: == *":$lib/compiler:"* ]] || export PATH=$lib/compiler:$PATH
 
 # ---- A folder, and the end
 
@@ -22,6 +23,21 @@ begin() {
   mkdir -m 1777 "$dir/tmp"
   export TMPDIR=$dir/tmp
   trap clean EXIT
+  [ -z "${ONLY-}" ] || shopt -s extdebug
+  [ -z "${ONLY-}" ] || trap 'is_chosen $BASH_COMMAND' DEBUG
+}
+
+# is_chosen WORD ..: whether a command is carried out where ONLY has patterns: those of the functions try_* that are
+is_chosen() {
+  local word pattern
+  for word; do
+    [[ $word == try_* ]] || continue
+    for pattern in $ONLY; do
+      # shellcheck disable=SC2053 # it is a pattern
+      [[ $word == $pattern ]] && return
+    done
+    return 1
+  done
 }
 
 # below PID: all that a process and those that it has begun have begun
@@ -53,13 +69,16 @@ timeout() { command timeout --foreground "$@"; }
 
 # ---- Checks
 
-# is NAME WANTED GOT: one check. Of texts of lines it tells those that the other hasn't
+# is NAME WANTED GOT: one check. Of texts of lines it tells those that the other hasn't. What fails again is
+# told once
 is() {
   local wanted=$2 got=$3
   if [ "$wanted" = "$got" ]; then
     passed=$((passed + 1))
   else
     failed=$((failed + 1))
+    [[ $told_of != *$'\n'"$1"$'\n'* ]] || return 0
+    told_of+=$'\n'$1$'\n'
     if [[ $wanted == *$'\n'* && $got == *$'\n'* ]]; then
       wanted=$(diff <(printf '%s\n' "$2") <(printf '%s\n' "$3") | sed -n 's/^< //p')
       got=$(diff <(printf '%s\n' "$2") <(printf '%s\n' "$3") | sed -n 's/^> //p')
@@ -70,13 +89,19 @@ is() {
 
 skipped() { printf 'skipped: %s\n' "$1"; }
 
-# judge NAME TEXT: the last line says that nothing failed; what was skipped and what failed is printed here
+# judge NAME TEXT: the checks that the last line counts, `.. N passed, M failed`; what was skipped and what failed is
+# printed here. What counts nothing, and skips nothing, has failed
 judge() {
-  grep '^skipped: ' <<<"$2"
-  case ${2##*$'\n'} in
-    *' passed, 0 failed') is "$1" none none ;;
-    *) printf '%s\n' "$2" | head -n 40 && is "$1" none "${2##*$'\n'}" ;;
-  esac
+  local skips counts='([0-9]+) ([a-z]+ )?passed, ([0-9]+) failed$'
+  skips=$(grep '^skipped: ' <<<"$2") && printf '%s\n' "$skips"
+  if [[ ${2##*$'\n'} =~ $counts ]] && [ "${BASH_REMATCH[1]}${BASH_REMATCH[3]}$skips${ONLY-}" != 00 ]; then
+    passed=$((passed + BASH_REMATCH[1])) failed=$((failed + BASH_REMATCH[3]))
+    [ "${BASH_REMATCH[3]}" = 0 ] || printf "%s\n" "$2" | grep -v "^skipped: " | head -n 40 |
+      sed "s/^fails: /fails: ${1//[\/&]/.}: /"
+  else
+    printf '%s\n' "$2" | head -n 40
+    is "$1" 'checks that are counted' "${2##*$'\n'}"
+  fi
 }
 
 # has_none NAME COMMAND ..: judges what a command prints; a signal that ends these tests needn't wait for it

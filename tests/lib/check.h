@@ -24,15 +24,23 @@
 
 static int failed_checks, passed_checks;
 
+/* A check. One that fails again isn't told again: so many names are remembered. */
 static inline bool check(const char *what, bool holds) {
+    static unsigned told[64];
     int error = errno;
-    if (holds)
+    if (holds) {
         __atomic_add_fetch(&passed_checks, 1, __ATOMIC_SEQ_CST);
-    else
-        printf("fails: %s (errno %d, %s)\n", what, error, strerror(error));
-    if (!holds) __atomic_add_fetch(&failed_checks, 1, __ATOMIC_SEQ_CST);
+        return true;
+    }
+    int last = __atomic_add_fetch(&failed_checks, 1, __ATOMIC_SEQ_CST) - 1;
+    unsigned sum = 1;
+    for (const char *at = what; *at; at++) sum = sum * 31 + (unsigned char)*at;
+    for (int i = 0; i < 64; i++)
+        if (__atomic_load_n(&told[i], __ATOMIC_RELAXED) == sum) return false;
+    __atomic_store_n(&told[last % 64], sum, __ATOMIC_RELAXED);
+    printf("fails: %s (errno %d, %s)\n", what, error, strerror(error));
     fflush(stdout);
-    return holds;
+    return false;
 }
 
 /* Whether a call was refused with this error. */

@@ -6,7 +6,7 @@ import tempfile
 import threading
 from contextlib import contextmanager, suppress
 
-from compare import compare, conclude, outcome, skipped  # noqa: F401 # for who imports this
+from compare import attempt, compare, conclude, outcome, skipped  # noqa: F401 # for who imports this
 import keyretain
 from versions import number, reply
 

@@ -4,7 +4,7 @@ import os
 import subprocess
 import tempfile
 
-from stage import (COLLECTION, FOLDER, ITEM, PATIENCE, ROOT, SESSION, SESSION_COLLECTION, Caller, bus, compare,
+from stage import (COLLECTION, FOLDER, ITEM, PATIENCE, ROOT, SESSION, SESSION_COLLECTION, Caller, attempt, bus, compare,
                    conclude, daemon, secrets, write)
 from jeepney import DBusAddress, HeaderFields, new_signal
 
@@ -139,7 +139,7 @@ with daemon(), bus() as broker:
     with secrets() as process:
         with Caller() as client:
             for part in (try_types, try_sizes, try_stalled, try_forged):
-                part(client)
+                attempt(part, client)
             try_many(client, process)
         with open(f"/proc/{process.pid}/limits", encoding="ascii") as limits:
             cores = [line.split()[4:6] for line in limits if "core file" in line]

@@ -7,7 +7,8 @@ import tempfile
 from contextlib import contextmanager
 
 sys.path.insert(0, os.path.join(os.path.dirname(os.path.abspath(__file__)), "../credentials"))
-from helpers import FOLDER, PATIENCE, compare, conclude, daemon, looking, outcome, run, until, write  # noqa: E402,F401
+from helpers import (FOLDER, PATIENCE, attempt, compare, conclude, daemon, looking,  # noqa: E402,F401
+                     outcome, run, until, write)
 from jeepney import DBusAddress, MessageType, new_method_call  # noqa: E402
 from jeepney.io.blocking import open_dbus_connection  # noqa: E402
 

@@ -1,9 +1,9 @@
 """What the pages, the completion and the bench say of asks and commands, each read into the form of the rows."""
-import contextlib
 import os
 import re
 import subprocess
 
+from compare import works
 from rows import TOP, text_of
 
 FORMAT = text_of("docs/FORMAT.md")
@@ -127,12 +127,12 @@ def completion(program, each, *words):
 
 def fish_completion(program):
     """What the completion in fish offers behind the program alone: commands and options; None where there is no
-    fish."""
+    fish that runs."""
+    if not works("fish", "--no-config", "-c", "true"):
+        return None
     script = "source $argv[1]; complete -C \"$argv[2] \""
     words = ["fish", "--no-config", "-c", script, os.path.join(TOP, "contrib/fish-completion/keyretain.fish"), program]
-    with contextlib.suppress(FileNotFoundError):
-        return subprocess.run(words, stdout=subprocess.PIPE, text=True, timeout=60, check=True).stdout.splitlines()
-    return None
+    return subprocess.run(words, stdout=subprocess.PIPE, text=True, timeout=60, check=True).stdout.splitlines()
 
 
 def completion_places(program, words):

@@ -7,7 +7,7 @@ import re
 import subprocess
 import sys
 
-from compare import conclude, skipped
+from compare import attempt, conclude, skipped
 import keyretain
 
 import admission
@@ -115,7 +115,7 @@ def try_completion():
     compare_all("completion", wanted, documents.completion_places(KEYRETAIN, wanted))
     offered_in_fish = documents.fish_completion(KEYRETAIN)
     if offered_in_fish is None:
-        skipped("the completion in fish: no fish")
+        skipped("the completion in fish: no fish, or it can't run here")
     else:
         options = ["--gid", "--help", "--socket", "--uid", "--version"]
         compare("completion in fish", sorted([*(command.word for command in known), *options]), sorted(offered_in_fish))
@@ -259,7 +259,7 @@ def try_bodies():
 
 for case in (try_definitions, try_format, try_lists, try_pages, try_python, try_admission, try_bench, try_types,
              try_foreign, try_waiting, try_unsafe, try_bodies):
-    case()
+    attempt(case)
 if os.access(KEYRETAIN, os.X_OK):
     try_help()
     try_completion()
