@@ -1,6 +1,6 @@
-/* places.c: which daemon is meant, and who it may be. Paths and variables may be another user's, as after su(1), and
- * may change between two looks: so they only say where to connect. Who listens is asked of the kernel, after
- * connect(2). */
+/* places.c: which daemon is meant, who it may be, and what to do without it. Paths and variables may be another user's,
+ * as after su(1), and may change between two looks: so they only say where to connect. Who listens is asked of the
+ * kernel, after connect(2). */
 #include "places.h"
 
 #include <linux/magic.h>
@@ -39,7 +39,8 @@ int kr_locate(struct kr_where *where, const char *path) {
     const char *named = is_set_uid ? NULL : getenv("KEYRETAIN_SOCKET");
     char folder[PATH_MAX];
     struct stat status;
-    if (path || (named && *named)) return put(where, KR_NAMED, path ? path : named, "");
+    if (path) return put(where, KR_NAMED, path, "");
+    if (named && *named) return put(where, KR_EXPORTED, named, "");
     if (!is_set_uid && put_runtime_folder(folder, sizeof folder) &&
         (stat(folder, &status) == 0 || (errno != ENOENT && errno != ENOTDIR)))
         return put(where, KR_OWN, folder, SOCKET_NAME);
@@ -79,4 +80,78 @@ bool kr_is_trusted(enum kr_place place, const char *path, uid_t user, uid_t peer
     return peer == 0 || (is_no_others("/", user) && is_no_others("/run", user) && lstat(SYSTEM_FOLDER, &status) == 0 &&
                          S_ISDIR(status.st_mode) && status.st_uid == peer &&
                          (strcmp(path, SYSTEM_FOLDER SOCKET_NAME) == 0 || is_one_user(peer)));
+}
+
+/* ---- What to do ---- */
+
+enum fault { IS_ABSENT, IS_LEFT, IS_SHUT, IS_ANOTHERS };
+
+#define THERE "start one there: keyretaind --socket PATH"
+#define OWN "systemctl --user enable --now keyretaind"
+#define EXPORTED "KEYRETAIN_SOCKET names this path"
+#define MODES "who may connect is told by the modes of the path and its folder: ls -ld"
+#define WHY "systemctl status 'keyretain*' tells who administers it why; one of your own: " OWN
+
+static const char without_systemd[] =
+    "no daemon is there; start one, as keyretaind(8) shows it: keyretaind --socket PATH, with KEYRETAIN_SOCKET=PATH";
+static const char *const advices[][KR_SYSTEM + 1] = {
+    [IS_ABSENT] = {
+        [KR_NAMED] = "start a daemon: systemctl --user start keyretaind, or keyretaind --socket PATH",
+        [KR_EXPORTED] = EXPORTED ", where no daemon is: unset it, or " THERE,
+        [KR_OWN] = "no daemon is there; start one: " OWN,
+        [KR_SYSTEM] = "the system's daemon doesn't run: " WHY,
+    },
+    [IS_LEFT] = {
+        [KR_NAMED] = "its daemon has ended: remove the path, and start one: keyretaind --socket PATH",
+        [KR_EXPORTED] = EXPORTED ", whose daemon has ended: unset it, or remove the path and " THERE,
+        [KR_OWN] = "its daemon has ended: systemctl --user restart keyretaind, or remove the path and " THERE,
+        [KR_SYSTEM] = "the system's daemon has ended: " WHY,
+    },
+    [IS_SHUT] = {
+        [KR_NAMED] = MODES,
+        [KR_EXPORTED] = EXPORTED ": unset it; " MODES,
+        [KR_OWN] = MODES,
+        [KR_SYSTEM] = "only the group keyretain may connect, which has the keys of all users, and behind "
+                      "keyretain-guard nobody needs it; one of your own: " OWN,
+    },
+    [IS_ANOTHERS] = {
+        [KR_NAMED] = "another user listens there, who is told nothing: name another path",
+        [KR_EXPORTED] = EXPORTED ", where another user listens, who is told nothing: unset it",
+        [KR_OWN] = "another user listens there, who is told nothing: remove the path, and start one: " OWN,
+        [KR_SYSTEM] = "who listens there isn't the system's daemon, and is told nothing: ask who administers it",
+    },
+};
+
+/* By the errors of connect(2); -1 for another one. Who may not connect and who isn't trusted are the same to who
+ * connects. */
+static int fault_of(const char *path, int error) {
+    if (error == ENOENT || error == ENOTDIR) return IS_ABSENT;
+    if (error == ECONNREFUSED) return IS_LEFT;
+    if (error == EACCES) return faccessat(AT_FDCWD, path, W_OK, AT_EACCESS) == 0 ? IS_ANOTHERS : IS_SHUT;
+    return -1;
+}
+
+const char *kr_advise(const struct kr_where *where, int error) {
+    ERRNO_STAYS;
+    enum kr_place place = where->place;
+    int fault = fault_of(where->path, error);
+    bool is_nowhere = place == KR_SYSTEM && fault == IS_ABSENT && access(SYSTEM_FOLDER, F_OK) < 0;
+    if (is_nowhere) place = KR_OWN;
+    bool has_systemd = access("/run/systemd/system", F_OK) == 0; /* sd_booted(3) */
+    if (fault == IS_ABSENT && place == KR_OWN && !has_systemd) return without_systemd;
+    if (fault >= 0) return advices[fault][place];
+    if (error == EAGAIN || error == ETIMEDOUT)
+        return "all its lanes may be held: keyretain-status tells by whom; keyretaind --lanes, or keyretain-guard "
+               "--connections, gives more";
+    if (error == ECONNRESET || error == EPIPE)
+        return "the daemon, or the one behind keyretain-guard, may have ended: its journal tells";
+    if (error == EDQUOT)
+        return "keyretain-guard has no place left for this user: end other clients, or raise --per-uid";
+    return error == ENAMETOOLONG ? "a path has 107 bytes at most" : NULL;
+}
+
+const char *kr_advice(const char *path, int error) {
+    struct kr_where where;
+    ERRNO_STAYS;
+    return kr_locate(&where, path) == 0 || error == ENAMETOOLONG ? kr_advise(&where, error) : NULL;
 }

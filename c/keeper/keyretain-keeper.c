@@ -69,8 +69,13 @@ static struct options read_options(char **words) {
 
 /* ---- What is said on descriptor 1 ---- */
 
+static struct kr_where where; /* the daemon is */
+
 static void say(int status, const char *kind, const char *what) {
-    dprintf(STDOUT_FILENO, "%s %d %s: %s\n", kind, errno, what, strerror(errno));
+    bool is_daemons = *where.path && (status == NO_CONNECTION || errno == EDQUOT);
+    const char *next = is_daemons ? kr_advise(&where, errno) : NULL;
+    const char *between = next ? ": " : "";
+    dprintf(STDOUT_FILENO, "%s %d %s: %s%s%s\n", kind, errno, what, strerror(errno), between, next ? next : "");
     exit(status);
 }
 
@@ -114,13 +119,13 @@ static void stand_alone(void) {
 /* A context of this user, on a connection to the daemon, whose calls all end within the patience until it has answered.
  * A path may be relative, and no folder is kept in use. keyretain-guard ends those that come while its daemon is
  * started anew: then another is tried for a while. */
-static struct kr *connect_to(const struct options *options, struct kr_where *where, uint32_t *context) {
+static struct kr *connect_to(const struct options *options, uint32_t *context) {
     const int64_t end = kr_now() + options->milliseconds, restart = kr_now() + RESTART_MILLISECONDS;
     const int64_t last = (end < restart ? end : restart) - 2 * STEP_MILLISECONDS;
     struct kr_identity identity;
     struct kr *connection = NULL;
     int64_t made;
-    if (kr_locate(where, options->socket) < 0) fail("the socket's path");
+    if (kr_locate(&where, options->socket) < 0) fail("the socket's path");
     kr_own_identity(&identity);
     do {
         if (connection) kr_close(connection);
@@ -128,8 +133,8 @@ static struct kr *connect_to(const struct options *options, struct kr_where *whe
         if (connection) connection->until = end;
         made = connection ? kr_hello_as(connection, &identity) : -1;
     } while (made < 0 && errno == ECONNRESET && kr_now() < last && poll(NULL, 0, STEP_MILLISECONDS) == 0);
-    if (!connection || chdir("/") < 0) fail(where->path);
-    if (made < 0) fail_ask(connection, where->path);
+    if (!connection || chdir("/") < 0) fail(where.path);
+    if (made < 0) fail_ask(connection, where.path);
     *context = (uint32_t)made;
     return connection;
 }
@@ -154,11 +159,10 @@ static char wait_for_end(const struct kr *connection, bool is_deaf) {
 
 static void hold_session(const struct options *options) {
     static struct kr_session session;
-    struct kr_where where;
     uint32_t context;
     char byte;
     bool revokes = false;
-    struct kr *connection = connect_to(options, &where, &context);
+    struct kr *connection = connect_to(options, &context);
     if (kr_name_session(&session, options->name) < 0) say(REFUSED, "refused", "the name");
     session.serial = kr_begin_session(connection, context, session.name, geteuid());
     if (session.serial < 0) fail_ask(connection, session.name);
@@ -251,9 +255,8 @@ static void hold_keys(struct kr *connection, uint32_t context, int32_t ring, con
 
 /* As long as the pipe is open, so that whoever started it can put a key there; then until it has none. */
 static void hold_ring(const struct options *options) {
-    struct kr_where where;
     uint32_t context;
-    struct kr *connection = connect_to(options, &where, &context);
+    struct kr *connection = connect_to(options, &context);
     int32_t ring = have_key(connection, context, "keyring", options->ring, "");
     if (ring < 0) fail_ask(connection, options->ring);
     answer(connection, ring, options->ring, where.path);

@@ -43,6 +43,10 @@ void kr_close(struct kr *connection);
  * path. Answers its length without its null byte, or -1 with ENAMETOOLONG where `room` is too small. */
 int kr_default_path(char *path, size_t room);
 
+/* What a program's user may do where kr_open, or the first ask, was refused with this errno: a sentence for people, or
+ * NULL where none is known. */
+const char *kr_advice(const char *path, int error);
+
 /* Who listened when the connection was made; the pid is 0 where it has none in this pid namespace. NULL for what isn't
  * wanted. */
 void kr_peer(const struct kr *connection, uint32_t *uid, uint32_t *gid, int32_t *pid);

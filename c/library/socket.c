@@ -94,7 +94,7 @@ static int connect_in_time(struct kr *connection) {
  * may have taken another identity since, and would trust its own daemon. */
 int kr_connect(struct kr *connection) {
     const struct peer *peer = &connection->peer;
-    bool is_anybody = connection->place == KR_NAMED && connection->trusts_anybody;
+    bool is_anybody = connection->place <= KR_EXPORTED && connection->trusts_anybody;
     if (connect_in_time(connection) < 0 || !find_peer(connection->socket.descriptor, &connection->peer)) return -1;
     const char *path = connection->address.sun_path;
     bool is_trusted = is_anybody || kr_is_trusted(connection->place, path, connection->user, peer->uid);

@@ -99,7 +99,18 @@ static struct held *hold_nothing(pam_handle_t *handle) {
 
 /* ---- Sessions ---- */
 
-static void begin(pam_handle_t *handle, const struct options *options, struct keeper *keeper) {
+/* The user's terminal shows none of the keeper's words: who runs as the user may have said them. They begin with two
+ * for programs, of which the second is errno. */
+static void tell(pam_handle_t *handle, const char *user, const char *words, bool is_silent) {
+    int error = 0, length = 0;
+    sscanf(words, "%*[a-z] %d %n", &error, &length);
+    pam_syslog(handle, LOG_NOTICE, "no session for %s: %s", user, words + length);
+    if (!is_silent)
+        pam_error(handle, "keyretain: this login has no session of its own (%s): keyretain-session begins one, or says "
+                  "what to do", length && error > 0 ? strerrordesc_np(error) : "the log says why");
+}
+
+static void begin(pam_handle_t *handle, const struct options *options, struct keeper *keeper, bool is_silent) {
     struct answer answer = { .text = "" };
     const void *name = NULL;
     const struct passwd *user = NULL;
@@ -111,7 +122,7 @@ static void begin(pam_handle_t *handle, const struct options *options, struct ke
         start_keeper(keeper, user, options->socket, &answer);
     put_session(handle, options, &answer);
     if (!answer.session)
-        pam_syslog(handle, LOG_NOTICE, "no session for %s: %s", user ? user->pw_name : "?", answer.text);
+        tell(handle, user ? user->pw_name : "?", answer.text, is_silent);
     else if (options->is_told)
         pam_syslog(handle, LOG_DEBUG, "session %s at %s", answer.session, answer.socket);
 }
@@ -124,7 +135,6 @@ EXPORTED int pam_sm_open_session(pam_handle_t *handle, int flags, int count, con
     struct options options = read_options(handle, count, words);
     struct held *held = held_of(handle);
     bool is_new = !held || (options.is_forced && has_keeper(&held->keeper));
-    (void)flags;
     if (!held) held = hold_nothing(handle);
     if (!held) {
         put_session(handle, &options, &(struct answer){ .text = "" });
@@ -136,7 +146,7 @@ EXPORTED int pam_sm_open_session(pam_handle_t *handle, int flags, int count, con
     if (is_new) {
         end(handle, &held->keeper);
         let_go_of_keeper(&held->keeper);
-        begin(handle, &options, &held->keeper);
+        begin(handle, &options, &held->keeper, flags & PAM_SILENT);
     }
     if (held->revokes) revoke_at_end(&held->keeper);
     return PAM_SUCCESS;

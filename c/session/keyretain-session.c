@@ -30,7 +30,7 @@ static const char help[] =
     "The daemon's socket is KEYRETAIN_SOCKET, or is looked for where\n"
     "keyretain-session(1) says.\n";
 
-static char socket_path[KR_PATH_ROOM];
+static struct kr_where where; /* the daemon is */
 static const char *session_name; /* NULL: none was given */
 
 /* Why a session can't have the name that was given; NULL where it can. */
@@ -44,28 +44,14 @@ static const char *name_fault(void) {
 /* What to do about it, where that is known. */
 static const char *advice(int status, int error, const char *what) {
     const char *exported = getenv("KEYRETAIN_SOCKET");
-    bool is_socket = status == NO_CONNECTION &&
-                     (strcmp(what, socket_path) == 0 || (exported && strcmp(what, exported) == 0));
-    if (is_socket && (error == ENOENT || error == ECONNREFUSED))
-        return strncmp(what, "/run/keyretain/", strlen("/run/keyretain/")) == 0
-                   ? "the system's daemon doesn't listen: systemctl status 'keyretain*' tells, and who administers it"
-                   : "no daemon is there; start one: systemctl --user enable --now keyretaind";
-    if (is_socket && error == EACCES)
-        return "the modes of the path and its folder say who may connect: ls -ld. Whoever is in the group keyretain "
-               "has the keys of all users, and behind keyretain-guard nobody needs it";
-    if (status == NO_CONNECTION && error == ETIMEDOUT)
-        return "all lanes may be held: keyretain-status tells root, and keyretaind --lanes, or keyretain-guard "
-               "--connections, gives more";
-    if (status == NO_CONNECTION && error == ECONNRESET)
-        return "the daemon, or the one behind keyretain-guard, may have ended: its journal tells";
+    bool is_socket = strcmp(what, where.path) == 0 || (exported && strcmp(what, exported) == 0);
     if (status == NO_CONNECTION && error == EPERM)
         return "another filter refuses the key calls, as that of a container does: its profile must allow them";
-    if (status == REFUSED && error == EDQUOT)
-        return "keyretain-guard has no place left for this user: end other clients, or raise --per-uid";
     if (status == REFUSED && error == EKEYREVOKED)
         return "the daemon was started anew, nothing holds it, or it is another user's: begin one by keyretain-session "
                "or a new login";
-    return NULL;
+    bool is_lost = status == NO_CONNECTION && (is_socket || error == ETIMEDOUT || error == ECONNRESET);
+    return is_lost || error == EDQUOT ? kr_advise(&where, error) : NULL;
 }
 
 void fail(int status, const char *what) {
@@ -243,18 +229,18 @@ int main(int count, char **arguments) {
     char **given = read_arguments(arguments + 1, &session_name, &way), **command = given ? given : shell_command;
     if (session_name && !given && isatty(STDERR_FILENO))
         fprintf(stderr, "keyretain-session: a shell in the session %s; a command stands behind --\n", session_name);
-    if (kr_default_path(socket_path, sizeof socket_path) < 0) fail(NO_CONNECTION, "the socket's path");
+    if (kr_locate(&where, NULL) < 0) fail(NO_CONNECTION, "the socket's path");
     if (way == BY_SYSTEM_CALLS)
         hide_library();
     else
         export_library();
-    export_socket(socket_path);
+    export_socket(where.path);
     if (way == BY_SYSTEM_CALLS) launch(getenv("KEYRETAIN_SOCKET"), session_name, command);
     if (way == JOINING)
         find_session(&session);
     else
         begin(session_name, getenv("KEYRETAIN_SOCKET"), &session);
-    if (way == JOINING || *variables) enter(socket_path, &session);
+    if (way == JOINING || *variables) enter(where.path, &session);
     if (kr_export_session(&session) < 0) fail(REFUSED, KR_SESSION_VARIABLE);
     execvp(*command, command);
     fail(errno == ENOENT ? NOT_FOUND : NOT_EXECUTABLE, *command);

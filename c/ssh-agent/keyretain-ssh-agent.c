@@ -79,6 +79,16 @@ static bool is_time_to_sweep(void) {
     return is_time;
 }
 
+/* Says so where there is none: on a terminal, or in a unit's journal. */
+static void look_for_daemon(void) {
+    struct kr_where where;
+    struct kr *daemon = kr_locate(&where, NULL) == 0 ? kr_open_with(NULL, 0, 1) : NULL;
+    if (daemon) return kr_close(daemon);
+    const char *advice = kr_advice(NULL, errno);
+    warn("%s: no key is kept until a daemon is there", where.path);
+    if (advice) warnx("%s", advice);
+}
+
 /* With CLIENTS_MOST clients the next ones wait. Where there is no session, a connection holds the user keyring. */
 static _Noreturn void serve(int listener) {
     const char *session = getenv("KEYRETAIN_SESSION");
@@ -88,7 +98,7 @@ static _Noreturn void serve(int listener) {
         if (held == NOT_HELD) held = open_ring();
         struct pollfd awaited[] = { { clients < CLIENTS_MOST ? listener : -1, POLLIN, 0 }, { held, 0, 0 } };
         int ready = poll(awaited, 2, MILLISECONDS * (clients || held == NOT_HELD ? 1 : SWEEP_SECONDS));
-        if (ready > 0 && awaited[1].revents) held = NOT_HELD;
+        if (ready > 0 && awaited[1].revents && (held = open_ring()) == NOT_HELD) look_for_daemon();
         int client = ready > 0 && awaited[0].revents ? accept4(listener, NULL, NULL, SOCK_CLOEXEC) : -1;
         bool sweeps = client < 0 && is_time_to_sweep(); /* by a process of its own, too */
         pid_t forked = sweeps || (client >= 0 && is_own_peer(client)) ? fork() : -1;
@@ -143,9 +153,7 @@ static int begin_listening(void) {
     int listener = open_listener(path, 0600, DESCRIPTORS_REFUSED), nothing = open("/dev/null", O_RDWR | O_CLOEXEC);
     if (listener < 0 && has_folder) rmdir(folder);
     if (listener < 0) err(1, "%s", path);
-    struct kr *daemon = kr_open_with(NULL, 0, 1);
-    if (!daemon) warn("no daemon is there, and until one is no key is kept");
-    else kr_close(daemon);
+    look_for_daemon();
     pid_t agent = stays ? getpid() : fork();
     if (agent < 0) err(1, "fork");
     if (agent) dprintf(STDOUT_FILENO, "SSH_AUTH_SOCK=%s; export SSH_AUTH_SOCK;\n", path);
@@ -182,7 +190,7 @@ int main(int count, char **words) {
     read_options(count, words);
     int listener = take_passed_listener();
     closefrom(listener >= 0 ? listener + 1 : STDERR_FILENO + 1); /* others' locks, and what holds a session */
-    if (listener >= 0) path = NULL, refuse_descriptors(listener);
+    if (listener >= 0) path = NULL, refuse_descriptors(listener), look_for_daemon();
     else listener = begin_listening();
     if (prctl(PR_SET_DUMPABLE, 0) < 0 || setrlimit(RLIMIT_CORE, &(struct rlimit){ 0, 0 }) < 0) err(1, "core files");
     if ((turns = memfd_create("turns", MFD_CLOEXEC)) < 0) err(1, "turns");

@@ -33,7 +33,7 @@ from .frames import (
     frame, name_of,
 )
 from .notes import SUBTYPES, Loss, Note, Removal, decode_notes, describe_note
-from .places import SYSTEM_PATH, Peer, default_path
+from .places import SYSTEM_PATH, Peer, advice, default_path
 from .sessions import Session, parse_session
 
 __version__ = "0.1.0"
@@ -42,6 +42,6 @@ __all__ = [
     "AHEAD", "ASKS", "ENTRY", "LEAVE_AS_IT_IS", "LONGEST_ASK", "LONGEST_REPLY", "NUMBERS", "PATIENCE", "PROCESS",
     "SESSION", "SHORTEST_REPLY", "STATUSES", "SUBTYPES", "SYSTEM_PATH", "THREAD", "USER", "USER_SESSION",
     "Ask", "Client", "Loss", "Lost", "Malformed", "Note", "Peer", "Refused", "Removal", "Reply", "Session",
-    "TooFarAhead", "answer_of", "decode_body", "decode_notes", "decode_reply", "decode_serials", "default_path",
-    "describe_note", "encode_ask", "encode_body", "frame", "name_of", "notes_of", "parse_session",
+    "TooFarAhead", "advice", "answer_of", "decode_body", "decode_notes", "decode_reply", "decode_serials",
+    "default_path", "describe_note", "encode_ask", "encode_body", "frame", "name_of", "notes_of", "parse_session",
 ]

@@ -9,6 +9,7 @@ import sys
 from typing import Optional, Sequence
 
 from . import PROCESS, SESSION, THREAD, USER, USER_SESSION, Client, Refused, describe_note, notes_of
+from .credentials.helper import words_of
 from .places import environment
 from .sessions import VARIABLE
 
@@ -67,7 +68,7 @@ def main(words: Sequence[str]) -> int:
     try:
         watch(key, command)
     except OSError as error:
-        print(f"keyretain: {error}", file=sys.stderr)
+        print(f"keyretain: {words_of(error)}", file=sys.stderr)
         return FAILED
     except KeyboardInterrupt:
         pass

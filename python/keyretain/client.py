@@ -10,7 +10,7 @@ from .connection import Asked, Connection, Deadline, wipe
 from .errors import Malformed, Refused
 from .frames import LEAVE_AS_IT_IS, Answer, Bytes, Reply, Text, answer_of, decode_serials, row
 from .notes import Record, Removal, decode_notes
-from .places import Path, Peer, environment, place_of
+from .places import Path, Peer, advice, environment, place_of
 from .sessions import VARIABLE, enter, parse_session
 
 PATIENCE = 30.0
@@ -37,7 +37,13 @@ class Client:
                  trust: Optional[str] = None) -> None:
         self.timeout = timeout
         self._place = place_of(path, trust)
-        self._connection = Connection(self._place, Deadline(timeout))
+        try:
+            self._connection = Connection(self._place, Deadline(timeout))
+        except OSError as error:
+            next_step = advice(path, error.errno)
+            if next_step and hasattr(error, "add_note"):  # of Python 3.11: a traceback shows it
+                error.add_note(next_step)
+            raise
         self.doubtful: set[int] = set()  # contexts that may be in another user's session: see sessions.enter
 
     @property

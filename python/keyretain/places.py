@@ -160,3 +160,61 @@ def check(peer: Peer, place: Place) -> None:
         return
     if trust is Trust.OWN or not is_system_daemon(peer.uid, place.path):
         raise PermissionError(errno.EACCES, f"uid {peer.uid} listens, and not {trust.value}", place.path)
+
+
+# What to do, in the words of libkeyretain's kr_advice(3): by the place, which a program has NAMED, or KEYRETAIN_SOCKET,
+# or which is the user's own or the system's.
+
+THERE, OWN = "start one there: keyretaind --socket PATH", "systemctl --user enable --now keyretaind"
+WITHOUT_SYSTEMD = "no daemon is there; start one, as keyretaind(8) shows it: keyretaind --socket PATH, with " \
+    "KEYRETAIN_SOCKET=PATH"
+MODES = "who may connect is told by the modes of the path and its folder: ls -ld"
+EXPORTED = "KEYRETAIN_SOCKET names this path"
+WHY = f"systemctl status 'keyretain*' tells who administers it why; one of your own: {OWN}"
+ABSENT = ("start a daemon: systemctl --user start keyretaind, or keyretaind --socket PATH",
+          f"{EXPORTED}, where no daemon is: unset it, or {THERE}",
+          f"no daemon is there; start one: {OWN}",
+          f"the system's daemon doesn't run: {WHY}")
+LEFT = ("its daemon has ended: remove the path, and start one: keyretaind --socket PATH",
+        f"{EXPORTED}, whose daemon has ended: unset it, or remove the path and {THERE}",
+        f"its daemon has ended: systemctl --user restart keyretaind, or remove the path and {THERE}",
+        f"the system's daemon has ended: {WHY}")
+SHUT = (MODES, f"{EXPORTED}: unset it; {MODES}", MODES,
+        "only the group keyretain may connect, which has the keys of all users, and behind keyretain-guard nobody "
+        f"needs it; one of your own: {OWN}")
+ANOTHERS = ("another user listens there, who is told nothing: name another path",
+            f"{EXPORTED}, where another user listens, who is told nothing: unset it",
+            f"another user listens there, who is told nothing: remove the path, and start one: {OWN}",
+            "who listens there isn't the system's daemon, and is told nothing: ask who administers it")
+FULL = "all its lanes may be held: keyretain-status tells by whom; keyretaind --lanes, or keyretain-guard " \
+    "--connections, gives more"
+ENDED = "the daemon, or the one behind keyretain-guard, may have ended: its journal tells"
+OTHER_ERRORS = {
+    errno.EAGAIN: FULL, errno.ETIMEDOUT: FULL, errno.ECONNRESET: ENDED, errno.EPIPE: ENDED,
+    errno.EDQUOT: "keyretain-guard has no place left for this user: end other clients, or raise --per-uid",
+    errno.ENAMETOOLONG: "a path has 107 bytes at most",
+}
+
+
+def _advices(path: Path, error: int) -> Optional[tuple[str, ...]]:
+    """By the errors of connect(2). Who may not connect and who isn't trusted are the same to who connects."""
+    if error == errno.EACCES:
+        return ANOTHERS if os.access(path, os.W_OK, effective_ids=True) else SHUT
+    return {errno.ENOENT: ABSENT, errno.ENOTDIR: ABSENT, errno.ECONNREFUSED: LEFT}.get(error)
+
+
+def advice(path: Optional[Path], error: Optional[int]) -> Optional[str]:
+    """What a program's user may do where a Client of this path, or its first ask, was refused with this errno: a
+    sentence, or None where none is known."""
+    found = find()
+    texts = _advices(found.path if path is None else path, error) if error else None
+    if texts is None:
+        return OTHER_ERRORS.get(error or 0)
+    if path is not None:
+        return texts[0]
+    if found.trust is Trust.NAMED:
+        return texts[1]
+    is_absent, has_folder = texts is ABSENT, os.path.exists(os.path.dirname(SYSTEM_PATH))
+    if is_absent and (found.trust is Trust.OWN or not has_folder):
+        return texts[2] if os.path.exists("/run/systemd/system") else WITHOUT_SYSTEMD  # sd_booted(3)
+    return texts[2 if found.trust is Trust.OWN else 3]

@@ -54,7 +54,7 @@ try_words_of_programs() {
 }
 
 try_faults() {
-  says 'no daemon' 3 'start one: systemctl --user enable --now keyretaind' env KEYRETAIN_SOCKET="$dir/none" \
+  says 'no daemon' 3 'where no daemon is: unset it, or start one there' env KEYRETAIN_SOCKET="$dir/none" \
     "$dir/c/keyretain-session" -- true
   mv "$dir/keyretain/libkeyutils.so.1" "$dir/aside"
   says 'no library' 3 'keyretain/libkeyutils.so.1: No such file or directory' in_session -- true

@@ -36,7 +36,7 @@ def compare_installed(what, folder, programs):
     compare(f"{what}: the backend of keyring", "keyretain keyretain.credentials.backend\n", told.stdout)
     environment = {**os.environ, "PYTHONPATH": folder, "KEYRETAIN_SOCKET": "/nowhere"}
     ended = run(sys.executable, "-B", "-m", "keyretain", "@u", cwd="/", env=environment)
-    compare(f"{what}: the command", (1, True), (ended.returncode, "'/nowhere'" in ended.stdout))
+    compare(f"{what}: the command", (1, "keyretain: /nowhere: "), (ended.returncode, ended.stdout[:21]))
 
 
 FIND_BACKEND = """import importlib.metadata as found, sys

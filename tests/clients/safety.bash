@@ -206,7 +206,8 @@ try_keeper() {
   let_go
   since=$SECONDS
   keep --name slow --patience 500
-  is 'keeper: a daemon that does not answer' "failed 110 $path: Connection timed out" "$(<"$dir/answer")"
+  is 'keeper: a daemon that does not answer' "failed 110 $path: Connection timed out: all its lanes" \
+    "$(cut -d" " -f 1-9 "$dir/answer")"
   is 'keeper: it waits as long as it was told' yes "$([ $((SECONDS - since)) -lt 8 ] && echo yes)"
   kill -CONT "$daemon"
   let_go
@@ -216,7 +217,8 @@ try_keeper() {
   gone 'keeper: ends with the daemon'
   let_go
   keep --name late
-  is 'keeper: no daemon' "failed 111 $path: Connection refused" "$(<"$dir/answer")"
+  is 'keeper: no daemon' "failed 111 $path: Connection refused: its daemon has ended:" \
+    "$(cut -d" " -f 1-9 "$dir/answer")"
   let_go
 }
 

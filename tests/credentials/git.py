@@ -180,7 +180,7 @@ def try_words():
         compare("an operation that isn't known, without input", (0, b"", b""), run(helper("git", "frobnicate")))
     status, out, err = run(helper("git", "get"), lines("protocol=https host=a"))
     compare("no daemon", (1, b"", True), (status, out, is_one_line(err, PROGRAM)))
-    compare("what to do then", True, err.endswith(b"start one: systemctl --user enable --now keyretaind\n"))
+    compare("what to do then", True, err.endswith(b"unset it, or start one there: keyretaind --socket PATH\n"))
     compare("no daemon is needed for other operations", 0, run(helper("git", "frobnicate"))[0])
     for words, given, wanted in ((["get"], "protocol=https host=a", 1), (["--none"], "", 2)):
         status, out, _ = run(["sh", "-c", 'exec "$0" "$@" 2>&-', *helper("git", *words)], lines(given))

@@ -25,6 +25,7 @@ void pam_syslog(const pam_handle_t *of, int priority, const char *format, ...) {
 }
 
 static int converse(int count, const struct pam_message **messages, struct pam_response **answers, void *unused) {
+    for (int i = 0; i < count; i++) fprintf(stderr, "told %d %s\n", messages[i]->msg_style, messages[i]->msg);
     return PAM_CONV_ERR;
 }
 
@@ -37,6 +38,7 @@ static void tell_status(const char *act, int status) {
 /* ---- Acts ---- */
 
 static void open_session(const char *word) { tell_status("open", pam_open_session(handle, 0)); }
+static void open_silently(const char *word) { tell_status("open", pam_open_session(handle, PAM_SILENT)); }
 
 static void close_session(const char *word) { tell_status("close", pam_close_session(handle, 0)); }
 
@@ -212,8 +214,9 @@ static const struct {
     const char *name;
     void (*does)(const char *word);
 } acts[] = {
-    { "open", open_session }, { "close", close_session }, { "end", end }, { "show", show_variable },
-    { "run", run_command }, { "child", in_child }, { "repeat", repeat }, { "close-standard", close_standard },
+    { "open", open_session }, { "silent", open_silently }, { "close", close_session }, { "end", end },
+    { "show", show_variable }, { "run", run_command }, { "child", in_child }, { "repeat", repeat },
+    { "close-standard", close_standard },
     { "close-everything", close_everything }, { "show-everything", show_everything },
     { "descriptors", count_descriptors }, { "children", handle_children }, { "block", hold_signals_back },
     { "kill-keepers", kill_keepers }, { "signals", show_signals }, { "offspring", show_offspring },

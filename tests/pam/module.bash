@@ -177,6 +177,12 @@ try_full() {
   gives 'a daemon with a lane again' 'open success KEYRETAIN_SOCKET='"$path" one open show:KEYRETAIN_SOCKET
   kill_daemon TERM
   gives 'a daemon that is down' "open success $none" one open "${show[@]}"
+  is 'a daemon that is down: what the log says, and what to do' 1 "$(grep -c "^log 5 no session for $user: \
+$path: Connection refused: its daemon has ended: remove the path" "$dir/said")"
+  is 'a daemon that is down: what the user is told' "told 3 keyretain: this login has no session of its own \
+(Connection refused): keyretain-session begins one, or says what to do" "$(grep ^told "$dir/said")"
+  gives 'a login that is silent' "open success $none" one silent "${show[@]}"
+  is 'a login that is silent: what the user is told' '' "$(grep ^told "$dir/said")"
 }
 
 # A daemon that is started anew in the midst of a login: the next login has a session.

@@ -1,6 +1,7 @@
 """The backend `keyretain` of Python's keyring: keyretain-keyring(7)."""
 from __future__ import annotations
 
+import errno
 import os
 from collections.abc import Iterator
 from contextlib import contextmanager
@@ -11,7 +12,7 @@ from keyring.backend import KeyringBackend
 from keyring.credentials import Credential, SimpleCredential
 from keyring.errors import KeyringError, PasswordDeleteError, PasswordSetError
 
-from ..places import default_path
+from ..places import advice, default_path
 from .helper import words_of
 from .locker import Entry, Locker
 
@@ -24,7 +25,7 @@ class _Priority:
 
     def __get__(self, instance: object, owner: object = None) -> float:
         if not os.path.exists(default_path()):
-            raise RuntimeError("no socket of keyretaind(8) is there")
+            raise RuntimeError(f"no socket of keyretaind(8) is there: {advice(None, errno.ENOENT)}")
         return PRIORITY
 
 

@@ -1,17 +1,16 @@
 """What the helpers' programs have in common."""
 from __future__ import annotations
 
+import errno
 import resource
 import sys
 from contextlib import suppress
 from typing import BinaryIO, Optional, TextIO
 
 from .. import Refused, __version__
-from ..places import SYSTEM_PATH, default_path
+from ..places import advice, default_path
 
 LONGEST_INPUT = 1 << 20
-NO_SYSTEMS_DAEMON = ": the system's daemon doesn't listen: systemctl status 'keyretain*' tells"
-NO_DAEMON = ": no daemon is there; start one: systemctl --user enable --now keyretaind"
 
 
 class Unusable(Exception):
@@ -76,11 +75,12 @@ def version_of(program: str) -> str:
 
 
 def words_of(error: Exception) -> str:
-    """One line for people, also of what to do where nobody listens."""
+    """One line for people, also of what to do where a daemon can't be asked."""
     if not isinstance(error, OSError) or isinstance(error, Refused) or error.strerror is None:
         words = str(error)
     else:
         words = error.strerror if error.filename is None else f"{error.filename}: {error.strerror}"
-    if isinstance(error, (FileNotFoundError, ConnectionRefusedError)) and error.filename == default_path():
-        words += NO_SYSTEMS_DAEMON if error.filename == SYSTEM_PATH else NO_DAEMON
-    return " ".join(words.split())
+    is_daemons = isinstance(error, OSError) and error.filename in (None, default_path())
+    is_asked = not isinstance(error, Refused) or error.errno == errno.EDQUOT  # which keyretain-guard says
+    next_step = advice(None, error.errno) if is_daemons and is_asked else None
+    return " ".join((f"{words}: {next_step}" if next_step else words).split())
