@@ -10,8 +10,8 @@ use Rattle.krs_model.specs.{History.{event_of, IsLegal}, Lists.Begins, State.Sta
 use Rattle.krs_model.proofs.History.Legal.{legal_more}
 use Rattle.krs_world.specs.Knowing.{answered, events_of, grabbed, looked_at, put_none, taken}
 use Rattle.krs_world.specs.declared.view.{Flight.Flight, Part.Part}
-use Rattle.krs_desk.specs.Helping.{below, Goes, HasBehind, held_of, Helps, HoldsAll, lanes_of, Progress, Served}
-use Rattle.krs_desk.specs.{Helping.{ServesBehind, ServesLane, Stays, turned_back}, Parts.{hand_of, sat}}
+use Rattle.krs_desk.specs.Helping.{below, Goes, HasBehind, held_of, Helps, HoldsAll, lanes_of, LookedAt, Progress}
+use Rattle.krs_desk.specs.{Helping.{LooksAtLane, ServesBehind, Stays, turned_back}, Parts.{hand_of, sat}}
 use Rattle.krs_desk.specs.Seated.{HasSlot, Holds, is_free, IsSeated, Me, opening, part, Serves, sitting_of}
 use Rattle.krs_desk.specs.{Sitting.Sitting, Steps.{answers_told, brings_told}, declared.slot.SlotValue.SlotValue}
 use Rattle.krs_desk.specs.declared.slot.SlotValue.TheVariants.{Asked, Empty, Home, Replied}
@@ -123,15 +123,15 @@ pub in_hand : (m : Me) → (h : HoldsAll m) → m ≡ (sat (opening m) (part m),
 in_hand m h = h.has ∙ ap (λ c. (sat (opening m) (part m), (0, Home h.last) ∷ c)) (sym (ap (λ (k : Me). rest k.1) h.has))
 
 -- one event was added, and the lane's cell was looked at
-pub serves_one : (m : Me) (lane moment : ℕ) (ask : Ask) (reply : Result Answer Errno) (next : State) (w : Me)
+pub answers_one : (m : Me) (lane moment : ℕ) (ask : Ask) (reply : Result Answer Errno) (next : State) (w : Me)
     → (h : HoldsAll m) → w ≡ (
       sat (opening m) (answered (grabbed (part m) lane moment ask) h.log (event_of lane moment ask reply)),
       (0, Home next) ∷ rest m.1,
-    ) → Step h.last (event_of lane moment ask reply) next → ServesLane m lane 1 w
-serves_one m lane moment ask reply next w h is does =
+    ) → Step h.last (event_of lane moment ask reply) next → LooksAtLane m lane 1 w
+answers_one m lane moment ask reply next w h is does =
     let p : Part = part m in
     let e : Event = event_of lane moment ask reply in
-    subst (λ (z : Me). ServesLane m lane 1 z) (sym is) (
+    subst (λ (z : Me). LooksAtLane m lane 1 z) (sym is) (
       next,
       refl,
       record {
@@ -164,13 +164,13 @@ done_if true d e = refl
 done_if false d e = e
 
 -- the lane's cell was looked at, and no event was added
-pub serves_none : (m : Me) (lane x : ℕ) (w : Me) → (h : HoldsAll m)
+pub answers_none : (m : Me) (lane x : ℕ) (w : Me) → (h : HoldsAll m)
     → w ≡ (sat (opening m) (looked_at (part m) lane ((eqb x 3) && (eqb lane (part m).lane))), m.1)
-    → (lane ≡ (part m).lane → (part m).flight ≢ None → x ≡ 3) → ServesLane m lane 0 w
-serves_none m lane x w h is three =
+    → (lane ≡ (part m).lane → (part m).flight ≢ None → x ≡ 3) → LooksAtLane m lane 0 w
+answers_none m lane x w h is three =
     let p : Part = part m in
     let b : Bool = (eqb x 3) && (eqb lane p.lane) in
-    subst (λ (z : Me). ServesLane m lane 0 z) (sym is) (
+    subst (λ (z : Me). LooksAtLane m lane 0 z) (sym is) (
       h.last,
       (λ i. (sat (opening m) (looked_at p lane b), (in_hand m h i).1)),
       record {
@@ -242,7 +242,7 @@ stays_on p q r first second = record {
 }
 
 goes_on : (a : State) (p q r : Part) (j k lane : ℕ) (store next : State) → Progress a p j lane q store
-    → Served a q lane k r next → Progress a p (j + k) (lane + 1) r next
+    → LookedAt a q lane k r next → Progress a p (j + k) (lane + 1) r next
 goes_on a p q r j k lane store next g s =
     let base : List Event = held_of p.holding in
     let same : s.log ≡ base ++ g.events = ap held_of (sym s.held ∙ g.holds) in
@@ -262,14 +262,14 @@ goes_on a p q r j k lane store next g s =
           (λ ne. s.done (g.done (omega arith) has));
     }
 
-pub goes_at : (m n w : Me) (j k lane : ℕ) → Goes m j lane n → ServesLane n lane k w → Goes m (j + k) (lane + 1) w
+pub goes_at : (m n w : Me) (j k lane : ℕ) → Goes m j lane n → LooksAtLane n lane k w → Goes m (j + k) (lane + 1) w
 goes_at m n w j k lane g s =
     let same : opening n ≡ opening m = ap opening g.1 in
     let behind : rest n.1 ≡ rest m.1 = ap (λ (z : Me). rest z.1) g.1 in (
       s.0,
       s.1 ∙ (λ i. (sat (same i) (part w), (0, Home s.0) ∷ behind i)),
       goes_on (opening m) (part m) (part n) (part w) j k lane g.0 s.0 g.2
-          (subst (λ (b : State). Served b (part n) lane k (part w) s.0) same s.2),
+          (subst (λ (b : State). LookedAt b (part n) lane k (part w) s.0) same s.2),
     )
 
 pub held_at : (m n : Me) (j lane : ℕ) → HoldsAll m → Goes m j lane n → HoldsAll n

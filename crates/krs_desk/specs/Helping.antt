@@ -160,7 +160,7 @@ Goes m count lane n =
     × Progress (opening m) (part m) count lane (part n) store
 
 -- the cell of one lane was looked at, and so many calls answered
-pub record Served (a : State) (p : Part) (at count : ℕ) (q : Part) (store : State) : Type 0 where
+pub record LookedAt (a : State) (p : Part) (at count : ℕ) (q : Part) (store : State) : Type 0 where
   pub log : List Event
   pub events : List Event
   pub held : p.holding ≡ Some log
@@ -174,10 +174,10 @@ pub record Served (a : State) (p : Part) (at count : ℕ) (q : Part) (store : St
   pub done : p.done ≡ true → q.done ≡ true
 
 -- the same slots in hand, for one lane
-abbrev pub ServesLane : Me → ℕ → ℕ → Me → Type 0
-ServesLane m lane count n =
+abbrev pub LooksAtLane : Me → ℕ → ℕ → Me → Type 0
+LooksAtLane m lane count n =
     (store : State) × (n ≡ (sat (opening m) (part n), (0, Home store) ∷ rest m.1))
-    × Served (opening m) (part m) lane count (part n) store
+    × LookedAt (opening m) (part m) lane count (part n) store
 
 -- a call of the token's own lane was served, as the last of its turn, and the turn given back
 pub record Finishes (m : Me) (event : Event) (n : Me) : Type 0 where

@@ -3,8 +3,8 @@ ghost use Rattle.std.specs.Prelude.{◌+◌, ◌<◌, ◌≡◌, ◌≢◌, ◌�
 ghost use Rattle.atomic_table.specs.Table.{rest};
 ghost use Rattle.krs_model.specs.History.{event_of};
 ghost use Rattle.krs_world.specs.Knowing.{events_of, missed, put_none};
-ghost use Rattle.krs_desk.specs.Helping.{Goes, Had, HasHelped, held_of, HoldsAll, IsBehind, lanes_of, ServesBehind};
-ghost use Rattle.krs_desk.specs.Helping.{ServesLane, turned_back};
+ghost use Rattle.krs_desk.specs.Helping.{Goes, Had, HasHelped, held_of, HoldsAll, IsBehind, lanes_of, LooksAtLane};
+ghost use Rattle.krs_desk.specs.Helping.{ServesBehind, turned_back};
 ghost use Rattle.krs_desk.specs.{Parts.sat, Seated.{is_free, IsResting, opening, part}};
 
 use crate::desk::Desk;
@@ -80,7 +80,7 @@ impl Desk {
         requires hand { idle ≡ is_free (part token.old.me).flight }
         ensures table { token.new.table_id ≡ token.old.table_id }
         ensures few { result ≤ 1 }
-        ensures served { ServesLane token.old.me lane result token.new.me }
+        ensures looked { LooksAtLane token.old.me lane result token.new.me }
     {
         let table = &self.table;
         let cell = cell_of!(lane);
@@ -98,14 +98,14 @@ impl Desk {
     }
 
     // Looks at a lane's cell, and answers the call that is posted there, if one is. It tells how many.
-    fn serve_lane(&self, token: &mut Token, idle: bool, lane: u32) -> u32
+    fn look_at_lane(&self, token: &mut Token, idle: bool, lane: u32) -> u32
         requires table { token.old.table_id ≡ self.now }
         requires room { lane + 1 < self.now.words }
         requires held { HoldsAll token.old.me }
         requires hand { idle ≡ is_free (part token.old.me).flight }
         ensures table { token.new.table_id ≡ token.old.table_id }
         ensures few { result ≤ 1 }
-        ensures served { ServesLane token.old.me lane result token.new.me }
+        ensures looked { LooksAtLane token.old.me lane result token.new.me }
     {
         if self.table.load::<Glances>(token, cell_of!(lane)) != POSTED {
             return 0;
@@ -114,7 +114,7 @@ impl Desk {
     }
 
     // Looks at each lane's cell in turn, and tells how many calls it answered.
-    pub(crate) fn serve_all(&self, token: &mut Token, idle: bool) -> u32
+    pub(crate) fn look_at_lanes(&self, token: &mut Token, idle: bool) -> u32
         requires table { token.old.table_id ≡ self.now }
         requires held { HoldsAll token.old.me }
         requires hand { idle ≡ is_free (part token.old.me).flight }
@@ -124,7 +124,7 @@ impl Desk {
         let lanes = (self.table.word_count() - 1) as u32;
         let mut answered = 0;
         for lane in 0..lanes {
-            answered += self.serve_lane(token, idle, lane);
+            answered += self.look_at_lane(token, idle, lane);
         }
         answered
     }
@@ -160,7 +160,7 @@ impl Desk {
         if self.take(&mut seat.token) != FREE {
             return Helped::Busy;
         }
-        let answered = self.serve_all(&mut seat.token, seat.idle);
+        let answered = self.look_at_lanes(&mut seat.token, seat.idle);
         self.bring(&mut seat.token);
         Helped::Took(answered)
     }

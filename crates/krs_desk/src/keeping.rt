@@ -114,7 +114,7 @@ impl Desk {
         if !self.bells.is_any_posted() {
             return;
         }
-        let _answered = self.serve_all(token, true);
+        let _answered = self.look_at_lanes(token, true);
         self.wake_if_asleep();
     }
 

@@ -2,20 +2,20 @@ use Rattle.std.proofs.Common.{◌+◌, ◌∙◌, ◌∷◌, ap, refl, rules, sy
 use Rattle.atomic_table.specs.Table.{rest}
 use Rattle.krs_desk.specs.Seated.{is_free, Me, opening, part}
 use Rattle.krs_desk.specs.declared.slot.SlotValue.TheVariants.{Asked, Empty, Home}
-use Rattle.krs_desk.proofs.Helps.{answered_is, emptied, lies_behind, read_is, replied, serves_none, serves_one, slot_is}
-use Rattle.krs_desk.proofs.{Seats.front, Serves.{answers_at, grabs_at}}
+use Rattle.krs_desk.proofs.Helps.{answered_is, answers_none, answers_one, emptied, lies_behind, read_is, replied}
+use Rattle.krs_desk.proofs.{Helps.slot_is, Seats.front, Serves.{answers_at, grabs_at}}
 use Rattle.krs_desk.proofs.desk.Desk.answer_lane.Goals as goal
 
 pub compare_exchange-requires : goal.compare_exchange-requires
 compare_exchange-requires c =
     (search rules, search rules, grabs_at _ _ _ c.args.lane c.args.token.now.me c.requires.held (search rules))
 
-pub returns-then-compare_exchange-ne-POSTED-clause-served : goal.returns-then-compare_exchange-ne-POSTED-clause-served
-returns-then-compare_exchange-ne-POSTED-clause-served c =
+pub returns-then-compare_exchange-ne-POSTED-clause-looked : goal.returns-then-compare_exchange-ne-POSTED-clause-looked
+returns-then-compare_exchange-ne-POSTED-clause-looked c =
     let m = c.args.token.now.me in
     let told = c.compare_exchange.ensures.2 in
     let t = (told c.args.lane refl).1 c.if-compare_exchange-ne-POSTED.true in
-    serves_none m c.args.lane c.compare_exchange.result c.compare_exchange.new.seat.me c.requires.held t.0 t.1
+    answers_none m c.args.lane c.compare_exchange.result c.compare_exchange.new.seat.me c.requires.held t.0 t.1
 
 pub exchange-requires : goal.exchange-requires
 exchange-requires c =
@@ -109,8 +109,8 @@ store-requires c =
           (search rules),
     )
 
-pub returns-clause-served : goal.returns-clause-served
-returns-clause-served c =
+pub returns-clause-looked : goal.returns-clause-looked
+returns-clause-looked c =
     let m = c.args.token.now.me in
     let told = c.compare_exchange.ensures.2 in
     let t = (told c.args.lane refl).0 c.if-compare_exchange-ne-POSTED.false in
@@ -128,7 +128,7 @@ returns-clause-served c =
     let laid =
     replied m w c.serve_behind-reply.new.token.me c.exchange-2.new.seat.me c.args.lane c.in-Asked.moment c.in-Asked.ask
     c.serve_behind-reply.result served.0 h bare served.1 c.exchange-2.ensures.3 in
-    serves_one m c.args.lane c.in-Asked.moment c.in-Asked.ask c.serve_behind-reply.result served.0 c.store.new.seat.me h
-    (answered_is (opening m) 0 c.args.lane c.in-Asked.moment c.in-Asked.ask c.serve_behind-reply.result (part m)
+    answers_one m c.args.lane c.in-Asked.moment c.in-Asked.ask c.serve_behind-reply.result served.0 c.store.new.seat.me
+    h (answered_is (opening m) 0 c.args.lane c.in-Asked.moment c.in-Asked.ask c.serve_behind-reply.result (part m)
     ((0, Home served.0) ∷ rest m.1) h.log c.exchange-2.new.seat.me c.store.new.seat.me laid h.held c.store.ensures.2)
     served.2

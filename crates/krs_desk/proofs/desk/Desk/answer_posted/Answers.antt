@@ -11,13 +11,13 @@ returns-then-not-is_any_posted-clause-gone c = record {
   goes = starts c.args.token.now.me c.requires.held;
 }
 
-pub serve_all-answered-requires-clause-hand : goal.serve_all-answered-requires-clause-hand
-serve_all-answered-requires-clause-hand c = sym (none_free _ c.requires.idle)
+pub look_at_lanes-answered-requires-clause-hand : goal.look_at_lanes-answered-requires-clause-hand
+look_at_lanes-answered-requires-clause-hand c = sym (none_free _ c.requires.idle)
 
 pub returns-clause-gone : goal.returns-clause-gone
 returns-clause-gone c = record {
-  count = c.serve_all-answered.result;
+  count = c.look_at_lanes-answered.result;
   looked = lanes_of c.args.self.now;
   whole = inr refl;
-  goes = c.serve_all-answered.ensures.gone;
+  goes = c.look_at_lanes-answered.ensures.gone;
 }

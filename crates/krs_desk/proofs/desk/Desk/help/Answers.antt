@@ -17,18 +17,19 @@ invariant_of-seat c = (
   search rules,
 )
 
-pub serve_all-answered-requires-clause-held : goal.serve_all-answered-requires-clause-held
-serve_all-answered-requires-clause-held c = (in_turn (given_seated c.seat.invariant.0 c.give_back.ensures.given)
+pub look_at_lanes-answered-requires-clause-held : goal.look_at_lanes-answered-requires-clause-held
+look_at_lanes-answered-requires-clause-held c = (in_turn (given_seated c.seat.invariant.0 c.give_back.ensures.given)
     (c.take.ensures.had c.if-take-ne-FREE.false)).holds
 
-pub serve_all-answered-requires-clause-hand : goal.serve_all-answered-requires-clause-hand
-serve_all-answered-requires-clause-hand c =
+pub look_at_lanes-answered-requires-clause-hand : goal.look_at_lanes-answered-requires-clause-hand
+look_at_lanes-answered-requires-clause-hand c =
     had_hand (given_seated c.seat.invariant.0 c.give_back.ensures.given) (c.take.ensures.had c.if-take-ne-FREE.false)
 
 pub invariant_of-seat-2 : goal.invariant_of-seat-2
 invariant_of-seat-2 c =
     let seated = given_seated c.seat.invariant.0 c.give_back.ensures.given in
-    let t = turn_on (in_turn seated (c.take.ensures.had c.if-take-ne-FREE.false)) c.serve_all-answered.ensures.gone in
+    let t =
+    turn_on (in_turn seated (c.take.ensures.had c.if-take-ne-FREE.false)) c.look_at_lanes-answered.ensures.gone in
     (placed c.give_back.ensures.none (brought_seated t c.bring.ensures.brought), search rules)
 
 pub returns-clause-helped : goal.returns-clause-helped
@@ -37,5 +38,5 @@ returns-clause-helped c =
     let view = given_view c.seat.invariant.0 c.seat.view_is c.give_back.ensures.table c.give_back.ensures.given in
     helped view (search rules)
     (within seated c.seat.invariant.1 (ap (λ (s : Sitting). s.table) c.seat.view_is ∙ c.requires.table))
-    (c.take.ensures.had c.if-take-ne-FREE.false) c.serve_all-answered.ensures.gone c.bring.ensures.brought
+    (c.take.ensures.had c.if-take-ne-FREE.false) c.look_at_lanes-answered.ensures.gone c.bring.ensures.brought
     c.bring.ensures.mine

@@ -1,6 +1,6 @@
 use Rattle.std.proofs.Common.{◌≡◌, ◌≤◌}
 use Rattle.krs_desk.specs.Helping.{Goes}
-use Rattle.krs_desk.proofs.desk.Desk.serve_all.Given as goal
+use Rattle.krs_desk.proofs.desk.Desk.look_at_lanes.Given as goal
 
 abbrev pub invariant-loop-lane : goal.invariant-loop-lane
 invariant-loop-lane l = record {
