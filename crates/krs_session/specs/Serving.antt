@@ -24,13 +24,13 @@ pub record Stand (S C W : Type 0) : Type 0 where
 abbrev pub stand : {H W S D C G : Type 0} → Connection H W S D C G → Stand S C W
 stand c = record { seat = c.seat.now; clock = c.clock.now; writer = c.writer.now }
 
--- its desk serves its seat, and one more failed write can be counted
+-- its desk is ready for its seat, and one more failed write can be counted
 abbrev pub MayServe : {H W S D C G : Type 0} → keepers.Ghosts D S H → sinks.Ghosts W → Connection H W S D C G → Type 0
 MayServe keeper sink c =
     keeper.ready c.setting.now.desk.now c.seat.now × (sink.failures c.writer.now < 18446744073709551615)
 
--- The same connection, later: of one setting, over the same end, seat and clock. Its desk serves its seat, whose asks
--- are of the same lane.
+-- The same connection, later: of one setting, over the same end, seat and clock. Its desk is ready for its seat, whose
+-- asks are of the same lane.
 pub record Stays {H W S D C G : Type 0} (keeper : keepers.Ghosts D S H) (old new : Connection H W S D C G)
     : Type 0 where
   pub setting : new.setting ≡ old.setting

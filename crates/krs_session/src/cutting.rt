@@ -9,7 +9,7 @@ use std::marker::PhantomData;
 
 /// What is told to be lacking where the store is to keep nothing, from no client, whatever memory there is:
 /// `KEEP_NOTHING` of krs_watch. A session that lacks some of its reserve tells so while it has a piece asked, until it
-/// has taken back what it can: the C library may have memory for the thread that serves an ask, and none for this one.
+/// has taken back what it can: the C library may have memory for the thread that does an ask, and none for this one.
 pub(crate) const UNMET: u64 = 1 << 40;
 
 /// Tells a desk that a session comes to lack its reserve, before others can take what is let go of it.

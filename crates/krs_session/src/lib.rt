@@ -1,6 +1,9 @@
 //! One connection: asks in, replies out, and LEAVE last. docs/FORMAT.md, "A connection". The ends of the connection,
 //! the clock and the desk are traits that tell what they gave, took and answered, so `run` says what a whole session
 //! did.
+//!
+//! A session is here the conversation on one connection, as of any protocol. A user's session is another thing: the
+//! processes that have one session keyring, as keyctl(1) has it.
 #![tactic(auto)]
 
 mod asking;
