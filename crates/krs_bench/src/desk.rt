@@ -25,12 +25,12 @@ const ROUND: u32 = 64;
 /// How many asks one thread makes, of the store and of a desk.
 const ASKS: u32 = 1_000_000;
 
-/// How a thread has its asks served.
+/// How a thread makes its calls.
 #[derive(Clone, Copy)]
 enum Way {
     /// By `call`: in a turn of its own, which answers what is posted too; it posts only where the turn stays taken.
     Call,
-    /// By `try_call` until the turn is had: each serves its own, and lets others go first meanwhile.
+    /// By `try_call` until the turn is had: each makes its own alone, and lets others go first meanwhile.
     Turns,
 }
 
