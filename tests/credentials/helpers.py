@@ -7,7 +7,7 @@ import subprocess
 import tempfile
 from contextlib import contextmanager, suppress
 
-from compare import attempt, compare, conclude, outcome, skipped, write  # noqa: F401 # for who imports this
+from compare import attempt, compare, conclude, outcome, skipped, text_of, write  # noqa: F401 # for who imports this
 from daemons import PATIENCE, Daemon, until
 import keyretain
 

@@ -28,7 +28,8 @@ def try_types(caller):
     compare("a key for plain", "InvalidArgs", caller.call("OpenSession", "sv", "plain", ("ay", b"x")))
     compare("parameters for plain", "InvalidArgs", caller.call(
         "CreateItem", "a{sv}(oayays)b", {}, (session, b"x", b"x", ""), False, **in_collection))
-    for path in ("/", f"{ROOT}/prompt/1", f"{ROOT}/collection/login", f"{ROOT}/session/77"):
+    compare("what is above all", "UnknownMethod", caller.call("Close", path="/", interface=None))
+    for path in (f"{ROOT}/prompt/1", f"{ROOT}/collection/login", f"{ROOT}/session/77"):
         compare(path, True, caller.call("Close", path=path, interface=None) in ("NoSuchObject", "NoSession"))
     compare("an item of no name", "NoSuchObject", caller.secret(f"{SESSION_COLLECTION}/a/b", session))
 
@@ -148,8 +149,8 @@ with daemon(), bus() as broker:
             compare("its name", "keyretain-secre\n", comm.read())
         compare("its memory is root's", 0, os.stat(f"/proc/{process.pid}/mem").st_uid)
         second = subprocess.run([f"{FOLDER}/bin/keyretain-secrets"], capture_output=True, check=False, timeout=PATIENCE)
-        compare("a second one", (1, b"keyretain-secrets: org.freedesktop.secrets is another program's on this bus\n"),
-                (second.returncode, second.stderr))
+        compare("a second one", (3, f"keyretain-secrets: it runs already, as process {process.pid}\n"),
+                (second.returncode, second.stderr.decode()))
         broker.kill()
         compare("it ends with the bus", 0, process.wait(PATIENCE))
         compare("it has told nothing", b"", process.stderr.read())

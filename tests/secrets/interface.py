@@ -1,6 +1,10 @@
 """interface.py: each method, property, signal and error, by the Secret Service API 0.2."""
-from stage import (COLLECTION, FOLDER, ITEM, PATIENCE, PROPERTIES, ROOT, SERVICE, SESSION, SESSION_COLLECTION, Caller,
-                   bus, compare, conclude, daemon, secrets)
+import os
+import shutil
+import xml.etree.ElementTree as ET
+
+from stage import (COLLECTION, FOLDER, ITEM, NAME, PATIENCE, PROPERTIES, ROOT, SERVICE, SESSION, SESSION_COLLECTION,
+                   Caller, bus, compare, conclude, daemon, run, secrets, skipped, text_of)
 from cryptography.hazmat.primitives import hashes, hmac
 from cryptography.hazmat.primitives.ciphers import Cipher, algorithms, modes
 from jeepney import HeaderFields, MatchRule
@@ -12,7 +16,8 @@ ALIASED = f"{ROOT}/aliases/session"
 
 def try_collections(caller):
     compare("the collections", ("ao", [SESSION_COLLECTION]), caller.get(ROOT, SERVICE, "Collections"))
-    compare("the alias session", (SESSION_COLLECTION,), caller.call("ReadAlias", "s", "session"))
+    for alias in ("session", "keyretain"):
+        compare(f"the alias {alias}", (SESSION_COLLECTION,), caller.call("ReadAlias", "s", alias))
     for alias in ("default", "login", ""):
         compare(f"the alias {alias!r}", ("/",), caller.call("ReadAlias", "s", alias))
         compare(f"a collection of the alias {alias!r}", "NotSupported",
@@ -146,6 +151,89 @@ def group():
     return (1 << 1024) - (1 << 960) - 1 + (1 << 64) * ((pi >> 66) + 129093)
 
 
+def try_default():
+    """What a word of its user's adds: the alias by which programs ask that name no collection."""
+    path = f"{ROOT}/aliases/default"
+    with daemon(), bus(), secrets("--default"), Caller() as caller:
+        compare("the alias default", (SESSION_COLLECTION,), caller.call("ReadAlias", "s", "default"))
+        compare("it is there", ("b", False), caller.get(path, COLLECTION, "Locked"))
+        compare("it is unlocked", ([path], "/"), caller.call("Unlock", "ao", [path]))
+        compare("made, as by who finds none", (SESSION_COLLECTION, "/"),
+                caller.call("CreateCollection", "a{sv}s", {}, "default"))
+        compare("set as it is", (), caller.call("SetAlias", "so", "default", SESSION_COLLECTION))
+        compare("no other", ("/",), caller.call("ReadAlias", "s", "login"))
+        item = caller.create(caller.open_plain(), {"a": "b"}, b"s3cret", path=path)
+        compare("an item", ([item], []), caller.search({"a": "b"}))
+
+
+# What an object has by the Secret Service API: methods with what goes in and comes out, and properties.
+WANTED = {
+    SERVICE: ({"OpenSession": "sv>vo", "CreateCollection": "a{sv}s>oo", "SearchItems": "a{ss}>aoao",
+               "Unlock": "ao>aoo", "Lock": "ao>aoo", "GetSecrets": "aoo>a{o(oayays)}", "ReadAlias": "s>o",
+               "SetAlias": "so>"}, {"Collections": "ao read"}),
+    COLLECTION: ({"Delete": ">o", "SearchItems": "a{ss}>ao", "CreateItem": "a{sv}(oayays)b>oo"},
+                 {"Items": "ao read", "Label": "s read", "Locked": "b read", "Created": "t read",
+                  "Modified": "t read"}),
+    ITEM: ({"Delete": ">o", "GetSecret": "o>(oayays)", "SetSecret": "(oayays)>"},
+           {"Attributes": "a{ss} readwrite", "Label": "s readwrite", "Locked": "b read", "Created": "t read",
+            "Modified": "t read"}),
+    SESSION: ({"Close": ">"}, {}),
+}
+
+
+def introspected(caller, path):
+    """An object's own interface, with what it has, and the nodes below it."""
+    answer = caller.call("Introspect", path=path, interface="org.freedesktop.DBus.Introspectable")
+    if isinstance(answer, str):
+        return answer, {}, []
+    told = {it.get("name"): it for it in ET.fromstring(answer[0]).iter("interface")}
+    own = next((name for name in told if name.startswith("org.freedesktop.Secret")), "")
+    methods = {method.get("name"): ">".join("".join(arg.get("type") for arg in method.iter("arg")
+                                                    if arg.get("direction") == way) for way in ("in", "out"))
+               for method in (told[own].iter("method") if own else ())}
+    values = {value.get("name"): f"{value.get('type')} {value.get('access')}"
+              for value in (told[own].iter("property") if own else ())}
+    return own, (methods, values), [it.get("name") for it in ET.fromstring(answer[0]).findall("node")]
+
+
+def try_introspected(caller):
+    """As busctl(1) and others look at it, from the root on."""
+    session = caller.open_plain()
+    item = caller.create(session, {"a": "b"}, b"s3cret")
+    for path, below in (("/", ["org"]), ("/org", ["freedesktop"]), (f"{ROOT}/aliases", ["session", "keyretain"])):
+        compare(f"introspected: {path}", ("", below), introspected(caller, path)[::2])
+    compare("introspected: nodes", ["collection", "aliases", "session"], introspected(caller, ROOT)[2])
+    for path, kind in ((ROOT, SERVICE), (SESSION_COLLECTION, COLLECTION), (ALIASED, COLLECTION), (item, ITEM),
+                       (session, SESSION)):
+        compare(f"introspected: {path}", (kind, WANTED[kind]), introspected(caller, path)[:2])
+    compare("introspected: items", [item.rpartition("/")[2]], introspected(caller, SESSION_COLLECTION)[2])
+    compare("introspected: none", "NoSuchObject", introspected(caller, "/org/example")[0])
+    with Caller() as other:
+        compare("introspected: another's session", [], introspected(other, f"{ROOT}/session")[2])
+    for words in (["busctl", "--user", "tree", NAME], ["busctl", "--user", "introspect", NAME, ROOT],
+                  ["gdbus", "introspect", "--session", "--dest", NAME, "--object-path", ROOT]):
+        if shutil.which(words[0]):
+            status, said, _ = run(words)
+            compare(f"by {' '.join(words[:3])}", (0, True), (status, b"secrets" in said or b"OpenSession" in said))
+        else:
+            skipped(f"{words[0]}: it isn't there")
+    compare("deleted", ("/",), caller.call("Delete", path=item, interface=ITEM))
+
+
+def try_taken():
+    """Another program has the name: who, what to do, and a status by which the unit doesn't try again."""
+    with daemon(), bus(), Caller() as other:
+        other.connection.send_and_get_reply(message_bus.RequestName(NAME), timeout=PATIENCE)
+        status, _, told = run([f"{FOLDER}/bin/keyretain-secrets"])
+        with open("/proc/self/comm", encoding="ascii") as comm:
+            owner = f"{comm.read()[:-1]}'s (process {os.getpid()})"
+        wanted = f"keyretain-secrets: {NAME} is {owner} on this bus. keyretain-secrets(1) shows how the bus starts " \
+            "this program in its place; then end that one\n"
+        compare("another program's", (3, wanted), (status, told.decode()))
+    unit = text_of("contrib/systemd/user/keyretain-secrets.service")
+    compare("the unit doesn't try again", True, "\nRestartPreventExitStatus=2 3\n" in unit)
+
+
 def try_started():
     """By the bus, at the first call."""
     with daemon(), bus(services=f"{FOLDER}/share/keyretain"), Caller() as caller:
@@ -159,7 +247,10 @@ with daemon(), bus(), secrets(), Caller() as client:
     try_sessions(client)
     try_encrypted(client, group())
     try_signals(client)
+    try_introspected(client)
     compare("no such method", "UnknownMethod", client.call("Frobnicate"))
     compare("no such interface", "UnknownInterface", client.call("OpenSession", interface="org.example.No"))
+try_default()
+try_taken()
 try_started()
 conclude()

@@ -8,7 +8,7 @@ from contextlib import contextmanager
 
 sys.path.insert(0, os.path.join(os.path.dirname(os.path.abspath(__file__)), "../credentials"))
 from helpers import (FOLDER, PATIENCE, attempt, compare, conclude, daemon, looking,  # noqa: E402,F401
-                     outcome, run, until, write)
+                     outcome, run, skipped, text_of, until, write)
 from jeepney import DBusAddress, MessageType, new_method_call  # noqa: E402
 from jeepney.io.blocking import open_dbus_connection  # noqa: E402
 

@@ -23,4 +23,10 @@ with daemon(), bus(), secrets():
     compare("clear", 0, tool("clear", "a", "b")[0])
     compare("cleared", (1, b""), tool("lookup", "a", "b")[:2])
     compare("the other stays", (0, b"other"), tool("lookup", "a", "c")[:2])
+    compare("by the name of its own", 0, tool("store", "--collection=keyretain", "--label=x", "k", "l", given="own")[0])
+    compare("it is there", (0, b"own"), tool("lookup", "k", "l")[:2])
+with daemon(), bus(), secrets("--default"):
+    compare("with a default: as typed", 0, tool("store", "--label=x", "d", "e", given="s3cret")[0])
+    compare("with a default: lookup", (0, b"s3cret"), tool("lookup", "d", "e")[:2])
+    compare("with a default: clear", (0, 1), (tool("clear", "d", "e")[0], tool("lookup", "d", "e")[0]))
 conclude()

@@ -53,4 +53,9 @@ with daemon(), bus(), secrets():
     item.delete()
     compare("deleted", "ItemNotFoundException", outcome(item.get_label))
     compare("all", [], list(collection.get_all_items()))
+with daemon(), bus(), secrets("--default"):
+    connection = secretstorage.dbus_init()
+    collection = secretstorage.get_default_collection(connection)
+    item = collection.create_item("a label", {"a": "b"}, b"s3cret")
+    compare("the default collection", [b"s3cret"], [one.get_secret() for one in collection.search_items({"a": "b"})])
 conclude()

@@ -17,7 +17,27 @@ from .helper import words_of
 from .locker import Entry, Locker
 
 KEYRING = "python-keyring"
-PRIORITY = 4.5  # below backends that keep what they are given over a restart, which have 5
+# Below backends that keep what they are given over a restart, which have 5. But above the one that would ask
+# keyretain-secrets(1), and not find the collection `default` there.
+PRIORITY, WITHOUT_DEFAULT = 4.5, 5.5
+SECONDS = 2  # that the session bus has to answer
+
+
+def _is_without_default() -> bool:
+    """Whether the session bus's secrets are keyretain-secrets', without `default`. What isn't running isn't started."""
+    try:
+        from jeepney import DBusAddress, MessageFlag, new_method_call  # pylint: disable=import-outside-toplevel
+        from jeepney.io.blocking import open_dbus_connection  # pylint: disable=import-outside-toplevel
+        address = DBusAddress("/org/freedesktop/secrets", "org.freedesktop.secrets", "org.freedesktop.Secret.Service")
+        found = []
+        with open_dbus_connection(auth_timeout=SECONDS) as bus:
+            for alias in ("keyretain", "default"):
+                ask = new_method_call(address, "ReadAlias", "s", (alias,))
+                ask.header.flags |= MessageFlag.no_auto_start
+                found += bus.send_and_get_reply(ask, timeout=SECONDS).body
+        return found[0].startswith("/org/") and found[1] == "/"
+    except Exception:  # pylint: disable=broad-except # no jeepney, no bus, or what answers is another program
+        return False
 
 
 class _Priority:
@@ -26,7 +46,7 @@ class _Priority:
     def __get__(self, instance: object, owner: object = None) -> float:
         if not os.path.exists(default_path()):
             raise RuntimeError(f"no socket of keyretaind(8) is there: {advice(None, errno.ENOENT)}")
-        return PRIORITY
+        return WITHOUT_DEFAULT if _is_without_default() else PRIORITY
 
 
 def _encode(text: str) -> bytes:

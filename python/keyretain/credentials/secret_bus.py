@@ -5,6 +5,7 @@ from __future__ import annotations
 import os
 import socket
 import struct
+from contextlib import suppress
 from itertools import count
 from typing import Any, Optional
 
@@ -99,7 +100,17 @@ class Bus:
         self._calls.ask(message_bus.AddMatch(gone))
         # The calls for which the bus has started the program come before this reply.
         if self._calls.ask(message_bus.RequestName(name, DO_NOT_QUEUE), MOST_EARLY) != FIRST_OWNER:
-            raise FileExistsError(f"{name} is another program's on this bus")
+            raise FileExistsError(self._told_of_owner(name))
+
+    def _told_of_owner(self, name: str) -> str:
+        """Whose the name is, and what to do. A process gives itself any name."""
+        pid, comm = self._calls.ask(message_bus.GetConnectionUnixProcessID(name)), "another program"
+        with suppress(OSError), open(f"/proc/{pid}/comm", encoding="ascii", errors="replace") as file:
+            comm = "".join(sign if sign.isprintable() else "?" for sign in file.read()[:-1])
+        if comm == "keyretain-secre":
+            return f"it runs already, as process {pid}"
+        return f"{name} is {comm}'s (process {pid}) on this bus. keyretain-secrets(1) shows how the bus starts this " \
+            "program in its place; then end that one"
 
     def is_own(self, sender: str) -> bool:
         """Whether it is a process of the effective user. No unique name is given to a second one."""

@@ -1,9 +1,11 @@
 """keyretain-secrets(1): org.freedesktop.secrets on the session bus, by the Secret Service API 0.2. One collection,
-`session`, and nothing is kept here but how secrets cross the bus: each call reads the store anew."""
+`session`, and nothing is kept here but how secrets cross the bus: each call reads the store anew. Its alias `keyretain`
+tells it from others' collections of that name."""
 from __future__ import annotations
 
 import argparse
 import ctypes
+import re
 import resource
 import time
 from typing import Any, Callable, Optional, Sequence
@@ -17,13 +19,16 @@ from .helper import PR_SET_DUMPABLE, complain, version_of, words_of
 from .secret_bus import Bus, field
 from .secret_sessions import ENCRYPTED, PLAIN, Session, agree, seal, unseal
 
-PROGRAM, FAILED = "keyretain-secrets", 1
+PROGRAM, FAILED, IS_ANOTHERS = "keyretain-secrets", 1, 3
 NAME, ROOT = "org.freedesktop.secrets", "/org/freedesktop/secrets"
-ALIAS = "session"
-COLLECTION, ALIASED = f"{ROOT}/collection/{ALIAS}", f"{ROOT}/aliases/{ALIAS}"
+ALIAS, OWN_ALIAS, DEFAULT = "session", "keyretain", "default"
+COLLECTION, ALIASES = f"{ROOT}/collection/{ALIAS}", f"{ROOT}/aliases"
+NO_OTHER = f"the one collection is {ALIAS}: secret-tool --collection={OWN_ALIAS} names it, and {PROGRAM} --{DEFAULT} " \
+    "has programs find it that name none"
 SESSIONS, NOTHING = f"{ROOT}/session", "/"  # NOTHING is also the prompt that no call needs
-INTERFACES = ("Secret.Service", "Secret.Collection", "Secret.Item", "Secret.Session", "DBus.Properties")
-SERVICE, COLLECTIONS, ITEM, SESSION, PROPERTIES = (f"org.freedesktop.{it}" for it in INTERFACES)
+INTERFACES = ("Secret.Service", "Secret.Collection", "Secret.Item", "Secret.Session", "DBus.Properties",
+              "DBus.Introspectable")
+SERVICE, COLLECTIONS, ITEM, SESSION, PROPERTIES, INTROSPECTABLE = (f"org.freedesktop.{it}" for it in INTERFACES)
 MOST_SESSIONS, MOST_OF_A_CLIENT, MOST_ATTRIBUTES, MOST_SECONDS = 1024, 64, 64, 0xffffffff
 SECRET = "(oayays)"
 
@@ -36,7 +41,9 @@ METHODS = {
     ITEM: {"Delete": ("", "o"), "GetSecret": ("o", SECRET), "SetSecret": (SECRET, "")},
     SESSION: {"Close": ("", "")},
     PROPERTIES: {"Get": ("ss", "v"), "GetAll": ("s", "a{sv}"), "Set": ("ssv", "")},
+    INTROSPECTABLE: {"Introspect": ("", "s")},
 }
+TYPE = re.compile(r"a*(?:[a-z]|\([^()]*\)|\{[^{}]*\})")  # one complete type of a signature
 # The properties of each, and which may be set.
 VALUES = {
     SERVICE: {"Collections": "ao"},
@@ -59,11 +66,29 @@ def typed(variant: tuple[str, Any], signature: str) -> Any:
     return variant[1]
 
 
+def described(kind: str, children: Sequence[str]) -> str:
+    """What an object of this interface has, as D-Bus tells it to busctl(1)."""
+    lines = ["<node>"]
+    for interface in dict.fromkeys((kind, PROPERTIES, INTROSPECTABLE)):
+        lines.append(f' <interface name="{interface}">')
+        for member, signatures in METHODS[interface].items():
+            arguments = [f'<arg direction="{way}" type="{it}"/>' for way, types in zip(("in", "out"), signatures)
+                         for it in TYPE.findall(types)]
+            lines.append(f'  <method name="{member}">{"".join(arguments)}</method>')
+        for name, type_ in VALUES.get(interface, {}).items():
+            access = "readwrite" if interface == ITEM and name in SETTABLE else "read"
+            lines.append(f'  <property name="{name}" type="{type_}" access="{access}"/>')
+        lines.append(" </interface>")
+    return "\n".join([*lines, *(f' <node name="{it}"/>' for it in children), "</node>"])
+
+
 class Service:
     """The objects, and what each answers: a method `on_INTERFACE_MEMBER` takes the path and what was given."""
 
-    def __init__(self, bus: Bus, seconds: int) -> None:
+    def __init__(self, bus: Bus, seconds: int, is_default: bool) -> None:
         self._bus, self._seconds, self._began = bus, seconds, int(time.time())
+        self._aliases = (ALIAS, OWN_ALIAS, DEFAULT) if is_default else (ALIAS, OWN_ALIAS)
+        self._aliased = [f"{ALIASES}/{it}" for it in self._aliases]
         self._sessions: dict[str, Session] = {}
         self._opened, self._caller = 0, ""
         self._seen: list[str] = []
@@ -92,9 +117,10 @@ class Service:
             raise Failure("DBus.Error.LimitsExceeded", "a message that is too long, or cannot be read")
         path, asked = field(message, HeaderFields.path), field(message, HeaderFields.interface)
         member, kind = field(message, HeaderFields.member), self._kind_of(path)
-        if asked not in (None, kind, PROPERTIES):
+        if asked not in (None, kind, PROPERTIES, INTROSPECTABLE):
             raise Failure("DBus.Error.UnknownInterface", "the object has no such interface")
-        interface = next((it for it in (kind, PROPERTIES) if asked in (None, it) and member in METHODS[it]), None)
+        those = (kind, PROPERTIES, INTROSPECTABLE)
+        interface = next((it for it in those if asked in (None, it) and member in METHODS[it]), None)
         if interface is None:
             raise Failure("DBus.Error.UnknownMethod", "the object has no such method")
         taken, answered = METHODS[interface][member]
@@ -109,8 +135,10 @@ class Service:
 
     def _kind_of(self, path: str) -> str:
         """The interface of an object. Whether an item is there is seen when it is read."""
-        if path in (ROOT, COLLECTION, ALIASED):
+        if path in (ROOT, COLLECTION, *self._aliased):
             return SERVICE if path == ROOT else COLLECTIONS
+        if path in (NOTHING, ALIASES, SESSIONS) or ROOT.startswith(f"{path}/") or COLLECTION.startswith(f"{path}/"):
+            return INTROSPECTABLE
         if path.startswith(f"{COLLECTION}/"):
             return ITEM
         if path.startswith(f"{SESSIONS}/"):
@@ -196,15 +224,15 @@ class Service:
         return answer, path
 
     def on_Service_CreateCollection(self, _: str, __: dict[str, Any], alias: str) -> tuple[Any, ...]:
-        if alias == ALIAS:
+        if alias in self._aliases:
             return COLLECTION, NOTHING
-        raise Failure("DBus.Error.NotSupported", f"there is one collection, which is {ALIAS}")
+        raise Failure("DBus.Error.NotSupported", NO_OTHER)
 
     def on_Service_SearchItems(self, _: str, wanted: dict[str, str]) -> tuple[Any, ...]:
         return (*self.on_Collection_SearchItems(_, wanted), [])
 
     def on_Service_Unlock(self, _: str, objects: list[str]) -> tuple[Any, ...]:
-        there = {*self._load(), COLLECTION, ALIASED}
+        there = {*self._load(), COLLECTION, *self._aliased}
         return [path for path in objects if path in there], NOTHING
 
     def on_Service_Lock(self, _: str, __: list[str]) -> tuple[Any, ...]:
@@ -216,11 +244,11 @@ class Service:
         return ({path: self._given(there[path], session) for path in paths if path in there},)
 
     def on_Service_ReadAlias(self, _: str, name: str) -> tuple[Any, ...]:
-        return (COLLECTION if name == ALIAS else NOTHING,)
+        return (COLLECTION if name in self._aliases else NOTHING,)
 
     def on_Service_SetAlias(self, _: str, name: str, path: str) -> tuple[Any, ...]:
-        if (name, path) != (ALIAS, COLLECTION):
-            raise Failure("DBus.Error.NotSupported", f"there is one alias, which is {ALIAS}")
+        if name not in self._aliases or path != COLLECTION:
+            raise Failure("DBus.Error.NotSupported", NO_OTHER)
         return ()
 
     def on_Collection_Delete(self, _: str) -> tuple[Any, ...]:
@@ -289,6 +317,14 @@ class Service:
         return ()
 
 
+    def on_Introspectable_Introspect(self, path: str) -> tuple[Any, ...]:
+        kind, above = self._kind_of(path), path.rstrip("/") + "/"
+        own = [it for it, session in self._sessions.items() if session.owner == self._caller]
+        paths = [COLLECTION, *self._aliased, *self._load(), SESSIONS, *own]
+        below = dict.fromkeys(it[len(above):].partition("/")[0] for it in paths if it.startswith(above))
+        return (described(kind, list(below)),)
+
+
 def keep_unseen() -> None:
     """It leaves no core file, and no process but root's may look into its memory."""
     resource.setrlimit(resource.RLIMIT_CORE, (0, 0))
@@ -300,14 +336,17 @@ def main(words: Optional[Sequence[str]] = None) -> int:
     """Answers the exit status."""
     parser = argparse.ArgumentParser(PROGRAM, description="Secrets of the session bus, kept by keyretaind(8).")
     parser.add_argument("--timeout", type=int, default=0, metavar="SECONDS", help="how long an item is kept; 0: no end")
+    parser.add_argument("--default", action="store_true", help="answer for the collection `default` too, which "
+                        "programs want that name none")
     parser.add_argument("--version", action="version", version=version_of(PROGRAM))
-    seconds = parser.parse_args(words).timeout
+    given = parser.parse_args(words)
+    seconds = given.timeout
     if not 0 <= seconds <= MOST_SECONDS:
         parser.error(f"--timeout takes 0 to {MOST_SECONDS}")
     try:
         keep_unseen()
         bus = Bus(NAME)
-        service = Service(bus, seconds)
+        service = Service(bus, seconds, given.default)
         while True:
             message = bus.receive()
             gone = bus.gone(message)
@@ -319,6 +358,9 @@ def main(words: Optional[Sequence[str]] = None) -> int:
         return 0  # the session has ended, and its bus with it
     except KeyboardInterrupt:
         return FAILED
+    except FileExistsError as error:
+        complain(f"{PROGRAM}: {error}")
+        return IS_ANOTHERS
     except Exception as error:  # pylint: disable=broad-except
         complain(f"{PROGRAM}: {words_of(error) if isinstance(error, OSError) else type(error).__name__}")
     return FAILED
