@@ -41,6 +41,10 @@ def try_passwords(one):
         compare("of another service", None, one.get_password("t", "v"))
         compare("a credential", ("u", "one"), pair_of(one.get_credential("s", "u")))
         compare("one of no username: the newest", ("v", "two"), pair_of(one.get_credential("s", None)))
+        one.set_password("github", "u", "five")
+        compare("of a service whose name another's begins with", (None, None),
+                (one.get_password("git", "u"), one.get_credential("git", None)))
+        one.delete_password("github", "u")
         one.set_password("s", "u", "four")
         compare("one that was set anew", ("u", "four"), pair_of(one.get_credential("s", None)))
         compare("no credential", None, one.get_credential("r", None))

@@ -8,17 +8,21 @@ export PYTHONPATH=$lib PYTHONDONTWRITEBYTECODE=1
 patience=60 # seconds that one answer, or the end of a process, may take
 step=0.02   # seconds between two looks
 passed=0 failed=0 runs=0
-path='' log='' daemon='' status='' tried='' told_of=''
+path='' log='' daemon='' status='' tried='' told_of='' uses=''
 declare -A to=() from=() # ends of clients that stand open here
 trap 'exit 1' INT TERM HUP
 ! command -v cc >/dev/null || [[ :$PATH: == *":$lib/compiler:"* ]] || export PATH=$lib/compiler:$PATH
 
 # ---- A folder, and the end
 
-# begin NAME [FOLDER]: what NAME tries. $dir is a folder of its own in FOLDER, which other users may enter
+# begin NAME [FOLDER]: what NAME tries. $dir is a folder of its own in FOLDER, which other users may enter; or ROOM
 begin() {
   tried=$1 parts=$top/tests/$1
-  dir=$(mktemp -d "${2:-/tmp}/keyretain.XXXXXX") || exit 1
+  if [ -n "${ROOM-}" ] && [ -z "${2-}" ]; then
+    dir=$ROOM && mkdir "$dir" || exit 1
+  else
+    dir=$(mktemp -d "${2:-/tmp}/keyretain.XXXXXX") || exit 1
+  fi
   chmod 711 "$dir"
   mkdir -m 1777 "$dir/tmp"
   export TMPDIR=$dir/tmp
@@ -261,10 +265,21 @@ guard_before_it() {
 
 sanitizers=('-fsanitize=address,undefined' -fno-sanitize-recover=all)
 
-# can_sanitize FLAG ..: whether programs can be built with these flags, and run
+# can_sanitize FLAG ..: whether programs can be built with these flags, and run; SANITIZERS=none says not
 can_sanitize() {
+  [ "${SANITIZERS-}" != none ] || return 1
   echo 'int main(void) { return 0; }' >"$dir/empty.c"
   cc "$dir/empty.c" "$@" -o "$dir/empty" 2>/dev/null && "$dir/empty" >/dev/null 2>&1
+}
+
+# is_used NAME [FILE]: whether a function names the program, of those that ONLY has carried out; or the file does
+is_used() {
+  local name
+  [ -n "${ONLY-}" ] || return 0
+  [ -n "$uses" ] || for name in $(compgen -A function | grep -v '^build'); do
+    ! is_chosen "$name" || uses+=$(declare -f "$name")
+  done
+  grep -qw -- "$1" <<<"$uses" || { [ -n "${2-}" ] && grep -qw -- "$1" "$2"; }
 }
 
 # compile_to PROGRAM WORD ..: what the words are compiled and linked to. A handler needn't use its argument
@@ -273,10 +288,17 @@ compile_to() {
     -I"$top/c" -pthread -ldl -o "$dir/$1"
 }
 
-# make_clients FOLDER WORD ..: the clients in C, or the targets that are named, in $dir/FOLDER for libraries in $dir
-make_clients() {
-  make -s -j 4 -C "$top/c" BUILD="$dir/$1" LIBDIR="$dir" LIBEXECDIR="$dir" CFLAGS='-O1 -g -Werror' "${@:2}"
+# make_in FOLDER WORD ..: what make(1) makes of c/ in $dir/FOLDER. Where MADE names a folder, that is kept there the
+# first time, and the next only makes what has changed
+make_in() {
+  local kept=${MADE:+$MADE/$tried.$1}
+  [ ! -d "$kept" ] || [ -e "$dir/$1" ] || cp -a "$kept" "$dir/$1" || return 1
+  make -s -j 4 -C "$top/c" BUILD="$dir/$1" "${@:2}" || return 1
+  [ -z "$kept" ] || [ -d "$kept" ] || cp -a "$dir/$1" "$kept"
 }
+
+# make_clients FOLDER WORD ..: the clients in C, or the targets that are named, in $dir/FOLDER for libraries in $dir
+make_clients() { make_in "$1" LIBDIR="$dir" LIBEXECDIR="$dir" CFLAGS='-O1 -g -Werror' "${@:2}"; }
 
 # make_installed: the clients in C in $dir/c, of which a session finds the library and the keeper in $dir/lib/keyretain
 make_installed() {

@@ -317,21 +317,27 @@ try_given() {
   reports
   : >"$dir/given" && chmod 666 "$dir/given"
   logs_in one children:ignored block open >/dev/null
-  mv "$keeper.true" "$keeper"
   is 'what a keeper is given' "$(given "$(id -u "$user")" "$(id -g "$user")" "$groups")" "$(report)"
+  module=shipped service one "socket=$path"
+  logs_in one open >/dev/null
+  service one "socket=$path"
+  is 'how long a keeper has, of the two seconds of a login' 1800 \
+    "$(sed -n 's/^keyretain-keeper --patience \([0-9]*\) .*/\1/p' "$dir/given")"
+  mv "$keeper.true" "$keeper"
 }
 
 # As long as the application's memory runs as the user nobody's signal reaches it, and none has it written to a file.
 try_no_core() {
-  local log_in=(strace -f -qq -e 'trace=setresuid,prctl,rt_sigprocmask,execve' -o "$dir/trace" "$dir/login") pid
+  local log_in=(strace -f -qq -e 'trace=setsid,setresuid,prctl,rt_sigprocmask,execve' -o "$dir/trace" "$dir/login") pid
   # who isn't root may not read the words of a process that isn't dumpable
   { [ "$(id -u)" = 0 ] && strace -f -qq -o /dev/null true 2>/dev/null; } ||
     { skipped 'what is called before a keeper is executed: not root, or no strace(1)'; return; }
   ASAN_OPTIONS=detect_leaks=0 logs_in one open close >/dev/null
   pid=$(sed -n 's/^\([0-9]*\) .*execve("[^"]*keyretain-keeper".*/\1/p' "$dir/trace")
   is 'what is called before a keeper is executed' \
-    'setresuid prctl(PR_SET_DUMPABLE, SUID_DUMP_DISABLE rt_sigprocmask(SIG_SETMASK, [] execve' \
-    "$(sed -n "s/^$pid  *//p" "$dir/trace" | sed -n -e 's/^\(setresuid\).*/\1/p' -e 's/^\(prctl([^)<]*[^)< ]\).*/\1/p' \
+    'setsid setresuid prctl(PR_SET_DUMPABLE, SUID_DUMP_DISABLE rt_sigprocmask(SIG_SETMASK, [] execve' \
+    "$(sed -n "s/^$pid  *//p" "$dir/trace" | sed -n -e 's/^\(sets[a-z]*\).*/\1/p' \
+      -e 's/^\(setresuid\).*/\1/p' -e 's/^\(prctl([^)<]*[^)< ]\).*/\1/p' \
       -e 's/^\(rt_sigprocmask([^]]*]\).*/\1/p' -e 's/^\(execve\).*/\1/p' -e '/^execve/q' | paste -sd' ')"
 }
 

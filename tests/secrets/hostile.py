@@ -122,6 +122,17 @@ def try_other_user():
                 (ended.returncode, ended.stderr))
 
 
+def try_closed():
+    """What may be looked into is its user's, which root's can't be told by: so another user runs it here."""
+    ids = {"user": NOBODY, "group": NOBODY, "extra_groups": []} if os.geteuid() == 0 else {}
+    with subprocess.Popen(["sleep", "60"], **ids) as plain:
+        compare("the memory of a program", NOBODY if ids else os.geteuid(), os.stat(f"/proc/{plain.pid}/mem").st_uid)
+        plain.kill()
+    with bus(everybody=True, **ids), secrets(**ids) as process:
+        compare("it serves", None, process.poll())
+        compare("its memory is root's", 0, os.stat(f"/proc/{process.pid}/mem").st_uid)
+
+
 def try_variables():
     """An environment that is another user's, as after su(1), names code to OpenSSL."""
     with tempfile.TemporaryDirectory(prefix="keyretain.") as folder:
@@ -147,12 +158,12 @@ with daemon(), bus() as broker:
         compare("no core file", [["0", "0"]], cores)
         with open(f"/proc/{process.pid}/comm", encoding="ascii") as comm:
             compare("its name", "keyretain-secre\n", comm.read())
-        compare("its memory is root's", 0, os.stat(f"/proc/{process.pid}/mem").st_uid)
         second = subprocess.run([f"{FOLDER}/bin/keyretain-secrets"], capture_output=True, check=False, timeout=PATIENCE)
         compare("a second one", (3, f"keyretain-secrets: it runs already, as process {process.pid}\n"),
                 (second.returncode, second.stderr.decode()))
         broker.kill()
         compare("it ends with the bus", 0, process.wait(PATIENCE))
         compare("it has told nothing", b"", process.stderr.read())
-    try_other_user()
+    attempt(try_other_user)
+    attempt(try_closed)
 conclude()

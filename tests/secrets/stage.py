@@ -28,14 +28,15 @@ CONFIGURATION = """<!DOCTYPE busconfig PUBLIC "-//freedesktop//DTD D-Bus Bus Con
 
 
 @contextmanager
-def bus(everybody=False, services=""):
-    """A bus that the environment names. In `services` are the files of those that it starts."""
+def bus(everybody=False, services="", **ids):
+    """A bus that the environment names, of a user if one is named. In `services` are the files of those that it
+    starts."""
     with tempfile.TemporaryDirectory(prefix="keyretain.") as folder:
-        os.chmod(folder, 0o755)
+        os.chmod(folder, 0o777 if ids else 0o755)
         write(f"{folder}/configuration",
               CONFIGURATION.format(folder, '<allow user="*"/>' if everybody else "", services or folder))
         with subprocess.Popen(["dbus-daemon", f"--config-file={folder}/configuration", "--nofork", "--print-address"],
-                              stdout=subprocess.PIPE, stderr=subprocess.DEVNULL) as process:
+                              stdout=subprocess.PIPE, stderr=subprocess.DEVNULL, **ids) as process:
             os.environ["DBUS_SESSION_BUS_ADDRESS"] = process.stdout.readline().decode().strip()
             try:
                 yield process
@@ -44,9 +45,9 @@ def bus(everybody=False, services=""):
 
 
 @contextmanager
-def secrets(*words):
-    """keyretain-secrets on the bus. Answers its process."""
-    with subprocess.Popen([f"{FOLDER}/bin/keyretain-secrets", *words], stderr=subprocess.PIPE) as process:
+def secrets(*words, **ids):
+    """keyretain-secrets on the bus, of a user if one is named. Answers its process."""
+    with subprocess.Popen([f"{FOLDER}/bin/keyretain-secrets", *words], stderr=subprocess.PIPE, **ids) as process:
         with Caller() as caller:
             until(lambda: caller.call("NameHasOwner", "s", NAME, path="/", interface="org.freedesktop.DBus",
                                       name="org.freedesktop.DBus")[0] or process.poll() is not None)
