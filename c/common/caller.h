@@ -9,8 +9,9 @@
 /* ---- rows.c: the calls, a row each: all that the supervisor and libkeyutils.so.1 want to know of one before it is
  * carried out; and who carries it out ---- */
 
-/* The commands of keyctl(2), and behind them the two other system calls. */
-enum { CALL_ADD_KEY = 256, CALL_REQUEST_KEY };
+/* The commands of keyctl(2), and behind them the two other system calls; and what of pipe2(2) and ioctl(2) is for pipes
+ * of notes. */
+enum { CALL_ADD_KEY = 256, CALL_REQUEST_KEY, CALL_PIPE2, CALL_SET_SIZE, CALL_SET_FILTER };
 
 enum { KEY_ARGUMENTS = 5 };
 
@@ -126,6 +127,10 @@ void caller_leave(struct caller *caller, long result);
  * joined one by themselves and for what the process forks from then on, and, where that is its one thread, for what it
  * executes; from another for that thread. Answers the serial of its keyring, or -1 with errno. */
 int32_t caller_join(struct caller *caller, const char *name);
+
+/* KEYCTL_WATCH_KEY with a pipe of notes; and whether a program can have one. */
+long caller_watch(struct caller *caller, int32_t id, int descriptor, int watch);
+bool caller_has_pipes(void);
 
 /* Calls of this thread end by this moment of kr_now at the latest. Answers the moment before. In a library alone. */
 int64_t caller_limit(int64_t until);

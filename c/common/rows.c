@@ -36,10 +36,14 @@ const struct key_row key_rows[] = {
     { CALL("restrict_keyring", KEYCTL_RESTRICT_KEYRING, KEY_ID, KEY_TYPE, KEY_TEXT) },
     { CALL("move", KEYCTL_MOVE, KEY_ID, KEY_ID, KEY_ID) },
     { CALL("capabilities", KEYCTL_CAPABILITIES, KEY_ROOM), .effect = KEY_READS },
+    { CALL("watch_key", KEYCTL_WATCH_KEY, KEY_ID, KEY_NUMBER, KEY_NUMBER), .makes_special = true },
+    { CALL("pipe2", CALL_PIPE2, KEY_NUMBER, KEY_NUMBER) },
+    { CALL("set_size", CALL_SET_SIZE, KEY_NUMBER, KEY_NUMBER) },
+    { CALL("set_filter", CALL_SET_FILTER, KEY_NUMBER, KEY_NUMBER) },
     { 0 }
 };
 
-/* Also of the commands on keys of other types, on persistent keyrings and on pipes of notes. */
+/* Also of the commands on keys of other types and on persistent keyrings. */
 static const struct key_row no_row = { CALL("", -1, KEY_ID), .refused = EOPNOTSUPP };
 
 const struct key_row *key_row_of(int call) {

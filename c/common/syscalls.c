@@ -51,6 +51,7 @@ static long check(const struct key_row *row, values at) {
     case KEYCTL_JOIN_SESSION_KEYRING: return at[0] && !*text_of(at[0]) ? fail_as(EINVAL) : 0;
     case KEYCTL_RESTRICT_KEYRING: return !at[1] != !at[2] ? fail_as(EINVAL) : 0;
     case KEYCTL_MOVE: return (unsigned)at[3] & ~(unsigned)KEYCTL_MOVE_EXCL ? fail_as(EINVAL) : 0;
+    case KEYCTL_WATCH_KEY: return (int)at[2] < -1 || (int)at[2] > UINT8_MAX ? fail_as(EINVAL) : 0;
     default: return 0;
     }
 }
@@ -60,6 +61,7 @@ static bool is_answered_here(const struct key_row *row, values at, long *answer)
     static __thread int chosen;
     int32_t id = id_of(at[0]);
     if (row->refused) return *answer = fail_as(row->refused), true;
+    if (row->call == KEYCTL_WATCH_KEY && !caller_has_pipes()) return *answer = fail_as(EOPNOTSUPP), true;
     if (row->call == KEYCTL_ASSUME_AUTHORITY) return *answer = id ? fail_as(id < 0 ? EINVAL : ENOKEY) : 0, true;
     if (row->call == KEYCTL_SET_REQKEY_KEYRING) return *answer = key_set_reqkey(&chosen, (int)at[0]), true;
     return false;
@@ -113,7 +115,8 @@ static long restrict_keyring(struct caller *caller, int32_t ring, const char *ty
 
 static long capabilities(unsigned char *buffer, size_t room) {
     const unsigned char known[2] = { KEYCTL_CAPS0_CAPABILITIES | KEYCTL_CAPS0_INVALIDATE |
-                                     KEYCTL_CAPS0_RESTRICT_KEYRING | KEYCTL_CAPS0_MOVE, 0 };
+                                     KEYCTL_CAPS0_RESTRICT_KEYRING | KEYCTL_CAPS0_MOVE,
+                                     caller_has_pipes() ? KEYCTL_CAPS1_NOTIFICATIONS : 0 };
     if (buffer && room > 0) {
         memset(buffer, 0, room);
         memcpy(buffer, known, room < sizeof known ? room : sizeof known);
@@ -147,6 +150,7 @@ static long answer(struct caller *caller, int call, values at) {
     case KEYCTL_RESTRICT_KEYRING: return restrict_keyring(caller, id, text_of(at[1]));
     case KEYCTL_MOVE: return kr_move(connection, context, id, id_of(at[1]), id_of(at[2]), (uint32_t)at[3]);
     case KEYCTL_CAPABILITIES: return capabilities((unsigned char *)at[0], at[1]);
+    case KEYCTL_WATCH_KEY: return caller_watch(caller, id, (int)at[1], (int)at[2]);
     default: return fail_as(EOPNOTSUPP);
     }
 }

@@ -271,6 +271,13 @@ static int join_for_thread(struct caller *caller, struct kr_session *session) {
     return 0;
 }
 
+/* Nobody would write to the pipe of a program that has no supervisor. */
+bool caller_has_pipes(void) { return false; }
+long caller_watch(struct caller *caller, int32_t id, int descriptor, int watch) {
+    (void)caller, (void)id, (void)descriptor, (void)watch;
+    return fail_as(EOPNOTSUPP);
+}
+
 int32_t caller_join(struct caller *caller, const char *name) {
     struct kr_session *session = calloc(1, sizeof *session);
     if (!session) return -1;

@@ -86,8 +86,8 @@ static int detach(int reports, int listeners) {
 }
 
 static void supervise(int reports, const char *path, const char *name, char **command) {
-    struct serve_settings settings = { .tracees = { .socket = path, .name = name }, .more = -1, .is_ready = let_go,
-                                       .has_ended = tell_end };
+    struct serve_settings settings = { .tracees = { .socket = path, .name = name, .has_pipes = true }, .more = -1,
+                                       .is_ready = let_go, .has_ended = tell_end };
     int sockets[2];
     if (prctl(PR_SET_CHILD_SUBREAPER, 1, 0, 0, 0) < 0 ||
         socketpair(AF_UNIX, SOCK_STREAM | SOCK_CLOEXEC, 0, sockets) < 0)

@@ -1,6 +1,7 @@
 /* calls.c: copies what a call's pointers mean out of the caller's memory, lets syscalls.c answer it from these
  * copies, and copies the result back. Each byte is read once, so that nothing can change between a look and its
  * use. */
+#include "notes.h"
 #include "serve.h"
 
 /* A type has fewer than 32 bytes and a text fewer than 4,096, with the null byte; an ask has no payload above 65,535
@@ -126,6 +127,9 @@ static long answer_tracee(const struct key_row *row, const unsigned long *given,
     switch (row->call) {
     case KEYCTL_SET_REQKEY_KEYRING: return key_set_reqkey(&tracees_entered()->task->reqkey, (int)arguments.at[0]);
     case KEYCTL_SESSION_TO_PARENT: return tracees_session_to_parent();
+    case CALL_PIPE2: return pipe_make(given[0], (unsigned)given[1]);
+    case CALL_SET_SIZE: return pipe_set_size((int)given[0], given[1]);
+    case CALL_SET_FILTER: return pipe_set_filter((int)given[0], given[1]);
     default: return key_call_of_row(row, arguments);
     }
 }
@@ -140,6 +144,7 @@ long call_carry_out(const struct key_row *row, const unsigned long given[KEY_ARG
     *sum = result < 0 || key_row_only_reads(row, given) ? 0 : sum_of(row, arguments.at);
     bool is_answered = replay_take(&entered->task->replay, data, &entered->asker.process, *sum, &result);
     if (result == 0 && !is_answered) result = answer_tracee(row, given, arguments);
+    queues_after_call(row, given, result);
     long length = result;
     if (room >= 0) result = copy_out(row, given[room], arguments.at[room + 1], result);
     wipe_copies(row, arguments.at, length);

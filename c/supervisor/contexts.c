@@ -36,7 +36,7 @@ struct line {
 static struct {
     struct line *lines; /* the youngest first */
     unsigned last_age, beginnings;
-    int64_t next_further;
+    int64_t next_further, next_apart;
     struct kr_where where;
     struct kr_identity identity;
     struct kr_session mark;
@@ -157,6 +157,18 @@ bool contexts_renew(void) {
     worn->is_old = true;
     line->replaces = worn->age;
     return true;
+}
+
+/* One that fails isn't tried again at once, as all wait meanwhile. */
+struct kr *contexts_open_apart(void) {
+    bool may_try = contexts_have_daemon() && kr_now() >= all.next_apart;
+    struct line *line = may_try ? open_line(FURTHER_MILLISECONDS) : NULL;
+    if (may_try && !line) all.next_apart = kr_now() + PAUSE_MILLISECONDS;
+    if (!line) return NULL;
+    struct kr *connection = line->connection;
+    TAKE_OUT(all.lines, line);
+    free(line);
+    return connection;
 }
 
 /* ---- Contexts ---- */

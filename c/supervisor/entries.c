@@ -3,7 +3,7 @@
 
 #include <sys/epoll.h>
 
-enum { BUCKETS = 1024, SPARE_DESCRIPTORS = 40, OF_PROCESS = 2 };
+enum { BUCKETS = 1024, SPARE_DESCRIPTORS = 110, OF_PROCESS = 2 };
 
 static struct {
     int epoll;

@@ -1,6 +1,7 @@
-/* filter.c: the seccomp filter, and what its notifications mean. Only the three key calls are ever handed over:
- * without a supervisor a call that is handed over is ENOSYS, and a process that could not exit or fork then would be
- * lost. */
+/* filter.c: the seccomp filter, and what its notifications mean. Only the three key calls are ever handed over, and
+ * what of pipe2(2) and ioctl(2) is for pipes of notes: without a supervisor a call that is handed over is ENOSYS, and a
+ * process that could not exit or fork then would be lost. */
+#include "notes.h"
 #include "serve.h"
 
 #include <linux/audit.h>
@@ -23,25 +24,39 @@ enum { NATIVE = AUDIT_ARCH_AARCH64, FIRST = 217, OTHER = AUDIT_ARCH_ARM, OTHER_F
 
 enum { CALLS = 3 };
 
+/* Where each instruction stands, so that a jump says where to. */
+enum place {
+    ARCH, IF_NATIVE, NUMBER, IF_PIPE2, IF_IOCTL, WITHOUT_X32, IF_FIRST, IF_BEHIND, IF_OTHER, OTHER_NUMBER,
+    IF_OTHER_FIRST, IF_OTHER_BEHIND, FLAGS, IF_OF_NOTES, REQUEST, IF_SIZE, IF_FILTER, HAND_OVER, ALLOW
+};
+
 #define LOAD(field) BPF_STMT(BPF_LD | BPF_W | BPF_ABS, offsetof(struct seccomp_data, field))
-#define IF(test, value, yes, no) BPF_JUMP(BPF_JMP | (test) | BPF_K, (value), (yes), (no))
+#define IF(place, test, value, yes, no) \
+    [place] = BPF_JUMP(BPF_JMP | (test) | BPF_K, (value), (yes) - (place) - 1, (no) - (place) - 1)
 #define ANSWER(action) BPF_STMT(BPF_RET | BPF_K, (action))
 
-/* What is answered depends on the number alone, so that the kernel remembers it for each that is allowed. */
+/* What is answered depends on the number alone, so that the kernel remembers it for each that is allowed: but for
+ * pipe2(2) and ioctl(2), of which it depends on the lower half of their second argument, which stands first. */
 static const struct sock_filter code[] = {
-    /* 0 */ LOAD(arch),
-    /* 1 */ IF(BPF_JEQ, NATIVE, 0, 5),
-    /* 2 */ LOAD(nr),
-    /* 3 */ BPF_STMT(BPF_ALU | BPF_AND | BPF_K, ~X32_BIT),
-    /* 4 */ IF(BPF_JGE, FIRST, 0, 7),
-    /* 5 */ IF(BPF_JGE, FIRST + CALLS, 6, 0),
-    /* 6 */ ANSWER(SECCOMP_RET_USER_NOTIF),
-    /* 7 */ IF(BPF_JEQ, OTHER, 0, 4),
-    /* 8 */ LOAD(nr),
-    /* 9 */ IF(BPF_JGE, OTHER_FIRST, 0, 2),
-    /* 10 */ IF(BPF_JGE, OTHER_FIRST + CALLS, 1, 0),
-    /* 11 */ ANSWER(SECCOMP_RET_USER_NOTIF),
-    /* 12 */ ANSWER(SECCOMP_RET_ALLOW),
+    [ARCH] = LOAD(arch),
+    IF(IF_NATIVE, BPF_JEQ, NATIVE, NUMBER, IF_OTHER),
+    [NUMBER] = LOAD(nr),
+    IF(IF_PIPE2, BPF_JEQ, SYS_pipe2, FLAGS, IF_IOCTL),
+    IF(IF_IOCTL, BPF_JEQ, SYS_ioctl, REQUEST, WITHOUT_X32),
+    [WITHOUT_X32] = BPF_STMT(BPF_ALU | BPF_AND | BPF_K, ~X32_BIT),
+    IF(IF_FIRST, BPF_JGE, FIRST, IF_BEHIND, ALLOW),
+    IF(IF_BEHIND, BPF_JGE, FIRST + CALLS, ALLOW, HAND_OVER),
+    IF(IF_OTHER, BPF_JEQ, OTHER, OTHER_NUMBER, ALLOW),
+    [OTHER_NUMBER] = LOAD(nr),
+    IF(IF_OTHER_FIRST, BPF_JGE, OTHER_FIRST, IF_OTHER_BEHIND, ALLOW),
+    IF(IF_OTHER_BEHIND, BPF_JGE, OTHER_FIRST + CALLS, ALLOW, HAND_OVER),
+    [FLAGS] = LOAD(args[1]),
+    IF(IF_OF_NOTES, BPF_JSET, O_NOTIFICATION_PIPE, HAND_OVER, ALLOW),
+    [REQUEST] = LOAD(args[1]),
+    IF(IF_SIZE, BPF_JEQ, IOC_WATCH_QUEUE_SET_SIZE, HAND_OVER, IF_FILTER),
+    IF(IF_FILTER, BPF_JEQ, IOC_WATCH_QUEUE_SET_FILTER, HAND_OVER, ALLOW),
+    [HAND_OVER] = ANSWER(SECCOMP_RET_USER_NOTIF),
+    [ALLOW] = ANSWER(SECCOMP_RET_ALLOW),
 };
 
 static int install(unsigned long flags) {
@@ -63,6 +78,17 @@ int filter_install(void) {
     return install_for_kernel();
 }
 
+/* Of 32 bits and of x32 there are none. A container's filter, which isn't ours, may hand over more. */
+static int decode_pipe(const struct seccomp_data *data, unsigned long at[5]) {
+    unsigned second = (unsigned)data->args[1];
+    memset(at, 0, 5 * sizeof *at);
+    at[0] = data->args[0];
+    at[1] = data->nr == SYS_pipe2 ? second : data->args[2];
+    if (data->nr == SYS_pipe2) return second & O_NOTIFICATION_PIPE ? CALL_PIPE2 : -1;
+    if (second == IOC_WATCH_QUEUE_SET_SIZE) return CALL_SET_SIZE;
+    return second == IOC_WATCH_QUEUE_SET_FILTER ? CALL_SET_FILTER : -1;
+}
+
 /* Commands are 32 bits wide; what no command can be is one that isn't there. */
 int filter_decode(const struct seccomp_data *data, unsigned long at[5]) {
     bool is_native = data->arch == (unsigned)NATIVE;
@@ -70,6 +96,7 @@ int filter_decode(const struct seccomp_data *data, unsigned long at[5]) {
     unsigned long mask = is_native ? ~0ul : 0xfffffffful, args[6];
     for (int i = 0; i < 6; i++) args[i] = data->args[i] & mask;
     at[4] = 0;
+    if (is_native && (data->nr == SYS_pipe2 || data->nr == SYS_ioctl)) return decode_pipe(data, at);
     switch (number - (is_native ? (unsigned)FIRST : (unsigned)OTHER_FIRST)) {
     case 0:
         for (int i = 0; i < 5; i++) at[i] = args[i];

@@ -1,4 +1,5 @@
 /* serve.c: the loop of a supervisor: notifications, ends of processes, further listeners, its children. */
+#include "notes.h"
 #include "serve.h"
 
 #include <linux/kcmp.h>
@@ -21,7 +22,7 @@ struct listener {
 
 static struct {
     const struct serve_settings *settings;
-    int epoll, signals, more;
+    int epoll, signals, pipes, more;
     struct listener *listeners;
     bool has_told; /* how the child ended */
     int64_t next_sweep;
@@ -40,6 +41,12 @@ static struct {
 /* ---- A call ---- */
 
 static bool is_valid(void) { return ioctl(all.listener, SECCOMP_IOCTL_NOTIF_ID_VALID, &all.notification.id) == 0; }
+
+int serve_give(int descriptor, bool closes) {
+    struct seccomp_notif_addfd added = { .id = all.notification.id, .srcfd = (unsigned)descriptor,
+                                         .newfd_flags = closes ? O_CLOEXEC : 0 };
+    return ioctl(all.listener, SECCOMP_IOCTL_NOTIF_ADDFD, &added);
+}
 
 /* ENOENT: nobody waits for it any more. */
 static bool reply(long result, int error) {
@@ -168,6 +175,8 @@ static void take_event(const struct epoll_event *event) {
         reap();
     } else if (event->data.ptr == &all.more) {
         take_listener();
+    } else if (event->data.ptr == &all.pipes) {
+        pipes_take();
     } else if (event->events & EPOLLIN) {
         take_notification(listener->descriptor);
     } else {
@@ -182,7 +191,8 @@ static void take_event(const struct epoll_event *event) {
 static void take_events(const struct epoll_event *events, int count) {
     for (int i = 0; i < count; i++) {
         const void *source = events[i].data.ptr;
-        if (source == &all.signals || source == &all.more || FIND(all.listeners, at, at == source)) continue;
+        if (source == &all.signals || source == &all.more || source == &all.pipes) continue;
+        if (FIND(all.listeners, at, at == source)) continue;
         entries_ended(events[i].data.ptr);
         return;
     }
@@ -202,8 +212,10 @@ static int milliseconds_to_sweep(void) {
 static void run(void) {
     struct epoll_event events[EVENTS];
     while (all.listeners) {
-        int count = epoll_wait(all.epoll, events, EVENTS, milliseconds_to_sweep());
+        int sweep = milliseconds_to_sweep(), poll = queues_milliseconds();
+        int count = epoll_wait(all.epoll, events, EVENTS, poll < 0 || (sweep >= 0 && sweep < poll) ? sweep : poll);
         take_events(events, count);
+        queues_poll();
         if (kr_now() < all.next_sweep) continue;
         if (tracees_want_sweep()) tracees_sweep();
         all.next_sweep = kr_now() + SWEEP_MILLISECONDS;
@@ -236,6 +248,7 @@ static int begin(int listener) {
     all.more = all.settings->more;
     all.epoll = epoll_create1(EPOLL_CLOEXEC);
     if (all.epoll < 0 || calls_begin() < 0 || watch_children() < 0) return -1;
+    if ((all.pipes = pipes_begin()) < 0 || watch(all.pipes, &all.pipes) < 0) return -1;
     if (all.more >= 0 && watch(all.more, &all.more) < 0) return -1;
     return add_listener(listener);
 }

@@ -1,5 +1,5 @@
 /* serve.h: a supervisor: answers add_key(2), request_key(2) and keyctl(2) of processes under the filter of
- * filter.c from what keyretaind answers.
+ * filter.c from what keyretaind answers, and makes their pipes of notes (notes.h).
  *
  * It is one process with one thread, which serves until nobody is left who has the filter. It reads and writes the
  * memory of what it serves, and tells the daemon who asks: so nobody else may look into it. */
@@ -18,6 +18,7 @@ struct tracees_settings {
     struct kr_identity identity; /* whose the first session is, but for a container's */
     bool is_container;           /* ids are those of its user namespace, and the user keyring isn't linked to the
                                     first session */
+    bool has_pipes;              /* all calls that filter.c names are handed over, and not the key calls alone */
     pid_t first;                 /* the container's first process, as its runtime says, or 0 */
     pid_t child;                 /* what the supervisor has started, or 0 */
 };
@@ -85,6 +86,9 @@ int calls_begin(void);
 long call_carry_out(const struct key_row *row, const unsigned long given[KEY_ARGUMENTS],
                     const struct seccomp_data *data, uint64_t *sum);
 
+/* Gives the thread that has entered a copy of a descriptor, and answers its number there; -1 with errno. */
+int serve_give(int descriptor, bool closes);
+
 /* ---- Listeners ---- */
 
 /* Sends a descriptor over a socket; -1 with errno. A server answers a byte to each that it has taken: one that has
@@ -94,14 +98,15 @@ int serve_send_listener(int socket, int listener);
 /* -1 with errno, ECONNRESET at the end. */
 int serve_receive_listener(int socket);
 
-/* ---- filter.c: the seccomp filter that hands the three key calls of a process to a supervisor ---- */
+/* ---- filter.c: the seccomp filter that hands a process's three key calls to a supervisor, and what of pipe2(2) and
+ * ioctl(2) is for pipes of notes ---- */
 
 /* Installs it for this process, what it forks and what it executes. Answers the listener, closed by execve(2), or -1
  * with errno: EBUSY where these processes have another listener, EPERM or ENOSYS where filters are refused. Without
  * CAP_SYS_ADMIN the process has no_new_privs from then on. */
 int filter_install(void);
 
-/* Which call a notification is of: a command of keyctl(2), CALL_ADD_KEY or CALL_REQUEST_KEY; -1 for another. The
+/* Which call a notification is of: a command of keyctl(2), or one of those behind them in caller.h; -1 for another. The
  * arguments are put in the order of rows.c, each as wide as in the caller's ABI. */
 int filter_decode(const struct seccomp_data *data, unsigned long at[5]);
 

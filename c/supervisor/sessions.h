@@ -55,6 +55,9 @@ unsigned contexts_beginnings(void);
  * until the other is worn too. False where there is none. */
 bool contexts_renew(void);
 
+/* A connection to the same daemon, for other asks than those in contexts of here; NULL where none is to be had. */
+struct kr *contexts_open_apart(void);
+
 /* Whether it is on a connection in whose place there is another. */
 bool context_is_old(const struct context *context);
 

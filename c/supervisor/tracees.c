@@ -1,4 +1,5 @@
 /* tracees.c: the threads whose calls are served, one at a time. */
+#include "notes.h"
 #include "serve.h"
 
 static struct entered all;
@@ -6,6 +7,7 @@ static struct entered all;
  * user's then. */
 static int32_t highest, stale; /* of all users: the highest serial that was told, also by the daemons before */
 static unsigned before;         /* how many daemons there were before this one */
+static bool has_pipes;
 
 const struct entered *tracees_entered(void) { return &all; }
 
@@ -223,6 +225,11 @@ int32_t caller_join(struct caller *caller, const char *name) {
     return serial;
 }
 
+bool caller_has_pipes(void) { return has_pipes; }
+long caller_watch(struct caller *caller, int32_t id, int descriptor, int watch) {
+    return pipe_watch(caller->connection, caller->context, id, descriptor, watch);
+}
+
 /* ---- Giving a session to the parent ---- */
 
 /* The caller's parent, if it may be given its session. It is bound before it is read by its number, and is the caller's
@@ -280,6 +287,7 @@ static int begin_child(pid_t child) {
 int tracees_begin(const struct tracees_settings *settings, int epoll) {
     struct admission_process begun;
     all.memory.file = -1;
+    has_pipes = settings->has_pipes;
     entries_begin(epoll);
     admission_begin(settings->is_container, settings->first);
     struct kr_identity identity = settings->identity;

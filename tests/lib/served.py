@@ -1,6 +1,6 @@
-"""served.py FOLDER read|flush COMMAND ..: runs a command while a file system of FUSE is at a folder, with one file,
-`file`. Its server doesn't answer READ, or FLUSH, and makes FOLDER.held then. Ends with the command's status; with 77
-where there can be no such file system."""
+"""served.py FOLDER read|flush|getattr COMMAND ..: runs a command while a file system of FUSE is at a folder, with one
+file, `file`. Its server doesn't answer READ, FLUSH, or GETATTR of the file, and makes FOLDER.held then. Ends with the
+command's status; with 77 where there can be no such file system."""
 import ctypes
 import errno
 import os
@@ -9,7 +9,7 @@ import subprocess
 import sys
 
 LOOKUP, GETATTR, OPEN, INIT = 1, 3, 14, 26
-HELD = {"read": 15, "flush": 25}
+HELD = {"read": 15, "flush": 25, "getattr": GETATTR}
 
 
 def answer(opcode, node, body):
@@ -28,7 +28,7 @@ def answer(opcode, node, body):
 def serve(device):
     while ask := os.read(device, 1 << 17):
         _, opcode, unique, node = struct.unpack_from("=IIQQ", ask)
-        if opcode == HELD[sys.argv[2]]:
+        if opcode == HELD[sys.argv[2]] and node != 1:
             open(sys.argv[1] + ".held", "wb").close()
             continue
         said = answer(opcode, node, ask[40:])
