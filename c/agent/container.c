@@ -24,6 +24,7 @@ struct container {
     char id[CONTAINER_ID_MAX + 1];
     char path[KR_PATH_ROOM]; /* of its daemon's socket */
     pid_t server, first;
+    bool has_pipes;
     int process; /* the first one, as pidfd_open(2) opens it, or -1 */
     int in, out; /* what is sent to `in` comes out for the server */
 };
@@ -134,7 +135,8 @@ static void keep_descriptors(const struct container *container) {
 static _Noreturn void serve_container(const struct container *container, pid_t agent) {
     char name[sizeof "_ses." + CONTAINER_ID_MAX];
     const struct serve_settings settings = {
-        .tracees = { .socket = container->path, .name = name, .is_container = true, .first = container->first },
+        .tracees = { .socket = container->path, .name = name, .is_container = true, .first = container->first,
+                     .has_pipes = container->has_pipes },
         .more = LISTENERS };
     sigset_t none;
     sigemptyset(&none);
@@ -204,15 +206,16 @@ static struct container *find(const char *id, pid_t first) {
     return found;
 }
 
-static struct container *begin(const char *id, pid_t first) {
+static struct container *begin(const struct container_state *state) {
     struct container *container = all.containers, *last = all.containers + all.settings.most - 1;
     const int kind = SOCK_SEQPACKET | SOCK_CLOEXEC | SOCK_NONBLOCK;
     int ends[2];
     while (container < last && *container->id) container++;
     if (*container->id || socketpair(AF_UNIX, kind, 0, ends) < 0) return NULL;
-    int process = first > 0 ? proc_open(first) : -1;
-    *container = (struct container){ .first = first, .process = process, .in = ends[0], .out = ends[1] };
-    strcpy(container->id, id);
+    int process = state->first > 0 ? proc_open(state->first) : -1;
+    *container = (struct container){ .first = state->first, .has_pipes = state->has_pipes, .process = process,
+                                     .in = ends[0], .out = ends[1] };
+    strcpy(container->id, state->id);
     snprintf(container->path, sizeof container->path, "%s/%u.daemon", all.settings.folder,
              (unsigned)(container - all.containers)); /* nothing of the container's id */
     return container;
@@ -235,14 +238,14 @@ static bool start_server(struct container *container) {
 }
 
 /* A server says a byte to each that it has taken; what it hasn't is seen by what is left when it has ended. */
-void containers_take(const char *id, int first, int listener) {
-    struct container *container = find(id, first);
+void containers_take(const struct container_state *state, int listener) {
+    struct container *container = find(state->id, state->first);
     char byte;
-    if (!container) container = begin(id, first);
+    if (!container) container = begin(state);
     while (container && recv(container->in, &byte, 1, MSG_DONTWAIT) > 0) continue;
     bool is_sent = container && serve_send_listener(container->in, listener) == 0;
     close(listener);
-    if (!is_sent) fprintf(stderr, "keyretain-agent: container %s: there are too many\n", id);
+    if (!is_sent) fprintf(stderr, "keyretain-agent: container %s: there are too many\n", state->id);
     if (container && container->server > 0 && is_sent) say(container, "one more");
     if (!container || container->server > 0) return;
     if (is_sent && start_server(container)) {

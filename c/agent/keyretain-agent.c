@@ -191,7 +191,7 @@ static void take_state(struct visitor *visitor) {
     if (listener < 0)
         fputs("keyretain-agent: a state is refused: no container, or no listener\n", stderr);
     else
-        containers_take(state.id, state.first, listener);
+        containers_take(&state, listener);
 }
 
 static void serve_visitor(struct visitor *visitor) {

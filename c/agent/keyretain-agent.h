@@ -30,7 +30,11 @@ struct container_state {
     int first;            /* the container's first process, or 0 */
     unsigned descriptors; /* how many come with it */
     unsigned listener;    /* which of them is the listener, from 0 on */
+    bool has_pipes;       /* its profile hands over what is for pipes of notes */
 };
+
+/* What keyretain-seccomp has a runtime say of such a profile. */
+#define METADATA_WITH_NOTES "keyretain with notes"
 
 /* False where it is no JSON, names a member of an object twice, or takes more memory to read than 16 MiB; and where it
  * has no listener, or no id of letters, digits and `_+-.`. Nothing of it is left in memory. */
@@ -53,9 +57,10 @@ struct containers_settings {
 /* False where the folder isn't ours alone, or another agent uses it; what an earlier one left there is removed. */
 bool containers_begin(const struct containers_settings *settings);
 
-/* Gives a listener to the server of its container, which is started where there is none. It is closed here. `first` is
- * the container's first process, whose ids are served; or 0, for the one that runs under the id. */
-void containers_take(const char *id, int first, int listener);
+/* Gives a listener to the server of its container, which is started where there is none. It is closed here. What is
+ * said of the container's first process, whose ids are served, or of the one that runs under the id, and of its pipes
+ * counts for what is started. */
+void containers_take(const struct container_state *state, int listener);
 
 /* Looks which servers have ended. */
 void containers_reap(void);

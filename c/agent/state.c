@@ -115,6 +115,8 @@ bool read_container_state(const char *text, size_t length, struct container_stat
     const json_t *container = json_object_get(said, "state");
     json_int_t first = json_integer_value(json_object_get(container, "pid"));
     state->first = first > 0 && first <= INT_MAX ? (int)first : 0;
+    const char *metadata = json_string_value(json_object_get(said, "metadata"));
+    state->has_pipes = metadata && strcmp(metadata, METADATA_WITH_NOTES) == 0;
     bool is_right = read_names(json_object_get(said, "fds"), state) && read_id(json_object_get(container, "id"), state);
     wipe_room();
     return is_right;

@@ -107,6 +107,16 @@ try_calls() {
   is 'all that tests/syscalls knows the answers of' '' "$(diff "$dir/answers.text" <(contain a -- "$dir/answers"))"
 }
 
+# The profile says whether all calls are handed over that pipes of notes want.
+try_notes() {
+  says 'pipes of notes in a container' 'notes: no check failed ' notes_of contain n --metadata 'keyretain with notes' --
+  says 'by a profile that hands over the key calls alone' 'not told, EOPNOTSUPP ' contain o --metadata keyretain -- \
+    "$dir/notes" none
+}
+
+# notes_of COMMAND ..: what the program notes of tests/syscalls finds there
+notes_of() { "$@" "${notes:-$dir/notes}" answers | sed 's/[0-9]* passed, 0 failed$/no check failed/'; }
+
 # ---- What a runtime sends
 
 try_sending() {
@@ -297,6 +307,7 @@ try_containers() {
   begin_agent
   is 'the mode of its socket' '600' "$(stat -c %a "$socket")"
   try_calls
+  try_notes
   try_sending
   with_container a try_two
   with_container a try_exec

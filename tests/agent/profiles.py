@@ -1,4 +1,5 @@
-"""profiles.py SCRIPT: what keyretain-seccomp makes of profiles: each call but the three keeps its rules."""
+"""profiles.py SCRIPT: what keyretain-seccomp makes of profiles: each call but the three keeps its rules, and pipe2(2)
+and ioctl(2) do where they aren't for pipes of notes."""
 import json
 import os
 import subprocess
@@ -8,6 +9,12 @@ import tempfile
 from compare import compare, conclude
 
 CALLS = {'add_key', 'request_key', 'keyctl'}
+# Second arguments: those for pipes of notes (O_NOTIFICATION_PIPE; IOC_WATCH_QUEUE_SET_SIZE and _SET_FILTER), others.
+OF_NOTES = {'pipe2': ((0x80, 0x80080), (0, 0x80000, 0x4000, 2**64 - 0x81)),
+            'ioctl': ((0x5760, 0x5761), (0, 0x5401, 0x575f, 0x5762, 2**40 + 0x5760, 2**64 - 1))}
+HOLDS = {'SCMP_CMP_EQ': lambda is_, at: is_ == at['value'], 'SCMP_CMP_LT': lambda is_, at: is_ < at['value'],
+         'SCMP_CMP_GT': lambda is_, at: is_ > at['value'],
+         'SCMP_CMP_MASKED_EQ': lambda is_, at: is_ & at['value'] == at['valueTwo']}
 INSTALLED = '/usr/share/containers/seccomp.json'
 
 
@@ -24,14 +31,38 @@ def made(script, value, *words):
         return run(script, *words, path)
 
 
-def rules_of(profile):
-    """Each call with its rules, in their order."""
-    rules = {}
+def each_rule(profile):
+    """Each rule by a call's name, with all else that it says."""
     for rule in profile.get('syscalls') or []:
-        rest = json.dumps({key: value for key, value in rule.items() if key not in ('names', 'name')}, sort_keys=True)
         for name in rule.get('names') or [rule['name']]:
-            rules.setdefault(name, []).append(rest)
+            yield name, {key: value for key, value in rule.items() if key not in ('names', 'name')}
+
+
+def rules_of(profile):
+    """Each call with its rules, in their order; but for those of which the second argument counts."""
+    rules = {}
+    for name, rest in each_rule(profile):
+        if name not in OF_NOTES:
+            rules.setdefault(name, []).append(json.dumps(rest, sort_keys=True))
     return rules
+
+
+def matching(profile, call, second):
+    """What the rules say that match a call with this second argument, and with 0 as the others."""
+    for name, rest in each_rule(profile):
+        arguments = rest.pop('args', None) or []
+        if name == call and all(HOLDS[at['op']](second if at['index'] == 1 else 0, at) for at in arguments):
+            yield rest
+
+
+def try_second(name, before, after):
+    for call, (of_notes, others) in OF_NOTES.items():
+        for second in of_notes:
+            rules = [rule for rule in matching(after, call, second) if rule not in LOOKS]
+            compare(f'{name}: {call} {second:x}', [{'action': 'SCMP_ACT_NOTIFY'}], rules)
+        for second in others:
+            compare(f'{name}: {call} {second:x}', list(matching(before, call, second)),
+                    list(matching(after, call, second)))
 
 
 def try_profile(script, name, profile):
@@ -41,10 +72,16 @@ def try_profile(script, name, profile):
     rules, before = rules_of(after), rules_of(profile)
     handed_over = ['{"action": "SCMP_ACT_NOTIFY"}']
     compare(f'{name}: the three calls', True, all(rules.pop(call) == handed_over for call in CALLS))
+    try_second(name, profile, after)
     compare(f'{name}: all others', {call: rule for call, rule in before.items() if call not in CALLS}, rules)
-    compare(f'{name}: the agent', ('/a', 'keyretain'), (after.pop('listenerPath'), after.pop('listenerMetadata')))
+    compare(f'{name}: the agent', ('/a', 'keyretain with notes'),
+            (after.pop('listenerPath'), after.pop('listenerMetadata')))
     same = ({key: value for key, value in some.items() if key != 'syscalls'} for some in (after, profile))
     compare(f'{name}: all else', next(same), next(same))
+
+
+# Of a rule that looks at the second argument itself.
+LOOKS = [{'action': 'SCMP_ACT_LOG', 'looks': True}]
 
 
 def try_environment(script):
@@ -65,6 +102,10 @@ def main(script):
         {'names': ['read', 'keyctl', 'write'], 'action': 'SCMP_ACT_ALLOW', 'args': []},
         {'names': ['add_key', 'request_key'], 'action': 'SCMP_ACT_ERRNO', 'errnoRet': 1, 'includes': {'caps': ['X']}},
         {'name': 'keyctl', 'action': 'SCMP_ACT_ALLOW'}, {'name': 'open', 'action': 'SCMP_ACT_ALLOW'},
+        {'names': ['pipe2', 'close', 'ioctl'], 'action': 'SCMP_ACT_ALLOW', 'comment': 'both'},
+        {'name': 'ioctl', 'action': 'SCMP_ACT_TRAP', 'args': [{'index': 0, 'value': 0, 'op': 'SCMP_CMP_EQ'}]},
+        {'names': ['ioctl'], 'looks': True, 'args': [{'index': 1, 'value': 0x5700, 'op': 'SCMP_CMP_GT'}],
+         'action': 'SCMP_ACT_LOG'},
         {'names': ['write'], 'action': 'SCMP_ACT_LOG', 'args': [{'index': 0, 'value': 1, 'op': 'SCMP_CMP_EQ'}]}]})
     compare('an agent that is there', True, made(script, {'listenerPath': '/other'}).returncode != 0)
     compare('all calls are handed over', True, made(script, {'defaultAction': 'SCMP_ACT_NOTIFY'}).returncode != 0)
@@ -75,7 +116,8 @@ def main(script):
     filter_of = bundle['linux']['seccomp']
     compare('a bundle without a filter', True, filter_of['defaultAction'] == 'SCMP_ACT_ALLOW' and
           filter_of['listenerPath'] == '/run/keyretain-agent.sock' and
-          set(filter_of['syscalls'][0]['names']) == CALLS and bundle['process'] == {'args': ['x']})
+          set(filter_of['syscalls'][0]['names']) == CALLS and len(filter_of['syscalls']) == 4 and
+          bundle['process'] == {'args': ['x']})
     own = {'linux': {'seccomp': {'defaultAction': 'SCMP_ACT_ERRNO', 'architectures': ['SCMP_ARCH_X86_64']}, 'y': 1}}
     kept = json.loads(made(script, own, '--bundle').stdout)['linux']
     compare('a bundle with one', True, kept['seccomp']['defaultAction'] == 'SCMP_ACT_ERRNO' and kept['y'] == 1 and

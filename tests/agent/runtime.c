@@ -3,6 +3,7 @@
  *   --pid N          the container's first process, as it tells; 0 for none. Without this it is the one that it starts
  *   --state TEXT     what it sends in place of a state
  *   --names TEXT     the list of descriptors that it sends
+ *   --metadata TEXT  what it sends as the profile's
  *   --count N        how many descriptors it sends; the last is the listener
  *   --pieces         a byte at a time, the descriptors with the last one
  *   --halves A B     a byte, then it makes the file A, awaits B, sends the rest and removes B
@@ -23,7 +24,7 @@
 
 enum { DESCRIPTORS = 64, FAILED = 99 };
 
-static const char *half, *rest, *held, *freed, *state, *names = "[\"seccompFd\"]", *uids;
+static const char *half, *rest, *held, *freed, *state, *names = "[\"seccompFd\"]", *metadata = "", *uids;
 static int count = 1, often = 1, pid = -1;
 static bool is_in_pieces, is_left_open, has_pids;
 
@@ -42,6 +43,7 @@ static char **read_options(char **words) {
         else if (strcmp(*words, "--pid") == 0) pid = atoi(*++words);
         else if (strcmp(*words, "--state") == 0) state = *++words;
         else if (strcmp(*words, "--names") == 0) names = *++words;
+        else if (strcmp(*words, "--metadata") == 0) metadata = *++words;
         else if (strcmp(*words, "--count") == 0) count = atoi(*++words);
         else if (strcmp(*words, "--often") == 0) often = atoi(*++words);
         else if (strcmp(*words, "--uids") == 0) uids = *++words;
@@ -124,8 +126,8 @@ static int run_parent(const char *agent, const char *id, pid_t child, int socket
     if (uids && read(socket, &byte, 1) == 1) put_maps(child);
     if (uids && write(socket, "m", 1) != 1) return FAILED;
     int listener = receive_listener(socket);
-    snprintf(text, sizeof text, "{\"ociVersion\":\"1.0.2\",\"fds\":%s,\"pid\":%d,\"metadata\":\"\",\"state\":"
-             "{\"id\":\"%s\",\"pid\":%d}}", names, (int)child, id, pid < 0 ? (int)child : pid);
+    snprintf(text, sizeof text, "{\"ociVersion\":\"1.0.2\",\"fds\":%s,\"pid\":%d,\"metadata\":\"%s\",\"state\":"
+             "{\"id\":\"%s\",\"pid\":%d}}", names, (int)child, metadata, id, pid < 0 ? (int)child : pid);
     for (int i = 0; i < often; i++) {
         int connection = connect_to(agent);
         tell(connection, state ? state : text, listener);

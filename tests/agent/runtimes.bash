@@ -14,6 +14,7 @@ make_bundle() {
   mkdir -p "$dir/$1/rootfs"/{bin,proc,dev,tmp}
   cp "$dir/calls-static" "$dir/$1/rootfs/bin/calls"
   cp "$dir/answers-static" "$dir/$1/rootfs/bin/answers"
+  cp "$dir/notes-static" "$dir/$1/rootfs/bin/notes"
   chmod -R a+rX "$dir/$1"
   chmod 1777 "$dir/$1/rootfs/tmp"
   [ "$2" = host ] || chown -R "$2:$2" "$dir/$1/rootfs"
@@ -68,6 +69,8 @@ try_bundles() {
     in_container "$two" /bin/calls become 33 describe @u print kept
   is "$1: all that tests/syscalls knows the answers of" '' \
     "$(diff "$dir/answers.text" <(in_container "$one" /bin/answers))"
+  says "$1: pipes of notes" 'notes: no check failed ' \
+    eval 'notes=/bin/notes notes_of in_container "$one"'
   says "$1: the session" "keyring;0;0; _ses.$one " session_of in_container "$one" /bin/calls
   says "$1: one container" 'ok keyring;0;0;1f3f0000;_uid.0 v ' let_go "$one"
   says "$1: the other, whose uid 0 is 100000 outside" 'ok keyring;0;0;1f3f0000;_uid.0 v ' let_go "$two"
@@ -112,7 +115,8 @@ try_runtimes() {
   if ! is_root; then
     skipped 'containers of runc, crun and podman: not root'
   elif ! cc -std=c11 -static -O1 "$parts/calls.c" -o "$dir/calls-static" 2>/dev/null ||
-    ! build_answers "$dir/answers-static" -static 2>/dev/null; then
+    ! build_answers "$dir/answers-static" -static 2>/dev/null ||
+    ! build_notes notes-static -static 2>/dev/null; then
     skipped 'containers of runc, crun and podman: the C library has no static one'
   else
     try_runtime runc runc

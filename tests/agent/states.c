@@ -30,6 +30,7 @@ static const struct {
     { "brackets and quotes in texts",
       FIRST "\"state\":{\"annotations\":{\"}]\\\"{[\":\"\\\\\"},\"id\":\"a\"}}", "a", 1, 0 },
     { "a long name", FIRST "\"0123456789012345678901234567890123456789\":1," STATE "}", "a", 1, 0 },
+    { "a profile with notes", FIRST "\"metadata\":\"keyretain with notes\"," STATE "}", "a", 1, 0 },
     { "a null character in an annotation",
       FIRST "\"state\":{\"annotations\":{\"b\":\"c\\u0000d\"},\"id\":\"a\"}}", "a", 1, 0 },
     { "bytes beyond ASCII", FIRST "\"x\":\"\xc3\xa4\\u00e4\\ud83d\\ude00\"," STATE "}", "a", 1, 0 },
@@ -95,7 +96,8 @@ static void try_states(void) {
     for (size_t i = 0; i < sizeof taken / sizeof *taken; i++)
         check(taken[i].name, read_container_state(taken[i].text, strlen(taken[i].text), &state) &&
                               strcmp(state.id, taken[i].id) == 0 && state.descriptors == taken[i].descriptors &&
-                              state.listener == taken[i].listener);
+                              state.listener == taken[i].listener &&
+                              state.has_pipes == (strstr(taken[i].text, "with notes") != NULL));
     for (size_t i = 0; i < sizeof not_taken / sizeof *not_taken; i++)
         check(not_taken[i].name, !read_container_state(not_taken[i].text, strlen(not_taken[i].text), &state));
 }
