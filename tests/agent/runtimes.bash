@@ -58,7 +58,7 @@ try_runtime() {
 }
 
 try_bundles() {
-  local one=$1-one two=$1-two
+  local one=$1-one two=$1-two notes=/bin/notes
   run_bundle "$two" "$two"
   says "$1: what is executed has the container's session" 'v ' in_container "$one" /bin/calls print kept
   says "$1: and adds to it" 'ok ' in_container "$one" /bin/calls add later w @s
@@ -69,8 +69,7 @@ try_bundles() {
     in_container "$two" /bin/calls become 33 describe @u print kept
   is "$1: all that tests/syscalls knows the answers of" '' \
     "$(diff "$dir/answers.text" <(in_container "$one" /bin/answers))"
-  says "$1: pipes of notes" 'notes: no check failed ' \
-    eval 'notes=/bin/notes notes_of in_container "$one"'
+  says "$1: pipes of notes" 'notes: no check failed ' notes_of in_container "$one"
   says "$1: the session" "keyring;0;0; _ses.$one " session_of in_container "$one" /bin/calls
   says "$1: one container" 'ok keyring;0;0;1f3f0000;_uid.0 v ' let_go "$one"
   says "$1: the other, whose uid 0 is 100000 outside" 'ok keyring;0;0;1f3f0000;_uid.0 v ' let_go "$two"
