@@ -156,4 +156,19 @@ int64_t kr_read_queue(struct kr *connection, uint32_t queue, void *buffer, size_
     return BYTES(KR_READ_QUEUE, 0, number(queue), number(asked));
 }
 
+/* The end of the connection ends a pause; and where it is interruptible, a signal does. */
+int64_t kr_wait_notes(struct kr *connection, uint32_t queue, int milliseconds, void *buffer, size_t room) {
+    enum { SHORTEST = 50, LONGEST = 1000, PART = 10 };
+    const int64_t begun = kr_now(), end = milliseconds < 0 ? KR_NEVER : begun + milliseconds;
+    for (;;) {
+        int64_t length = kr_read_queue(connection, queue, buffer, room), now = kr_now();
+        if (length >= 0 || errno != EAGAIN || now >= end) return length;
+        int64_t pause = (now - begun) / PART;
+        pause = pause < SHORTEST ? SHORTEST : pause > LONGEST ? LONGEST : pause;
+        struct pollfd wait = { .fd = kr_descriptor(connection), .events = POLLIN };
+        int woken = poll(&wait, 1, (int)(pause < end - now ? pause : end - now));
+        if (woken < 0 && (errno != EINTR || connection->interruptible)) return -1;
+    }
+}
+
 int kr_close_queue(struct kr *connection, uint32_t queue) { return NOTHING(KR_CLOSE_QUEUE, 0, number(queue)); }

@@ -143,6 +143,10 @@ int kr_set_filter(struct kr *connection, uint32_t queue, uint32_t count, const s
  * EAGAIN. */
 int64_t kr_read_queue(struct kr *connection, uint32_t queue, void *buffer, size_t room);
 
+/* The same, which asks again and again until there are some, for so many milliseconds at most, -1 for ever: EAGAIN
+ * where none came. It pauses for 50 milliseconds first, and for a second at last. */
+int64_t kr_wait_notes(struct kr *connection, uint32_t queue, int milliseconds, void *buffer, size_t room);
+
 int kr_close_queue(struct kr *connection, uint32_t queue);
 
 /* A record, decoded. `name` is "instantiated", "updated", "linked", "unlinked", "cleared", "revoked", "invalidated" or

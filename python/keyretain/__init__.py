@@ -19,10 +19,23 @@ The client wipes its own copies of its asks and replies. The program's own
 are objects of Python: to leave none, give payloads as a bytearray, read by
 Client.read_into(), and wipe both.
 
+Notes tell what happens to a key. Client.notes() and notes_of() wait for them,
+and notes_async() does in a loop of asyncio:
+
+    import os, keyretain
+    with keyretain.Client() as client:
+        context = client.hello(os.geteuid(), os.getegid())
+        serial = client.add(context, "user", "watched", b"s3", keyretain.USER)
+        queue = client.open_queue(64)
+        client.watch(context, serial, queue)
+        client.invalidate(context, serial)  # as another program may
+        for note in keyretain.notes_of(client, queue):
+            print(keyretain.describe_note(note).split()[1])  # inv, gc
+
     python3 -I -m keyretain KEY
 
 watches a key, by its serial or as @t, @p, @s, @u or @us, for the caller's
-uid in the session that it is in, and prints its notes as text.
+uid in the session that it is in, and prints its notes as keyctl(1) does.
 """
 from .client import PATIENCE, Client, notes_of
 from .connection import AHEAD

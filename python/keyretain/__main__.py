@@ -1,5 +1,6 @@
 """python3 -I -m keyretain [--exec COMMAND] KEY: watches a key for the caller's uid, in the session that it is in. It
-prints its notes, or runs a command of the shell at each, which finds the note in the variable KEYRETAIN_NOTE."""
+prints its notes as `keyctl watch` does, or runs a command of the shell at each, which finds the note in the variable
+KEYRETAIN_NOTE. What is watched it says on standard error."""
 from __future__ import annotations
 
 import errno
@@ -53,7 +54,7 @@ def watch(key: int, command: Optional[str]) -> None:
             raise Refused("JOIN", errno.EKEYREVOKED)
         queue = client.open_queue(256)
         client.watch(context, key, queue)
-        print("watching", printable(client.describe(context, key)), flush=True)
+        print("watching", printable(client.describe(context, key)), file=sys.stderr, flush=True)
         for note in notes_of(client, queue):
             act(describe_note(note), command)
 

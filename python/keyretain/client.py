@@ -3,7 +3,7 @@ from __future__ import annotations
 
 import errno
 import time
-from collections.abc import Iterator
+from collections.abc import AsyncIterator, Iterator
 from typing import Any, Optional, Sequence, Union, cast
 
 from .connection import Asked, Connection, Deadline, wipe
@@ -284,16 +284,34 @@ class Client:
         """Ends the queue and its watches."""
         self.ask("CLOSE_QUEUE", 0, queue)
 
-    def notes(self, queue: int, pause: float = 0.2) -> Iterator[Record]:
-        """Yields the records of a queue, without end. It is polled each `pause` seconds, as nothing wakes a reader."""
+    def notes(self, queue: int, pause: float = 0.05, longest: float = 1.0) -> Iterator[Record]:
+        """Yields the records of a queue, without end. As nothing wakes a reader it is polled, in pauses of seconds that
+        grow from `pause` to `longest` while nothing comes."""
+        for records, left in self._polled(queue, pause, longest):
+            yield from records
+            time.sleep(left)
+
+    async def notes_async(self, queue: int, pause: float = 0.05, longest: float = 1.0) -> AsyncIterator[Record]:
+        """The same between the other tasks of a loop of asyncio, which wait while an ask is answered."""
+        import asyncio  # which takes as long to load as all else here
+        for records, left in self._polled(queue, pause, longest):
+            for record in records:
+                yield record
+            await asyncio.sleep(left)
+
+    def _polled(self, queue: int, pause: float, longest: float) -> Iterator[tuple[list[Record], float]]:
+        """What waits, and how long to wait then: a tenth of the time since something came."""
+        last = time.monotonic()
         while True:
-            yield from self.read_queue(queue)
-            time.sleep(pause)
+            records = self.read_queue(queue)
+            now = time.monotonic()
+            last = now if records else last
+            yield records, min(max(pause, (now - last) / 10), max(pause, longest))
 
 
-def notes_of(client: Client, queue: int, pause: float = 0.2) -> Iterator[Record]:
+def notes_of(client: Client, queue: int, pause: float = 0.05, longest: float = 1.0) -> Iterator[Record]:
     """The same until a watch has ended."""
-    for note in client.notes(queue, pause):
+    for note in client.notes(queue, pause, longest):
         yield note
         if isinstance(note, Removal):
             return

@@ -31,6 +31,7 @@ class Loss(NamedTuple):
 Record = Union[Note, Removal, Loss]
 
 SUBTYPES = ("instantiated", "updated", "linked", "unlinked", "cleared", "revoked", "invalidated", "attributes set")
+SHORT = ("inst", "upd", "link", "unlk", "clr", "rev", "inv", "attr")  # of keyctl(1)
 META, KEY_NOTIFY = 0, 1
 
 
@@ -66,10 +67,10 @@ def decode_notes(received: bytes) -> list[Record]:
 
 
 def describe_note(note: Record) -> str:
-    """A line for people."""
+    """A line as `keyctl watch` prints it: keyctl(1)."""
     if isinstance(note, Loss):
-        return "records were lost here"
+        return "-- LOSS --"
     if isinstance(note, Removal):
-        return f"key {note.key} is not watched any more"
+        return f"{note.key} gc"
     other = f" {note.other}" if note.other else ""
-    return f"key {note.key} {note.what}{other}"
+    return f"{note.key} {SHORT[SUBTYPES.index(note.what)]}{other}"

@@ -3,6 +3,7 @@
 #include "library/keyretain.h"
 
 enum { USER_KEYRING = -4, PROCESS_KEYRING = -2, LONG_PAYLOAD = 32767, ASKS = 60, WATCH = 200 };
+enum { OPEN_TO_USER = 0x3f3f0000 };
 
 static struct kr *connection;
 static uint32_t context;
@@ -112,6 +113,33 @@ static void try_notes(void) {
     check("no more", kr_next_note(&at, &length, &note) == 0);
 }
 
+/* Nothing comes; a signal does; another client's change does, in spite of signals. */
+static void try_waiting(void) {
+    uint8_t records[128];
+    uint32_t queue = (uint32_t)kr_open_queue(connection, 8);
+    int32_t key = kr_add(connection, context, "user", "waited for", "s3", 2, USER_KEYRING);
+    kr_setperm(connection, context, key, OPEN_TO_USER);
+    check("another watch", kr_watch(connection, context, key, queue, WATCH) == 0);
+    check("none", refused((long)kr_wait_notes(connection, queue, 0, records, sizeof records), EAGAIN));
+    check("none in time", refused((long)kr_wait_notes(connection, queue, 120, records, sizeof records), EAGAIN));
+    kr_set_interruptible(connection, 1);
+    interrupt_after(100000, 0);
+    check("a signal", refused((long)kr_wait_notes(connection, queue, -1, records, sizeof records), EINTR));
+    kr_set_interruptible(connection, 0);
+    interrupt_after(20000, 20000);
+    pid_t child = fork();
+    if (child == 0) {
+        struct kr *other = kr_open(NULL);
+        int64_t own = other ? kr_hello(other, 7000, 1000, 0, NULL) : -1;
+        usleep(200000);
+        _exit(own < 0 || kr_update(other, (uint32_t)own, key, "s4", 2) < 0);
+    }
+    check("what another has changed", kr_wait_notes(connection, queue, -1, records, sizeof records) == 16);
+    interrupt_after(0, 0);
+    int status;
+    check("who has", waitpid(child, &status, 0) == child && status == 0);
+}
+
 /* A record that says it lost others; one that is cut; one whose length is none. */
 static void try_records(void) {
     const uint8_t lost[] = { 0, 0, 0, 1, 8, 0, 0, 0 }, none[] = { 1, 0, 0, 1, 0, 9, 0, 0 };
@@ -135,6 +163,7 @@ int main(void) {
     try_refusals();
     try_patience();
     try_notes();
+    try_waiting();
     try_records();
     kr_close(connection);
     return conclude("ahead");

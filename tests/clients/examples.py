@@ -1,4 +1,4 @@
-"""examples.py PATH FOLDER: compiles the program in C of libkeyretain(3) with what FOLDER has, runs it, and the one in
+"""examples.py PATH FOLDER: compiles the programs in C of libkeyretain(3) with what FOLDER has, runs them, and those in
 Python of the package's own page, as they stand, with the daemon at PATH: in no session, and in one that is held
 meanwhile. Then those of keyretain-session(1), by its name in FOLDER."""
 import os
@@ -63,21 +63,21 @@ def try_everywhere(what, words, wanted):
 
 
 with tempfile.TemporaryDirectory(prefix="keyretain.") as folder:
-    compare("a program in the manual page", ["man/libkeyretain.3"], [where for where, _ in programs()])
-    for where, text in programs():
+    compare("programs in the manual page", 2 * ["man/libkeyretain.3"], [where for where, _ in programs()])
+    for (where, text), wanted in zip(programs(), ("s3\n", "updated\n")):
         source, program = folder + "/example.c", folder + "/example"
         write(source, text)
         compiled = subprocess.run(["cc", "-Wall", "-Wextra", "-Werror", "-I", f"{TOP}/c/library", source, "-o", program,
                                    "-L", built, "-lkeyretain"], capture_output=True, text=True, check=False)
         compare(f"{where}: its program is compiled", (0, ""), (compiled.returncode, compiled.stderr))
         if compiled.returncode == 0:
-            try_everywhere(where, [program], "s3\n")
+            try_everywhere(where, [program], wanted)
             status = run([program], "5:gone")[0]
             compare(f"{where}: in a session that is gone", 1, status)
     examples = [textwrap.dedent(it) for it in re.findall(r"^    import os.*?\n\n", keyretain.__doc__, re.M | re.S)]
-    compare("a program in Python", 1, len(examples))
-    for text in examples:
-        try_everywhere("the package's page", [sys.executable, "-B", "-c", text], "b's3'\n")
+    compare("programs in Python", 2, len(examples))
+    for text, wanted in zip(examples, ("b's3'\n", "inv\ngc\n")):
+        try_everywhere("the package's page", [sys.executable, "-B", "-c", text], wanted)
 if shutil.which("keyctl"):
     try_sessions()
 else:

@@ -14,7 +14,7 @@ from keyretain import connection
 DOCUMENTED = (keyretain.Refused, keyretain.Lost, keyretain.Malformed, TimeoutError)
 CALLS = [name for name, method in vars(keyretain.Client).items()
          if inspect.isfunction(method) and not name.startswith("_")
-         and name not in ("ask", "send", "receive", "close", "peer", "notes")]
+         and name not in ("ask", "send", "receive", "close", "peer", "notes", "notes_async")]
 LONGEST = 4 + keyretain.LONGEST_REPLY
 WORDS = {"type": "user", "description": "some", "payload": b"s3", "entries": [(1, 0, 0, 2, 0, 0, 0, 0, 0, 0, 0)],
          "mask": 0x3F3F0000, "capacity": 4, "buffer": bytearray(64)}

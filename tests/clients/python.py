@@ -66,7 +66,8 @@ with keyretain.Client(sys.argv[1], timeout=20) as client:
     context = client.hello(os.geteuid(), os.getegid())
     key = client.add(context, "user", "watched", b"s3", keyretain.USER)
     client.setperm(context, key, 0x3F3F0000)
-    example = subprocess.Popen([sys.executable, "-B", "-m", "keyretain", str(key)], stdout=subprocess.PIPE, text=True,
+    example = subprocess.Popen([sys.executable, "-B", "-m", "keyretain", str(key)], stdout=subprocess.PIPE,
+                               stderr=subprocess.STDOUT, text=True,
                                env={**os.environ, "KEYRETAIN_SOCKET": sys.argv[1], "PYTHONPATH": sys.path[0]})
     print(example.stdout.readline().split(";")[-1], end="")
     client.update(context, key, b"new")

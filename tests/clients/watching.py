@@ -1,5 +1,6 @@
 """watching.py PATH: what `python3 -m keyretain @s` watches in a session that is held, and that it says where that is
 gone."""
+import asyncio
 import os
 import subprocess
 import sys
@@ -17,6 +18,15 @@ def watch(session, *words):
                             stdout=subprocess.PIPE, stderr=subprocess.STDOUT, text=True)
 
 
+async def first_note(client, context, ring):
+    """Of a key that another task adds meanwhile."""
+    queue = client.open_queue(8)
+    client.watch(context, ring, queue)
+    asyncio.get_running_loop().call_later(0.1, client.add, context, "user", "b", b"s3", keyretain.SESSION)
+    async for note in client.notes_async(queue):
+        return note
+
+
 with keyretain.Client(path, timeout=20) as client:
     context = client.hello(os.geteuid(), os.getegid())
     ring = client.join(context, "watched")
@@ -24,23 +34,25 @@ with keyretain.Client(path, timeout=20) as client:
     with watch(f"{ring}:watched") as watching:
         compare("what is watched", "watched\n", watching.stdout.readline().split(";")[-1])
         key = client.add(context, "user", "a", b"s3", keyretain.SESSION)
-        compare("the note of a key that is put there", f"key {ring} linked {key}\n", watching.stdout.readline())
+        compare("the note of a key that is put there", f"{ring} link {key}\n", watching.stdout.readline())
+        compare("a note in a loop of asyncio", "linked", asyncio.run(first_note(client, context, ring)).what)
+        watching.stdout.readline()
         client.revoke(context, ring)
-        compare("and of its end", f"key {ring} revoked\n", watching.stdout.readline())
+        compare("and of its end", f"{ring} rev\n", watching.stdout.readline())
         watching.kill()
 with keyretain.Client(path, timeout=20) as client:
     context = client.hello(os.geteuid(), os.getegid())
     ring = client.join(context, "acted")
     client.setperm(context, ring, 0x3F1F0000)
-    command = 'echo "at $KEYRETAIN_NOTE"; [ -n "${KEYRETAIN_NOTE##*linked*}" ]'
+    command = 'echo "at $KEYRETAIN_NOTE"; [ -n "${KEYRETAIN_NOTE##*link*}" ]'
     with watch(f"{ring}:acted", "--exec", command) as watching:
         watching.stdout.readline()
         key = client.add(context, "user", "a", b"s3", keyretain.SESSION)
-        compare("a command at a note", f"at key {ring} linked {key}\n", watching.stdout.readline())
-        told = f"keyretain: the command ended with 1: key {ring} linked {key}\n"
+        compare("a command at a note", f"at {ring} link {key}\n", watching.stdout.readline())
+        told = f"keyretain: the command ended with 1: {ring} link {key}\n"
         compare("that fails", told, watching.stdout.readline())
         client.revoke(context, ring)
-        compare("at the next note", f"at key {ring} revoked\n", watching.stdout.readline())
+        compare("at the next note", f"at {ring} rev\n", watching.stdout.readline())
         watching.kill()
 with watch("5:gone") as watching:
     compare("a session that is gone", (1, True), (watching.wait(20), "EKEYREVOKED" in watching.stdout.read()))
