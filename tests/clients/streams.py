@@ -218,6 +218,59 @@ def ahead(client):
     return [client.receive(), client.receive()]
 
 
+# ---- What is wiped
+
+
+@contextlib.contextmanager
+def kept_of(name, made):
+    """What a function of the connection is given first, or what it makes, for as long as the block lasts."""
+    plain, kept = getattr(connection, name), []
+
+    def keeping(*words):
+        answer = plain(*words)
+        kept.append(answer if made else words[0])
+        return answer
+
+    setattr(connection, name, keeping)
+    try:
+        yield kept
+    finally:
+        setattr(connection, name, plain)
+
+
+def in_pieces(status):
+    """Answers each ask in two pieces, or for None with the first alone."""
+    def serve(end):
+        for tag, _, _ in end.asks():
+            whole = reply(tag, b"" if status else b"a secret" * 100, status or 0)
+            end.socket.sendall(whole[:12])
+            time.sleep(0.05)
+            if status is not None:
+                end.socket.sendall(whole[12:])
+
+    return serve
+
+
+def deaf(end):
+    """Ends the connection where it has read a little."""
+    end.socket.recv(16)
+
+
+def try_wiped():
+    """What was sent, and what has come, is overwritten whichever way a call ends."""
+    for what, serve, call in (("answered", in_pieces(0), lambda client: client.read(1, 5)),
+                              ("refused", in_pieces(13), lambda client: client.update(1, 5, b"a secret" * 1000)),
+                              ("late", in_pieces(None), lambda client: client.update(1, 5, b"a secret" * 1000)),
+                              ("lost", deaf, lambda client: client.update(1, 5, b"a secret" * 8000))):
+        with client_of(serve, timeout=0.5) as client, kept_of("make_ask", True) as sent, \
+                kept_of("_joined", False) as come, kept_of("_behind", False) as behind:
+            outcome(call, client)
+            compare(f"{what}: an ask that was made", 1, len(sent))
+            compare(f"{what}: asks of which something is left", 0, sum(map(any, sent)))
+            client.close()
+            compare(f"{what}: pieces of replies of which something is left", 0, sum(map(any, [*come, *behind])))
+
+
 # ---- Sending ahead
 
 
@@ -514,8 +567,8 @@ def try_words():
 
 
 if __name__ == "__main__":
-    for case in (try_children, try_children_ahead, try_held, try_cut_frames, try_late_replies, try_parts, try_ahead,
-                 try_large_ahead, try_too_far, try_answered_then_gone, try_two_at_once, try_deadlines,
+    for case in (try_wiped, try_children, try_children_ahead, try_held, try_cut_frames, try_late_replies, try_parts,
+                 try_ahead, try_large_ahead, try_too_far, try_answered_then_gone, try_two_at_once, try_deadlines,
                  try_one_look, try_backlog, try_nonsense, try_listings, try_values, try_pickled, try_standard,
                  try_reused, try_pipe_signal, try_words):
         attempt(case)

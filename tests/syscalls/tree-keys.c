@@ -40,6 +40,23 @@ static int ask_beside(const char *file) {
     return request_key("user", bytes, NULL, 0) < 0 && errno == ENOKEY ? 0 : 1;
 }
 
+/* A file's first bytes, at the end of the memory that can be read. */
+static char *before_end(const char *file, size_t *length) {
+    char *pages = mmap(NULL, 2 * PAGE, PROT_READ | PROT_WRITE, MAP_PRIVATE | MAP_ANONYMOUS, -1, 0), bytes[128];
+    FILE *from = fopen(file, "r");
+    if (pages == MAP_FAILED || !from || (*length = fread(bytes, 1, sizeof bytes, from)) == 0) exit(2);
+    munmap(pages + PAGE, PAGE);
+    return memcpy(pages + PAGE - *length, bytes, *length);
+}
+
+/* A text of a call that has no end, or a payload that is said to go on. */
+static int ask_cut(const char *file, bool is_payload) {
+    size_t length;
+    const char *bytes = before_end(file, &length);
+    if (!is_payload) return request_key("user", bytes, NULL, 0) < 0 && errno == EFAULT ? 0 : 1;
+    return add_key("user", "cut", bytes, length + 8, KEY_SPEC_PROCESS_KEYRING) < 0 && errno == EFAULT ? 0 : 1;
+}
+
 /* The payload of a key is read to where nothing can be written. */
 static int read_unwritten(const char *name) {
     long found = request_key("user", name, NULL, 0);
@@ -216,6 +233,8 @@ int keys_modes(const char *mode, int many, int count, char **words) {
     if (strcmp(mode, "put") == 0 && count == 4) return put(words[2], words[3]);
     if (strcmp(mode, "get") == 0 && count == 3) return get(words[2]);
     if (strcmp(mode, "beside") == 0 && count == 3) return ask_beside(words[2]);
+    if (strcmp(mode, "cut") == 0 && count == 3) return ask_cut(words[2], false);
+    if (strcmp(mode, "unread") == 0 && count == 3) return ask_cut(words[2], true);
     if (strcmp(mode, "unwritten") == 0 && count == 3) return read_unwritten(words[2]);
     if (strcmp(mode, "identities") == 0) return be_many(many);
     if (strcmp(mode, "owner") == 0) return print_owner((uid_t)many, count == 4);
