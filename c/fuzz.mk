@@ -26,7 +26,7 @@ OF-library = $(call in,library/fuzz,fuzz server library keyutils) $(call in,libr
   $(call in,common,frames places holder serials rows syscalls) $(call in,keyutils,standings caller keyutils)
 WITH-library = -std=c11 -DKEYRETAIN_KEEPER='"/nowhere"' $(patsubst %,-Wl$(comma)--wrap=%,$(WRAPPED)) -pthread
 LIMITS-library = -max_len=1024 -timeout=10
-OF-supervisor = $(call in,supervisor,fuzz calls memory proc filter) $(call in,common,rows syscalls serials frames) \
+OF-supervisor = $(call in,supervisor,fuzz calls pipes queues memory proc filter) $(call in,common,rows syscalls serials frames) \
   library/asks.c
 WITH-supervisor = -std=c11 -pthread
 LIMITS-supervisor = -max_len=8192 -timeout=10 -print_funcs=0 -detect_leaks=0
