@@ -83,7 +83,7 @@ def try_groups(path):
         return skipped("the command with many groups: not root")
     environment = {**os.environ, "KEYRETAIN_SOCKET": path, "PYTHONPATH": sys.path[0]}
     with subprocess.Popen([sys.executable, "-B", "-m", "keyretain", "@u"], env=environment, stdout=subprocess.PIPE,
-                          extra_groups=range(5000, 5040)) as command:
+                          stderr=subprocess.STDOUT, extra_groups=range(5000, 5040)) as command:
         compare("40 groups", b"watching keyring;", command.stdout.readline()[:17])
         command.kill()
 
