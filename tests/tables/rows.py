@@ -41,9 +41,26 @@ def equations(text, function):
     return {first or second: right for first, second, right in found}
 
 
+def kinds():
+    """The rows of the types of keys, in the definitions' order: variant, number, name and marks."""
+    found = re.findall(r'^row_of (\w+) = row (\d+) \(codes "(\w+)"\) (.+)$',
+                       text_of("crates/krs_types/specs/Kind.antt"), re.M)
+    return [(*row, MASKS.sub(r"OF_\1", marks).upper().split()) for *row, marks in found]
+
+
+# The mask of a new key, as the definitions name it: `OF_KEY` in the code is `key_mask`.
+MASKS = re.compile(r"(\w+)_mask")
+
+
+def kinds_of_code():
+    """The rows that the code's tables of types are made from."""
+    found = re.findall(r'^ {12}(\w+) \((\d+) "(\w+)" (.+)\);$', text_of("crates/krs_types/src/kind.rt"), re.M)
+    return [(*row, marks.upper().split()) for *row, marks in found]
+
+
 def types():
     """The names of the types of keys."""
-    return re.findall(r'^row_of \w+ = row \d+ \(codes "(\w+)"\)', text_of("crates/krs_types/specs/Kind.antt"), re.M)
+    return [name for _, _, name, _ in kinds()]
 
 
 # ---- Asks

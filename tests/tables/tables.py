@@ -44,6 +44,7 @@ def try_definitions():
     compare("the asks of the code", sorted(ask.word for ask in ASKS), rows.variants())
     compare_all("the row of the code", {ask.word: (ask.number, ask.answer, ask.fields, ask.grows, ask.long, ask.tells)
                                         for ask in ASKS}, rows.asks_of_code())
+    compare("the types of the code", rows.kinds(), rows.kinds_of_code())
     compare("the forms of fields", {name: said for name, (_, said) in rows.FORMS.items()}, rows.forms())
     compare("the commands of the code", [(command.word, command.usage) for command in COMMANDS],
             rows.commands_of_code())

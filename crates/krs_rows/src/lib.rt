@@ -1,0 +1,7 @@
+//! Rows of asks with the replies that are due, which the check computes from the definitions of krs_model. The functions
+//! here have no body to speak of: their contracts are the rows, and laws that tie them to the histories of a store.
+#![tactic(auto)]
+
+mod rows;
+
+pub use rows::{rows_of_contexts, rows_of_keyrings, rows_of_keys, rows_of_numbers, rows_of_records, rows_of_searches};
