@@ -1,7 +1,8 @@
 -- What a store answers to asks, one after the other, as a function of the definitions. The form is this project's own.
-use Rattle.std.specs.Prelude.{[], ◌∷◌, Err, filter, length, List, Ok, Result, ℕ}
+use Rattle.std.specs.Prelude.{[], ◌∷◌, ◌≡◌, ◌≢◌, ◌⊎◌, Err, filter, IsOk, length, List, map, Ok, Result, true, ℕ}
 use Rattle.std.specs.{Fmt.digits, Map.keys_of}
-use Rattle.krs_types.specs.declared.{ask.{Answer.Answer, Op.Op}, errno.Errno.Errno, event.Event.Event}
+use Rattle.krs_types.specs.{Growth.grows, declared.ask.{Answer.Answer, Ask.Ask, Op.Op}}
+use Rattle.krs_types.specs.declared.{errno.Errno.{Errno, TheVariants.ENOMEM}, event.Event.Event}
 use Rattle.krs_model.specs.Asks.{Adding.{admitted, place_of}, Finding.sought_name, Linked.nestable}
 use Rattle.krs_model.specs.Asks.Watching.{closed, filtered, opened, read_out, unwatched, watched}
 use Rattle.krs_model.specs.{Levels.{is_in, level, levels}, Lookup.{context_of, look_up, serial_of}, Making.made_for}
@@ -26,16 +27,33 @@ served s client context op (Err e) = (Err e, s)
 served s client context op (Ok done) =
     let after = swept done.0 in (Ok done.1, posted_in (posts_by s client context op done.1 after.keys) after)
 
--- the reply to an event's ask, and the store after it
-abbrev pub answered : State → Event → Result Answer Errno × State
-answered s event =
-    let up = raised s event.moment in
-    served up event.lane event.ask.context event.ask.op (outcome_of up event.lane event.ask.context event.ask.op)
+-- the reply to what a client asks at a moment, and the store after it
+abbrev pub answered : State → ℕ → ℕ → Ask → Result Answer Errno × State
+answered s client moment ask =
+    let up = raised s moment in served up client ask.context ask.op (outcome_of up client ask.context ask.op)
 
--- the replies to the asks of these events
+-- the replies to the asks of these events, whatever replies they have
 abbrev pub answers : State → List Event → List (Result Answer Errno)
 answers s [] = []
-answers s (event ∷ events) = let done = answered s event in done.0 ∷ answers done.1 events
+answers s (event ∷ events) =
+    let done = answered s event.lane event.moment event.ask in done.0 ∷ answers done.1 events
+
+-- the replies that these events have
+abbrev pub replies : List Event → List (Result Answer Errno)
+replies events = map (λ event. event.reply) events
+
+-- an event is answered as is due, and the store is then what is due; or it is ENOMEM, which stands in the place of an
+-- answer alone, of an ask that takes memory, and changes the clock alone: profile, out of memory
+abbrev pub IsDue : State → Event → State → Type 0
+IsDue old event new =
+    let due = answered old event.lane event.moment event.ask in
+    ((event.reply ≡ due.0) × (new ≡ due.1))
+    ⊎ ((event.reply ≡ Err ENOMEM) × (grows event.ask.op ≡ true) × IsOk due.0 × (new ≡ raised old event.moment))
+
+-- none of them is answered with ENOMEM
+abbrev pub HaveMemory : List Event → Type 0
+HaveMemory [] = Unit {0}
+HaveMemory (event ∷ events) = (event.reply ≢ Err ENOMEM) × HaveMemory events
 
 -- where this unfolds, the definitions of each ask and of all that they cite compute
 unfoldable pub each_definition : Type 0

@@ -6,3 +6,5 @@ pub mod Contexts
 pub mod Searches
 pub mod Records
 pub mod Numbers
+-- And what Linux answered.
+pub mod Traces

@@ -1,12 +1,14 @@
 -- The words that rows are written with: asks as docs/FORMAT.md names them, texts quoted, and bytes in hexadecimal.
-use Rattle.std.specs.Prelude.{[], ◌*◌, ◌+◌, ◌-◌, ◌∷◌, ◌≡◌, codes, Err, if◌then◌else◌, List, nat_lt, negsuc, Ok, pos, Result}
+use Rattle.std.specs.Prelude.{[], ◌*◌, ◌+◌, ◌-◌, ◌∷◌, ◌≡◌, codes, if◌then◌else◌, List, map, nat_lt, negsuc, Ok, pos}
+use Rattle.std.specs.Prelude.{Result}
 use Rattle.std.specs.Prelude.{suc, zero, ℕ, ℤ}
 use Prim.Native.String.{String}
 use Rattle.krs_types.specs.declared.ask.Answer.{Answer, TheVariants.{Bytes, Nothing, Number}}
-use Rattle.krs_types.specs.declared.ask.Op.{Op, TheVariants.{Add, Chown, Hello, Join, Request, RestrictKeyring, Search, Update}}
+use Rattle.krs_types.specs.declared.ask.Op.{Op}
+use Rattle.krs_types.specs.declared.ask.Op.{TheVariants.{Add, Hello, Join, Request, RestrictKeyring, Search, Update}}
 use Rattle.krs_types.specs.declared.{errno.Errno.{Errno}, event.Event.{Event}, note.FilterEntry.{FilterEntry}}
 use Rattle.krs_model.specs.State.{starting_at}
-use Rattle.krs_rows.specs.Answers.{answers}
+use Rattle.krs_rows.specs.Answers.{answers, replies}
 
 -- a line of a row
 pub data Line : Type 0 where
@@ -28,19 +30,20 @@ events_of lane moment context (Asks op reply ∷ lines) =
     ∷ events_of lane moment context lines
 events_of lane moment context (From l m c ∷ lines) = events_of l m c lines
 
--- the replies of these lines
-abbrev pub replies_of : List Line → List (Result Answer Errno)
-replies_of [] = []
-replies_of (Asks op reply ∷ lines) = reply ∷ replies_of lines
-replies_of (From l m c ∷ lines) = replies_of lines
-
 -- a store that gives this serial next answers these lines as they say, where nothing else was asked of it before
 abbrev pub AreDueFrom : ℕ → List Line → Type 0
-AreDueFrom serial lines = answers (starting_at serial) (events_of 0 0 1 lines) ≡ replies_of lines
+AreDueFrom serial lines =
+    let events = events_of 0 0 1 lines in answers (starting_at serial) events ≡ replies events
 
 -- so does an empty store
 abbrev pub AreDue : List Line → Type 0
 AreDue lines = AreDueFrom 3 lines
+
+-- an empty store answers each of these rows as it says
+abbrev pub AreAllDue : List (List Line) → Type 0
+AreAllDue rows =
+    map (λ lines. answers (starting_at 3) (events_of 0 0 1 lines)) rows
+    ≡ map (λ lines. replies (events_of 0 0 1 lines)) rows
 
 -- the key of a serial, and the special keyrings: uapi linux/keyctl.h
 abbrev pub key : ℕ → ℤ

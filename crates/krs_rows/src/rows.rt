@@ -1,11 +1,14 @@
 //! Rows, by subject: specs/Rows has each of them.
 ghost use Rattle.krs_rows.specs.Rows.Keys.{alpha, longest_texts, logon_keys, one_class_byte, timeouts, revoked_keys};
-ghost use Rattle.krs_rows.specs.Rows.Keys.{timeouts_owners_masks, revoked_before_expired, owners, reading_by_possession};
+ghost use Rattle.krs_rows.specs.Rows.Keys.{timeouts_owners_masks, revoked_before_expired, owners};
+ghost use Rattle.krs_rows.specs.Rows.Keys.{reading_by_possession};
 ghost use Rattle.krs_rows.specs.Rows.Keys.{adding_over};
 ghost use Rattle.krs_rows.specs.Rows.Keyrings.{cycles, nesting, displacement, keyring_refusals, revoked_keyring};
 ghost use Rattle.krs_rows.specs.Rows.Keyrings.{order_of_a_link, order_of_an_unlink, closed, moves, order_of_a_move};
-ghost use Rattle.krs_rows.specs.Rows.Contexts.{contexts_of_processes, sessions_by_name, joined_as_others, contexts_at_most};
-ghost use Rattle.krs_rows.specs.Rows.Contexts.{callers, others_contexts, last_link, last_context, last_of_a_process, leaving};
+ghost use Rattle.krs_rows.specs.Rows.Contexts.{contexts_of_processes, sessions_by_name, joined_as_others};
+ghost use Rattle.krs_rows.specs.Rows.Contexts.{contexts_at_most};
+ghost use Rattle.krs_rows.specs.Rows.Contexts.{callers, others_contexts, last_link, last_context, last_of_a_process};
+ghost use Rattle.krs_rows.specs.Rows.Contexts.{leaving};
 ghost use Rattle.krs_rows.specs.Rows.Contexts.{invalidated, made_and_refused};
 ghost use Rattle.krs_rows.specs.Rows.Searches.{nearest_match, search_depth, requests_in_turn, faults_of_a_search};
 ghost use Rattle.krs_rows.specs.Rows.Searches.{keyrings_that_are_not_entered, possession, found_and_linked};
@@ -13,7 +16,9 @@ ghost use Rattle.krs_rows.specs.Rows.Records.{removals, watch_ids, loss, loss_in
 ghost use Rattle.krs_rows.specs.Rows.Records.{keyring_notes, notes_of_each_ask, revocation_notes, removals_by_key};
 ghost use Rattle.krs_rows.specs.Rows.Records.{queues_at_most};
 ghost use Rattle.krs_rows.specs.Rows.Numbers.{last_serials, one_serial_left};
-ghost use Rattle.krs_rows.specs.Words.{AreDue, AreDueFrom};
+ghost use Rattle.krs_rows.specs.Rows.Traces.{traces_from_1, traces_from_41, traces_from_81, traces_from_121};
+ghost use Rattle.krs_rows.specs.Rows.Traces.{traces_from_161};
+ghost use Rattle.krs_rows.specs.Words.{AreAllDue, AreDue, AreDueFrom};
 
 /// What ADD, UPDATE, REVOKE, SETPERM, CHOWN, SET_TIMEOUT, READ and DESCRIBE answer.
 pub fn rows_of_keys()
@@ -90,4 +95,13 @@ pub fn rows_of_records()
 pub fn rows_of_numbers()
     ensures last_serials { AreDueFrom 2147483646 last_serials }
     ensures one_serial_left { AreDueFrom 2147483645 one_serial_left }
+{}
+
+/// What Linux answered.
+pub fn rows_of_linux()
+    ensures traces_from_1 { AreAllDue traces_from_1 }
+    ensures traces_from_41 { AreAllDue traces_from_41 }
+    ensures traces_from_81 { AreAllDue traces_from_81 }
+    ensures traces_from_121 { AreAllDue traces_from_121 }
+    ensures traces_from_161 { AreAllDue traces_from_161 }
 {}

@@ -37,10 +37,10 @@ held_from keys attached _ (Linked j k held i) =
     let r = held_from keys attached j held in (r.0, r.1, inr (one_more (links_of_key_at keys) r.0 j k r.2 i))
 
 -- the keys of as many levels from the attachments as there are keys
-abbrev held_in : State → ℕ → Bool
+abbrev pub held_in : State → ℕ → Bool
 held_in s k = is_in k (levels (links_of_key_at s.keys) (roots s) (length (keys_of s.keys)))
 
-picks_held : (s : State) → Stands s → PicksHeld s.keys (roots s) (held_in s)
+pub picks_held : (s : State) → Stands s → PicksHeld s.keys (roots s) (held_in s)
 picks_held s stands =
     let ks = keys_of s.keys in
     let closed : IsClosed (links_of_key_at s.keys) ks = λ j k i h. there_in s.keys k (stands.linked j k h) in

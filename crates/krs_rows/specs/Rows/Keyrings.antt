@@ -89,10 +89,11 @@ moves =
     Watch (key 5) 1 (pos 1) ⇒ done ∷ Watch (key 6) 1 (pos 2) ⇒ done ∷ Watch (key 8) 1 (pos 3) ⇒ done ∷
     Move (key 7) (key 5) (key 6) 1 ⇒ Err EEXIST ∷ Move (key 7) (key 5) (key 6) 0 ⇒ done ∷
     Read (key 6) ⇒ hex "07000000" ∷
-    ReadQueue 1 64 ⇒ hex "010000031001000005000000070000000100000210020000060000000700000000000000100300000800000000000000" ∷
-    Move (key 7) (key 5) (key 6) 0 ⇒ Err ENOENT ∷ restrict (key 5) "" ⇒ done ∷ restrict (key 5) "" ⇒ Err EEXIST ∷
-    Link (key 7) (key 5) ⇒ Err EPERM ∷ Move (key 7) (key 6) (key 5) 0 ⇒ Err EPERM ∷
-    add "user" "z" "x" (key 5) ⇒ Err EPERM ∷ restrict (key 7) "" ⇒ Err ENOTDIR ∷ []
+    ReadQueue 1 32 ⇒ hex "0100000310010000050000000700000001000002100200000600000007000000" ∷
+    ReadQueue 1 16 ⇒ hex "00000000100300000800000000000000" ∷ Move (key 7) (key 5) (key 6) 0 ⇒ Err ENOENT ∷
+    restrict (key 5) "" ⇒ done ∷ restrict (key 5) "" ⇒ Err EEXIST ∷ Link (key 7) (key 5) ⇒ Err EPERM ∷
+    Move (key 7) (key 6) (key 5) 0 ⇒ Err EPERM ∷ add "user" "z" "x" (key 5) ⇒ Err EPERM ∷
+    restrict (key 7) "" ⇒ Err ENOTDIR ∷ []
 
 -- flags, the key, the first keyring, the second
 abbrev pub order_of_a_move : List Line

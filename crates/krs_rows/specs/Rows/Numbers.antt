@@ -2,7 +2,7 @@
 use Rattle.std.specs.Prelude.{[], ◌∷◌, Err, false, List, true}
 use Rattle.krs_types.specs.declared.ask.Op.TheVariants.{GetId, Read}
 use Rattle.krs_types.specs.declared.errno.Errno.TheVariants.{ENOSPC, ENOKEY}
-use Rattle.krs_rows.specs.Words.{◌⇒◌, add, hello, hex, join, key, Line, number, thread_ring, user, user_session}
+use Rattle.krs_rows.specs.Words.{◌⇒◌, add, hello, hex, join, Line, number, thread_ring, user, user_session}
 
 -- what needs more serials than are left
 abbrev pub last_serials : List Line

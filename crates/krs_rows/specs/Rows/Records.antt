@@ -79,7 +79,8 @@ keyring_notes =
     hello 1000 1000 [] ⇒ number 1 ∷ OpenQueue 8 ⇒ number 1 ∷ Watch user 1 (pos 3) ⇒ done ∷
     add "user" "k" "x" user ⇒ number 5 ∷ new_ring "b" user ⇒ number 6 ∷ Link (key 5) (key 6) ⇒ done ∷
     Unlink (key 5) user ⇒ done ∷ Clear user ⇒ done ∷
-    ReadQueue 1 64 ⇒ hex "01000002100300000300000005000000010000021003000003000000060000000100000310030000030000000500000001000004100300000300000000000000" ∷
+    ReadQueue 1 32 ⇒ hex "0100000210030000030000000500000001000002100300000300000006000000" ∷
+    ReadQueue 1 32 ⇒ hex "0100000310030000030000000500000001000004100300000300000000000000" ∷
     ReadQueue 1 64 ⇒ Err EAGAIN ∷ CloseQueue 1 ⇒ done ∷ ReadQueue 1 64 ⇒ Err EBADF ∷ []
 
 -- what is told, and what is not
@@ -91,7 +92,10 @@ notes_of_each_ask =
     update (key 6) "y" ⇒ done ∷ add "user" "k" "z" (key 5) ⇒ number 6 ∷ search user "user" "k" (key 5) ⇒ number 6 ∷
     Link (key 6) (key 5) ⇒ done ∷ Read (key 6) ⇒ text "z" ∷ Describe (key 6) ⇒ text "user;1000;1000;3f3f0000;k" ∷
     restrict (key 5) "" ⇒ done ∷ update (key 5) "x" ⇒ Err EOPNOTSUPP ∷
-    ReadQueue 1 200 ⇒ hex "01000007100200000600000000000000010000071002000006000000000000000100000710020000060000000000000001000001100200000600000000000000010000011002000006000000000000000100000210010000050000000600000001000002100100000500000006000000" ∷
+    ReadQueue 1 32 ⇒ hex "0100000710020000060000000000000001000007100200000600000000000000" ∷
+    ReadQueue 1 16 ⇒ hex "01000007100200000600000000000000" ∷
+    ReadQueue 1 32 ⇒ hex "0100000110020000060000000000000001000001100200000600000000000000" ∷
+    ReadQueue 1 32 ⇒ hex "0100000210010000050000000600000001000002100100000500000006000000" ∷
     new_ring "q" user ⇒ number 7 ∷ []
 
 -- a revocation is told, and then what it lets go
