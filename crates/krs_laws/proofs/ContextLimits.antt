@@ -80,7 +80,7 @@ pub houses_few :
     → context_count other s.contexts ≤ 64 → context_count other contexts ≤ 64
 unfolding left
 houses_few s client context op _ _ _ Same other few = few
-houses_few s client context op _ _ _ (Begins caller session rings room is none left) other few =
+houses_few s client context op _ _ _ (Begins caller session rings room is none left begun) other few =
     put_few s client other s.next_context (entering s client caller session) refl
     (few_left s client room left) few
 houses_few s client context op _ _ _ (Enters caller session room who left) other few =
@@ -89,9 +89,9 @@ houses_few s client context op _ _ _ (Enters caller session room who left) other
 houses_few s client context op _ _ _ (Threads d room is own left) other few =
     put_few s client other s.next_context (without_thread d) (own_client s client context d own)
     (few_left s client room left) few
-houses_few s client context op _ _ _ (Alters d f own stays) other few =
+houses_few s client context op _ _ _ (Alters d f own stays how) other few =
     omega (arith, alter_count other s.contexts context f stays.client)
-houses_few s client context op _ _ _ (Rings d n own) other few = few
+houses_few s client context op _ _ _ (Rings d n own begun) other few = few
 houses_few s client context op _ _ _ (Execs d is own) other few =
     let same = alter_count other s.contexts context without_thread (λ c. refl) in
     let less = filter_count other (λ e. not (e.1.process == d.process) || (e.0 == context))

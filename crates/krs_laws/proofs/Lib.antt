@@ -17,3 +17,5 @@ pub mod AddedOver
 pub mod Clock
 pub mod Expiry
 pub mod Dropping
+pub mod Attaching
+pub mod Ending

@@ -8,3 +8,4 @@ pub mod Limits
 pub mod Overwritten
 pub mod Expired
 pub mod Marks
+pub mod Going

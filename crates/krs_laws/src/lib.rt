@@ -4,6 +4,7 @@
 
 mod emptied;
 mod expired;
+mod going;
 mod integrity;
 mod limits;
 mod marks;
@@ -12,6 +13,7 @@ mod overwritten;
 
 pub use emptied::nothing_is_left_when_all_have_left;
 pub use expired::expired_keys_stay_unread;
+pub use going::{attachments_change_by_right, queues_and_watches_end_by_right};
 pub use integrity::each_change_is_by_right;
 pub use limits::limits_hold_in_every_history;
 pub use marks::{quiet_asks_have_no_note, short_asks_drop_one_key_at_most};

@@ -47,7 +47,7 @@ hello_ends :
     → has_context_left s client ≡ Ok room → HousesIn s client context (Hello c)
     (with_context (with_uid s c rings) client c (first_session s.next_serial rings))
 hello_ends s client context c (Some rings) room is left = Enters c rings.session room (Named c rings refl is) left
-hello_ends s client context c None room is left = Begins c _ _ room refl is left
+hello_ends s client context c None room is left = Begins c _ _ room refl is left (refl, refl)
 
 -- HELLO
 with_uid_blind : (hide : Hiding) (s : State) (c : Caller) (rings : Option UidRings)

@@ -1,12 +1,15 @@
 -- What an accepted ask does to contexts, processes and uids.
-use Rattle.std.proofs.Common.{◌≡◌, None, Ok, Option, refl, Result, Some, subst, ℕ, ℤ}
-use Rattle.krs_types.specs.declared.ask.Op.{Op, TheVariants.{Exec, Exit, Fork, Hello, Invalidate, Leave, Thread}}
+use Rattle.std.proofs.Common.{◌+◌, ◌≡◌, List, None, Ok, Option, refl, Result, Some, subst, ℕ, ℤ}
+use Rattle.krs_types.specs.declared.ask.Op.{Op, TheVariants.{Exec, Exit, Fork, Hello, Invalidate, Join}}
+use Rattle.krs_types.specs.declared.ask.Op.TheVariants.{Leave, Thread}
 use Rattle.krs_types.specs.declared.{caller.Caller.Caller, context.{Context.Context, UidRings.UidRings}}
 use Rattle.krs_types.specs.declared.{errno.Errno.Errno, key_id.KeyId.KeyId, rights.Want.TheVariants.Granted}
 use Rattle.krs_types.specs.{KeyId.key_id_of, Rights.SEARCH}
 use Rattle.krs_model.specs.Asks.{Entering.{execed, without_thread}, Hello.has_context_left}
+use Rattle.krs_model.specs.Asks.Joining.{joinable, session_to}
 use Rattle.krs_model.specs.Asks.{Invalidating.{context_without, detached, rings_without}, Leaving.{exited, left}}
 use Rattle.krs_model.specs.{Asks.Linked.linked_into, Lookup.{context_of, look_up}, Making.{made_for, thread_to}}
+use Rattle.krs_model.specs.{Possession.process_ring}
 use Rattle.krs_model.specs.{Search.found, State.{Key, State}, Table.{alter, at, map_values, put, Table}}
 use Rattle.krs_model.proofs.{Asks.LaterByAsk.linked_into_is, MadeKeyring.Which.{IsMade, made_for_is, NoneMade}}
 use Rattle.krs_model.proofs.MadeKeyring.Which.{ProcessMade, ThreadMade}
@@ -30,13 +33,24 @@ pub data EntersAs (s : State) (client context : ℕ) (op : Op) : Caller → Opti
   Forked : (d : Context) → op ≡ Fork → context_of s client context ≡ Ok d
       → EntersAs s client context op d.caller d.session
 
+-- the asking context gets a thread keyring, where it has none; or JOIN changes its session keyring
+pub data Altering (s : State) (c : Context) (op : Op) : (Context → Context) → Type 0 where
+  GetsThread : c.thread ≡ None → Altering s c op (thread_to s.next_serial)
+  JoinsFound : (name : List ℕ) (found : ℕ × Key) → op ≡ Join name → joinable s c.caller name ≡ Some found
+      → Altering s c op (session_to found.0)
+  JoinsNew : (name : List ℕ) → op ≡ Join name → Altering s c op (session_to s.next_serial)
+
+-- the keyrings of a uid that had none
+abbrev pub first_rings : State → UidRings
+first_rings s = record { user = Some s.next_serial; session = Some (s.next_serial + 1) }
+
 -- what an accepted ask does to contexts, processes and uids
 pub data Houses (s : State) (client context : ℕ) (op : Op)
     : Table Context → Table (Option ℕ) → Table UidRings → Type 0 where
   Same : Houses s client context op s.contexts s.processes s.uids
   Begins :
       (c : Caller) (session : Option ℕ) (rings : UidRings) (room : Unit {0}) → op ≡ Hello c → at s.uids c.uid ≡ None
-      → has_context_left s client ≡ Ok room
+      → has_context_left s client ≡ Ok room → (session ≡ rings.session) × (rings ≡ first_rings s)
       → Houses s client context op (put s.contexts s.next_context (entering s client c session))
       (put s.processes s.next_context None) (put s.uids c.uid rings)
   Enters :
@@ -49,10 +63,11 @@ pub data Houses (s : State) (client context : ℕ) (op : Op)
       → has_context_left s client ≡ Ok room
       → Houses s client context op (put s.contexts s.next_context (without_thread c)) s.processes s.uids
   Alters :
-      (c : Context) (f : Context → Context) → context_of s client context ≡ Ok c → StaysWhose f
+      (c : Context) (f : Context → Context) → context_of s client context ≡ Ok c → StaysWhose f → Altering s c op f
       → Houses s client context op (alter s.contexts context f) s.processes s.uids
   Rings :
       (c : Context) (n : ℕ) → context_of s client context ≡ Ok c
+      → (process_ring s c.process ≡ None) × (n ≡ s.next_serial)
       → Houses s client context op s.contexts (alter s.processes c.process (λ none. Some n)) s.uids
   Execs :
       (c : Context) → op ≡ Exec → context_of s client context ≡ Ok c
@@ -80,7 +95,8 @@ is_made_houses :
 is_made_houses s client number op c id _ own NoneMade = Same
 is_made_houses s client number op c id _ own (ThreadMade is none) =
     Alters c (thread_to s.next_serial) own (record { client = λ v. refl; process = λ v. refl; caller = λ v. refl })
-is_made_houses s client number op c id _ own (ProcessMade is none) = Rings c s.next_serial own
+    (GetsThread none)
+is_made_houses s client number op c id _ own (ProcessMade is none) = Rings c s.next_serial own (none, refl)
 
 pub made_houses :
     (s : State) (client number : ℕ) (op : Op) (c : Context) (id : ℤ) → context_of s client number ≡ Ok c

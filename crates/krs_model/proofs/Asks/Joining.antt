@@ -8,7 +8,8 @@ use Rattle.krs_model.specs.Asks.Joining.{is_joinable, join, joinable, joined_to,
 use Rattle.krs_model.specs.{Asks.Joining.{session_ring, session_to}, Confidentiality.{AreUnattached, HasToItself}}
 use Rattle.krs_model.specs.{Hiding.{blind, blind_key, blind_keys, Hiding}, Lookup.context_of, Making.with_new}
 use Rattle.krs_model.specs.{Outcome.Outcome, Search.found, State.{Key, State}, Table.{at, put, Rises, Table}}
-use Rattle.krs_model.proofs.Asks.{Fares.{Fares, fares_within, housed_fares}, Houses.Alters, Joins.found_least}
+use Rattle.krs_model.proofs.Asks.{Fares.{Fares, fares_within, housed_fares}, Houses.{Alters, JoinsFound, JoinsNew}}
+use Rattle.krs_model.proofs.Asks.Joins.{found_least}
 use Rattle.krs_model.proofs.Asks.{Joins.passed_may, Later.{comes_trans, same_comes, with_new_comes}, Lawful.IsLawful}
 use Rattle.krs_model.proofs.Asks.{NewSerials.IsWithin, Outcomes.{Meets, meets_after, meets_ok}, Plain.IsPlain}
 use Rattle.krs_model.proofs.{Asks.Plain.{plain, plain_ok, plains}, Hiding.{Accepted.blind_done, Keys.put_blind}}
@@ -90,7 +91,8 @@ joined_fares :
     (session_joined s context c name answer)
 joined_fares s client context c name (Some found) own is = meets_ok (λ within.
     housed_fares s client context _ _ _ _ _
-    (Alters c (session_to found.0) own (record { client = λ v. refl; process = λ v. refl; caller = λ v. refl }))
+    (Alters c (session_to found.0) own (record { client = λ v. refl; process = λ v. refl; caller = λ v. refl })
+    (JoinsFound name found refl is))
     (λ stands. joined_stands s context found.0 (joinable_there s c.caller name found is) stands)
     (λ uid private stands alone. found_joined uid private s context c name found stands.rising alone
     (own_there s client context c own) is))
@@ -102,7 +104,7 @@ joined_fares s client context c name None own is =
           (same_comes one (joined_to one context s.next_serial) refl refl refl refl);
       counts = λ placed. within;
       houses = Alters c (session_to s.next_serial) own
-          (record { client = λ v. refl; process = λ v. refl; caller = λ v. refl });
+          (record { client = λ v. refl; process = λ v. refl; caller = λ v. refl }) (JoinsNew name refl);
       stands = λ stands. new_joined_stands s context name c.caller stands;
       guards = λ uid private stands alone. record {
         made = later_made uid private s alone;

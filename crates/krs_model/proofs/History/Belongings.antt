@@ -163,15 +163,15 @@ houses_whence :
     → (m : ℕ) (c : Context) → at contexts m ≡ Some c → Whence s.contexts client op c
 unfolding left
 houses_whence s client context op _ _ _ distinct Same m c there = inr (m, c, there, refl, refl)
-houses_whence s client context op _ _ _ distinct (Begins caller session rings room is none left) m c there =
+houses_whence s client context op _ _ _ distinct (Begins caller session rings room is none left begun) m c there =
     named_whence s client op caller session m c is there
 houses_whence s client context op _ _ _ distinct (Enters caller session room who left) m c there =
     enters_whence s client context op caller session m c who there
 houses_whence s client context op _ _ _ distinct (Threads d room is own left) m c there =
     grind (arith, nat_tests, own_there, put_is)
-houses_whence s client context op _ _ _ distinct (Alters d f own stays) m c there =
+houses_whence s client context op _ _ _ distinct (Alters d f own stays how) m c there =
     inr (alter_was s.contexts context f stays m c there)
-houses_whence s client context op _ _ _ distinct (Rings d n own) m c there = inr (m, c, there, refl, refl)
+houses_whence s client context op _ _ _ distinct (Rings d n own begun) m c there = inr (m, c, there, refl, refl)
 houses_whence s client context op _ _ _ distinct (Execs d is own) m c there =
     let one = alter s.contexts context without_thread in
     inr (alter_was s.contexts context without_thread

@@ -114,7 +114,7 @@ acts_leave :
 acts_leave uid private s new client context op _ _ _ sound may other acts a b d Same alone =
     same_unattached uid private s new a b d alone
 acts_leave uid private s new client context op _ _ _ sound may other acts a b d
-    (Begins c session rings room is none left) alone =
+    (Begins c session rings room is none left begun) alone =
     absurd (true≢false (sym (ap is_hello is) ∙ other))
 acts_leave uid private s new client context op _ _ _ sound may other acts a b d
     (Enters _ _ _ (Named c rings is known) _) alone =
@@ -124,11 +124,11 @@ acts_leave uid private s new client context op _ _ _ sound may other acts a b d
     absurd (true≢false (sym may ∙ ap may_make is))
 acts_leave uid private s new client context op _ _ _ sound may other acts a b d (Threads c room is own left) alone =
     absurd (true≢false (sym may ∙ ap may_make is))
-acts_leave uid private s new client context op _ _ _ sound may other acts a b d (Alters c f own stays) alone =
+acts_leave uid private s new client context op _ _ _ sound may other acts a b d (Alters c f own stays how) alone =
     let owner = ap (λ (z : Caller). z.uid) (stays.caller c) ∙ same_owner uid s client context c acts own in
     same_unattached uid private (record s { contexts = alter s.contexts context f }) new a b d
     (own_altered uid private s context f c (own_there s client context c own) owner alone)
-acts_leave uid private s new client context op _ _ _ sound may other acts a b d (Rings c n own) alone =
+acts_leave uid private s new client context op _ _ _ sound may other acts a b d (Rings c n own begun) alone =
     same_unattached uid private (record s { processes = alter s.processes c.process (λ none. Some n) }) new a b d
     (own_ring_unattached uid private s context n c sound (own_there s client context c own)
     (same_owner uid s client context c acts own) alone)

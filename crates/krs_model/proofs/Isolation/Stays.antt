@@ -155,7 +155,7 @@ houses_stay :
     → IsOutside uid s client context op → Houses s client context op contexts processes uids
     → StaysAttached private s contexts processes uids
 houses_stay uid private s client context op _ _ _ sound alone outside Same = search entry depth 8
-houses_stay uid private s client context op _ _ _ sound alone outside (Begins c session rings room is none left) =
+houses_stay uid private s client context op _ _ _ sound alone outside (Begins c session rings room is none left begun) =
     let n = s.next_context in record {
       by_context = λ q k d m there i.
           entry _ _ q d (put_stays s.contexts n q _ d (sound.housed.unused n (omega arith)) there) i;
@@ -175,13 +175,13 @@ houses_stay uid private s client context op _ _ _ sound alone outside (Threads c
   by_process = λ p k m there. there;
   by_uid = λ v k rings m there i. entry s.uids _ v rings there i;
 }
-houses_stay uid private s client context op _ _ _ sound alone outside (Alters c f own stays) = record {
+houses_stay uid private s client context op _ _ _ sound alone outside (Alters c f own stays how) = record {
   by_context = λ n k d m there i. entry _ _ n d (alter_stays s.contexts context n f d
       (not_asking uid private s client context n k c d alone outside.other own m there i) there) i;
   by_process = λ p k m there. there;
   by_uid = λ v k rings m there i. entry s.uids _ v rings there i;
 }
-houses_stay uid private s client context op _ _ _ sound alone outside (Rings c n own) =
+houses_stay uid private s client context op _ _ _ sound alone outside (Rings c n own begun) =
     search (entry, alter_stays, not_its_process) depth 8
 houses_stay uid private s client context op _ _ _ sound alone outside (Execs c is own) = record {
   by_context = λ n k d m there i. entry _ _ n d (filter_still _ _ n d

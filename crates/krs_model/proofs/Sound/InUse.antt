@@ -221,7 +221,7 @@ pub houses_in_use :
     (uids : Table UidRings) → Stands s → AreInUse s.contexts s.processes s.uids
     → Houses s client context op contexts processes uids → AreInUse contexts processes uids
 houses_in_use s client context op _ _ _ stands used Same = used
-houses_in_use s client context op _ _ _ stands used (Begins c session rings room is none left) =
+houses_in_use s client context op _ _ _ stands used (Begins c session rings room is none left begun) =
     let new = entering s client c session in
     let n = s.next_context in
     let unused = stands.housed.unused n (omega arith) in
@@ -238,9 +238,9 @@ houses_in_use s client context op _ _ _ stands used (Enters c session room who l
     grind (arith, nat_tests, new_put, still_put, at_put, entering_alike)
 houses_in_use s client context op _ _ _ stands used (Threads c room by own left) =
     grind (arith, nat_tests, still_put, alike_put, own_there)
-houses_in_use s client context op _ _ _ stands used (Alters c f own stays) =
+houses_in_use s client context op _ _ _ stands used (Alters c f own stays how) =
     grind (arith, nat_tests, still_alter, alike_from, alter_from)
-houses_in_use s client context op _ _ _ stands used (Rings c n own) = grind (arith, nat_tests, was_altered)
+houses_in_use s client context op _ _ _ stands used (Rings c n own begun) = grind (arith, nat_tests, was_altered)
 houses_in_use s client context op _ _ _ stands used (Execs c by own) =
     let is = own_there s client context c own in
     grind (arith, nat_tests, execed_has, was_altered, alike_from, execed_from)
