@@ -89,6 +89,8 @@ try_causes() {
     --socket "$path" filter 1 1:0:0:2 1:0:0 </dev/null
   tells 'no payload' "$(two 'not as it is used: add TYPE DESC DATA RING' \
     'DATA is pairs of hexadecimal digits behind hex:')" --socket "$path" add user t hex:6 @u </dev/null
+  tells 'no payload of an update' "$(two 'not as it is used: update KEY DATA' \
+    'DATA is pairs of hexadecimal digits behind hex:')" --socket "$path" update 5 hex:secret </dev/null
   tells 'a payload in place of a keyring' "$(two 'not as it is used: add TYPE DESC DATA RING' "RING is $key")" \
     --socket "$path" add user t @u secret </dev/null
   tells 'a line that is no command' \
