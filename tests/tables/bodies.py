@@ -1,5 +1,5 @@
-"""The wrong bodies that name a function or a line that isn't there. tests/wrong-bodies tells that too, once their crate
-is proved. And how it reads what a check says of three bodies."""
+"""The wrong bodies that name a function or a line that isn't there, and the wrong lines that do. tests/wrong-bodies tells
+that too, once their crate is proved. And how it reads what a check says of three bodies."""
 import importlib.machinery
 import importlib.util
 import os
@@ -24,9 +24,9 @@ only=3 proved=0
 """
 
 
-def program():
-    """tests/wrong-bodies, as a module."""
-    loader = importlib.machinery.SourceFileLoader("wrong_bodies", f"{rows.TOP}/tests/wrong-bodies")
+def program(place="tests/wrong-bodies"):
+    """A program of this tree, as a module."""
+    loader = importlib.machinery.SourceFileLoader(place.replace("/", "_"), f"{rows.TOP}/{place}")
     module = importlib.util.module_from_spec(importlib.util.spec_from_loader(loader.name, loader))
     loader.exec_module(module)
     return module
@@ -44,6 +44,12 @@ def misfits():
             if why := source.misfit(body) if is_there else f"there is no function {body.function}":
                 found[str(body)] = why
     return found
+
+
+def misfit_lines():
+    """The wrong lines of what isn't proved that can't be applied any more, each with why."""
+    lines = program("tests/wrong-lines/run")
+    return {str(it): it.misfit() for it in lines.every_line() if it.misfit()}
 
 
 def verdicts():

@@ -255,6 +255,7 @@ def try_unsafe():
 
 def try_bodies():
     compare("wrong bodies that can't be applied", {}, bodies.misfits())
+    compare("wrong lines that can't be applied", {}, bodies.misfit_lines())
     compare("how a check of wrong bodies is read", bodies.WANTED, bodies.verdicts())
 
 
