@@ -1,5 +1,5 @@
-"""The wrong bodies that name a function or a line that isn't there, and the wrong lines that do. tests/wrong-bodies tells
-that too, once their crate is proved. And how it reads what a check says of three bodies."""
+"""The wrong bodies that name a function or a line that isn't there, and the wrong lines that do. tests/wrong-bodies
+tells that too, once their crate is proved. And how it reads what a check says of three bodies."""
 import importlib.machinery
 import importlib.util
 import os
