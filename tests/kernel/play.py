@@ -1,0 +1,217 @@
+"""A script on both sides, line by line."""
+import time
+
+from sides import BYTES, NUMBERED, Kernel, Lost, Script, serials
+from lines import RINGS
+from rules import MAKING, Line
+from world import Key, World
+
+EPOCH = 1_000_000  # the moment here at which scripts begin
+TICK = 0.012  # seconds, the most by which the kernel's count of seconds is late
+SETTLED = 60  # times that the kernel is waited for
+READING = {"print", "rdescribe", "search", "request", "id"}
+
+
+class Late(Exception):
+    """A second went by that no line waited for."""
+
+
+class Difference(Exception):
+    """A line that the two answer otherwise."""
+
+    def __init__(self, line, linux, here):
+        super().__init__(f"{line[:100]}: Linux {show(linux)}, here {show(here)}")
+        self.line, self.linux, self.here = line, linux, here
+
+
+def show(answer):
+    if isinstance(answer, (bytes, str)):
+        text = answer.decode("latin-1") if isinstance(answer, bytes) else answer
+        return repr(text) if len(text) < 80 else f"{text[:60]!r} .. {len(text)} bytes"
+    if isinstance(answer, list):
+        return " ".join(map(show, answer))
+    return "ok" if answer is None else f"${answer.number}" if isinstance(answer, Key) else str(answer)
+
+
+class Play:
+    """Carries lines out. `linux` and `here` have the keys by serials of either side."""
+
+    def __init__(self, program, keyretain, root=False, pace=1):
+        self.world, self.pace = World(), pace
+        self.linux, self.here = {}, {}  # keys by serial
+        self.of_linux, self.of_here = {}, {}  # serials by key
+        self.places = {}  # contexts there by contexts here
+        self.seconds = {}  # of the kernel's clock, by the script's
+        self.buried, self.kept = set(), set()  # keys that are gone here, and known to be gone there too, or to be kept
+        self.last = None, None
+        self.held = False  # whether the line names a key that is kept
+        self.kernel, self.script = Kernel(program, root), Script(keyretain)
+        self.script.answer(f"moment {EPOCH}")
+
+    def end(self):
+        self.kernel.end()
+        self.script.end()
+
+    # ---- Pairs of serials
+
+    def pair(self, key, linux, here):
+        """Takes a key down by both serials, and gives it the next number."""
+        self.linux[linux], self.here[here] = key, key
+        self.of_linux[key], self.of_here[key] = linux, here
+        key.number = len(self.linux)
+        self.world.numbered[key.number] = key
+
+    def serial(self, of):
+        def found(word):
+            if word in RINGS:
+                return RINGS[word]
+            return of[self.world.numbered[int(word[1:])]] if word.startswith("$") else int(word)
+        return found
+
+    # ---- Lines
+
+    def play(self, line):
+        """Carries a line out on both sides; raises where they differ. Returns what Linux answers."""
+        word, *words = line.split()
+        if word == "wait":
+            return self.wait(int(words[0]))
+        if word == "context":
+            self.world.current = int(words[0])
+            self.script.answer(line)
+            return None
+        if word in ("hello", "thread", "fork", "exec", "exit"):
+            return self.control(line, word, words)
+        if self.world.context is None or self.world.context.ended:
+            return None
+        number = self.serial(self.of_here)
+        named = [str(number(it)) if it.startswith("$") else it for it in words]
+        here = self.script.answer(" ".join([word, *named]))
+        place = self.places[self.world.current]
+        if {"@u", "@us", "@s"} & set(words):
+            self.world.entered.add(self.world.context.uid)
+        self.bury(place, word, words)
+        if word == "timeout":
+            words = [words[0], self.timeout(int(words[1]))]
+        linux = self.kernel.answer(place, word, words, self.serial(self.of_linux))
+        if self.world.now + 1 in self.seconds and time.time() >= self.seconds[self.world.now + 1]:
+            raise Late()
+        if word == "invalidate" and linux is None:
+            self.kernel.collect()
+        self.last = linux, here
+        return self.judge(line, linux, here)
+
+    def judge(self, line, linux, here):
+        """Whether both answers are one; then what the line changes is taken down."""
+        word, *words = line.split()
+        if isinstance(linux, str) or isinstance(here, str):
+            if isinstance(linux, str) and isinstance(here, str):
+                self.made(word, words)
+            if linux != here:
+                raise Difference(line, linux, here)
+            return linux
+        if word in BYTES:
+            self.compare_bytes(line, linux, here)
+            return linux
+        key = None
+        if word in NUMBERED:
+            key = self.here.get(here)
+            if self.linux.get(linux) is not key or linux == 0:
+                raise Difference(line, self.linux.get(linux, linux), key or here)
+        made = self.world.accept(word, words, key or self.unpaired(word, words))
+        if word in NUMBERED and key is None:
+            self.pair(made, linux, here)
+        elif key is not None and made is not key:
+            raise AssertionError(f"the world has lost its way: {line}, {made}, {key}")
+        return linux
+
+    def made(self, word, words):
+        """Takes down what a refused line makes in Linux."""
+        missing = Line(self.world, word, words).missing(MAKING)
+        self.world.context.made_there |= "@t" in missing
+        self.world.context.process.made_there |= "@p" in missing
+
+    def unpaired(self, word, words):
+        """The key that a search answers, where no line has answered it yet."""
+        if word not in ("search", "request"):
+            return None
+        match = tuple(words[1:3] if word == "search" else words[:2])
+        return next((key for key in self.world.keys if not key.number and not key.gone and key.match == match), None)
+
+    def compare_bytes(self, line, linux, here):
+        word, *words = line.split()
+        key = self.world.key(words[0]) if not words[0].isdigit() else None
+        if word != "print" or key is None or not key.is_ring:
+            if linux != here:
+                raise Difference(line, linux, here)
+            return
+        there, mine = serials(linux, "="), serials(here, "<")
+        if there is None or mine is None or len(there) != len(mine):
+            raise Difference(line, [self.linux.get(it, it) for it in there or []], [self.here.get(it, it) for it in mine or []])
+        lone = [it for it in there if it not in self.linux], [it for it in mine if it not in self.here]
+        if len(lone[0]) == len(lone[1]) == 1:
+            unnamed = [it for it in key.links.values() if not it.number]
+            self.pair(unnamed[0], lone[0][0], lone[1][0])
+        if {self.linux.get(it) for it in there} != {self.here.get(it) for it in mine}:
+            raise Difference(line, [self.linux.get(it, it) for it in there], [self.here.get(it, it) for it in mine])
+
+    def control(self, line, word, words):
+        """Contexts that come and go."""
+        here = self.script.answer(line)
+        self.last = here, here
+        if isinstance(here, str):
+            return None
+        if word == "hello":
+            self.places[here], failed = self.kernel.hello(words)
+            if failed:
+                raise Lost(f"{line}: {failed}")
+        elif word in ("thread", "fork"):
+            self.places[here] = self.kernel.make(self.places[self.world.current], word)
+        else:
+            self.kernel.say(self.places[self.world.current], word)
+        self.world.accept(word, words, None, here)
+        return None
+
+    # ---- What the kernel does later
+
+    def bury(self, place, word, words):
+        """Waits until the kernel has let go what is gone here, where a line could come upon it."""
+        gone = {self.world.key(it) for it in words if it.startswith("$") and self.world.key(it).gone}
+        if word == "join" and words:
+            gone = {key for key in self.world.keys if key.gone and key.match == ("keyring", words[0])}
+        for key in gone - self.buried - self.kept:
+            for at in range(SETTLED // (8 if self.world.keeps else 1)):
+                # one whose serial no line has answered can't be looked for
+                if not self.kernel.is_there(place, self.of_linux[key]) if key.number else at == 4:
+                    self.buried.add(key)
+                    break
+                self.kernel.settle()
+            else:
+                self.kept.add(key)
+        self.held = bool(gone & self.kept)
+
+    # ---- Time
+
+    def timeout(self, seconds):
+        """The seconds after which a key expires there: at the second of the kernel's clock that the script's has got."""
+        if not 0 < seconds < 100:
+            return str(seconds)
+        if time.time() % 1 < TICK:
+            time.sleep(TICK)
+        now = time.time()
+        first = self.world.now + 1
+        if first not in self.seconds:
+            start = int(now) + self.pace + (now % 1 > 0.6)
+            for at in range(3):
+                self.seconds.setdefault(first + at, start + at * self.pace)
+        due = self.seconds.get(self.world.now + seconds) or self.seconds[first] + (seconds - 1) * self.pace
+        self.seconds.setdefault(self.world.now + seconds, due)
+        if due <= now:
+            raise Late()
+        return str(due - int(now))
+
+    def wait(self, seconds):
+        self.world.now += seconds
+        self.script.answer(f"moment {EPOCH + self.world.now}")
+        due = max((due for at, due in self.seconds.items() if at <= self.world.now), default=0)
+        time.sleep(max(0, due + TICK - time.time()))
+        self.seconds = {at: due for at, due in self.seconds.items() if at > self.world.now}

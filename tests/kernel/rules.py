@@ -1,0 +1,419 @@
+"""Where Linux answers otherwise: one row for each rule, and nothing else is let pass."""
+from typing import Callable, NamedTuple
+
+from world import DEPTH, LINK, READ, SEARCH, SETATTR, TYPES, VIEW, WRITE, Key
+
+FAULTS = {"ENOKEY", "EKEYREVOKED", "EKEYEXPIRED", "EACCES"}
+# Where a word that is -1, -2 or -3 may make a keyring: in Linux, and here.
+MAKING = {"add": (3,), "newring": (1,), "link": (0, 1), "move": (0, 2), "clear": (0,), "chown": (0,), "chgrp": (0,),
+          "setperm": (0,), "timeout": (0,), "search": (3,), "request": (2,), "id": (0,)}
+MADE_HERE = {"add": (3,), "newring": (1,), "link": (1,), "move": (2,), "search": (3,), "request": (2,), "id": (0,)}
+
+
+class Line(NamedTuple):
+    """A line in its state. `linux` and `here` are None while nobody has answered."""
+    world: object
+    word: str
+    words: list
+    linux: object = None
+    here: object = None
+    held: bool = False
+
+    @property
+    def refused(self):
+        """Whether both refuse."""
+        return isinstance(self.linux, str) and isinstance(self.here, str)
+
+    def places(self, table):
+        if self.word == "id" and len(self.words) < 2:
+            return []
+        return [self.words[at] for at in table.get(self.word, ()) if at < len(self.words)]
+
+    def missing(self, table):
+        """The words @t and @p by which a keyring would be made."""
+        return [it for it in self.places(table) if it in ("@t", "@p") and self.world.attached(it) is None]
+
+    @property
+    def named(self):
+        """The keys that the line names."""
+        return [key for key in map(self.world.key, self.ids) if key]
+
+    @property
+    def ids(self):
+        counts = {"add": (3,), "newring": (1,), "search": (0, 3), "request": (2,), "join": (), "link": (0, 1),
+                  "unlink": (0, 1), "move": (0, 1, 2)}
+        return [self.words[at] for at in counts.get(self.word, (0,)) if at < len(self.words)]
+
+    @property
+    def heads(self):
+        """Where the line searches."""
+        it = self.world.context
+        if self.word == "search":
+            head = self.world.key(self.words[0])
+            return [head] if head else []
+        if self.word == "request":
+            return [key for key in (it.thread, it.process.ring, it.session) if key]
+        return []
+
+    @property
+    def match(self):
+        at = {"search": 1, "add": 0, "request": 0}.get(self.word)
+        return tuple(self.words[at:at + 2]) if at is not None else ("keyring", self.words[0])
+
+    @property
+    def reached(self):
+        """All that the line names, or comes upon from there or on the way to it."""
+        world = self.world
+        found = dict.fromkeys(self.named)
+        for key in [*self.named, *self.heads, *[it for level in [next(iter(world.levels()))] for it in level]]:
+            found.update(world.below(key))
+        return list(found)
+
+    @property
+    def matches(self):
+        """Keys that a search could answer, once for each head that reaches them."""
+        return [key for head in self.heads for key in self.world.below(head) if key.match == self.match]
+
+
+# ---- States
+
+
+def makes_more(it):
+    """-1 or -2 is missing where Linux makes it and this service doesn't; or it is the head, which comes first."""
+    return bool(set(it.missing(MAKING)) - set(it.missing(MADE_HERE))) or (
+        len(it.missing(MAKING)) > len(it.missing(MADE_HERE)))
+
+
+def keeps_made(it):
+    """A refused line has made a keyring."""
+    context = it.world.context
+    return (context.made_there and "@t" in it.words or context.process.made_there and "@p" in it.words
+            or (context.made_there or context.process.made_there) and it.word == "request")
+
+
+def has_no_session(it):
+    """The session keyring is the user-session keyring, for want of another."""
+    return "@s" in it.places(MAKING) and not it.world.context.joined
+
+
+def of_group(it):
+    """A user keyring whose group is still that with which it was made: it is described, or its group counts."""
+    context = it.world.context
+    if it.word in ("rdescribe", "chgrp"):
+        return any(key.of_user and not key.regrouped for key in it.named)
+    return any(key.of_user and not key.regrouped and key.uid != context.uid and
+               (key.gid == context.gid or key.gid in context.groups) for key in it.reached)
+
+
+def spoilt(it):
+    """A user keyring of this uid is dead, or its mask keeps a search out."""
+    world = it.world
+    users = [key for key in world.keys if key.of_user and key.uid_of == world.context.uid]
+    return bool(users) and (bool({"@u", "@us", "@s"} & set(it.words)) or it.word == "request" or
+                            any(key.of_user for key in it.named)) and any(
+        not world.is_alive(key) or key.changed or key.invalidated for key in users)
+
+
+def outlives(it):
+    """The last context of a user has ended."""
+    world = it.world
+    return bool(world.outlived) and (it.held or world.context.uid in world.outlived or any(
+        key.of_user and key.gone for key in it.reached))
+
+
+def not_entered(it):
+    """No context of this user has named a user keyring or a session yet."""
+    return it.word == "request" and it.world.context.uid not in it.world.entered
+
+
+def made_anew(it):
+    world = it.world
+    return any(key.of_user and key.invalidated and key.uid_of == world.context.uid for key in world.keys)
+
+
+def updates(it):
+    """ADD on a match, where possession of keyring and match differ or the mask of one wants it."""
+    if it.word != "add":
+        return False
+    ring = it.world.key(it.words[3])
+    found = ring and ring.links.get(it.match)
+    return bool(found) and it.world.is_alive(found)
+
+
+def dead_in_search(it):
+    return it.word == "search" and dead_matches(it)
+
+
+def dead_in_request(it):
+    return it.word == "request" and dead_matches(it)
+
+
+def dead_matches(it):
+    """A match that is dead, or may not be searched; or a keyring that may not be."""
+    world = it.world
+    return (
+        any(not world.is_alive(key) or not world.rights(key) & SEARCH for key in it.matches) or
+        any(not world.rights(key) & SEARCH or not world.is_alive(key) for head in it.heads
+            for key in world.below(head) if key.is_ring))
+
+
+def revives(it):
+    if it.word != "add":
+        return False
+    ring = it.world.key(it.words[3])
+    found = ring and ring.links.get(it.match)
+    return bool(found) and it.world.is_expired(found) and not found.revoked
+
+
+def expired_ring(it):
+    world = it.world
+    return any(key.is_ring and world.is_expired(key) and not key.gone for key in world.keys)
+
+
+def other_match(it):
+    if it.word not in ("unlink", "move"):
+        return False
+    key, ring = it.world.key(it.words[0]), it.world.key(it.words[1])
+    found = key and ring and ring.links.get(key.match)
+    return bool(found) and found is not key
+
+
+def any_ring_of_name(it):
+    return it.word == "join" and bool(it.words) and any(
+        key.is_ring and key.name == it.words[0] for key in it.world.keys)
+
+
+def same_session(it):
+    return it.word == "join" and it.linux == 0
+
+
+def two_matches(it):
+    world = it.world
+    return it.word in ("search", "request") and len(set(it.matches)) > 1
+
+
+def head_counts(it):
+    """A search below which something is possessed and something isn't, or a keyring that -4 or -5 names."""
+    if it.word not in ("search", "request"):
+        return False
+    possessed = it.world.possessed()
+    below = {key for head in it.heads for key in it.world.below(head) if key.is_ring or key.match == it.match}
+    return 0 < len(below & possessed) < len(below) or bool({"@u", "@us"} & set(it.words[:1]) and below - possessed)
+
+
+def reads(it):
+    return it.word == "print"
+
+
+def reads_by_special(it):
+    return it.word == "print" and it.words[0].startswith("@")
+
+
+def unknown_type(it):
+    return it.word in ("add", "search", "request") and it.match[0] not in TYPES
+
+
+def order_of_add(it):
+    """A type, name or payload that is refused here before the keyring is looked up."""
+    if it.word not in ("add", "newring"):
+        return False
+    type_, name, data = (*it.words[:3],) if it.word == "add" else ("keyring", it.words[0], "")
+    length = len(data) // 2 - 2 if data.startswith("hex:") else len(data)
+    return (type_ not in TYPES or (type_ == "keyring") != (length == 0) or length > 32767 or len(name) > 4095
+            or type_ == "logon" and name.find(":") < 1 or type_ == "keyring" and name[0] == ".")
+
+
+def destination(it):
+    at = {"search": 3, "request": 2}.get(it.word)
+    if at is None or len(it.words) <= at:
+        return False
+    to = it.world.key(it.words[at])
+    return bool(to) and not to.is_ring
+
+
+def closed_match(it):
+    return updates(it) and it.world.key(it.words[3]).closed
+
+
+def in_place(it):
+    if it.word != "move":
+        return False
+    return it.world.key(it.words[1]) is it.world.key(it.words[2]) is not None
+
+
+def held(it):
+    return it.held and (it.world.executed or it.world.left)
+
+
+def lost_attachment(it):
+    """An invalidated thread or process keyring."""
+    return it.held and any(key.invalidated for key in it.world.keys) or any(
+        True for word in it.world.context.lost)
+
+
+def unsearchable(it):
+    """A key that is possessed, and may not be searched."""
+    world = it.world
+    if not world.context:
+        return False
+    return any(key in world.possessed() and not world.rights(key) & SEARCH for key in it.reached)
+
+
+def no_group_byte(it):
+    world = it.world
+    it_ = world.context
+    return any(key.uid != it_.uid and not key.mask & 0x3F00 and (key.gid == it_.gid or key.gid in it_.groups)
+               for key in it.reached)
+
+
+def by_number(it):
+    """-4 or -5 where it isn't possessed."""
+    world = it.world
+    named = [world.attached(word) for word in it.ids if word in ("@u", "@us")]
+    return any(key and key not in world.possessed() for key in named)
+
+
+def later_process_ring(it):
+    context = it.world.context
+    return context.process.split or context.given
+
+
+def long_update(it):
+    return it.word == "update" and len(it.words[1]) > 4096
+
+
+def nested(it):
+    world = it.world
+    if it.word not in ("link", "move", "search", "request"):
+        return False
+    keys = it.named + it.matches
+    return any(key.is_ring and max(world.below(key).values()) >= 4 for key in keys)
+
+
+def wrong_mask(it):
+    return it.word == "setperm" and bool(int(it.words[1], 16) & ~0x3F3F3F3F)
+
+
+def big_ids(it):
+    return it.word == "rdescribe" and any(max(key.uid, key.gid) > 0x7FFFFFFF for key in it.named)
+
+
+class Rule(NamedTuple):
+    """`page` is the rule's name in PROFILE.md; `state` says where it holds, `linux` and `here` what is answered there:
+    names of errors, or what `answers` says. `parts`: a line in that state leaves the two apart whatever they answer."""
+    page: str
+    state: Callable
+    linux: str
+    here: str
+    source: str
+    whose: str
+    probe: str
+    parts: bool = False
+
+
+H = "hello 1000 1000; "
+# A key that is two keyrings deep on one side and one deep on the other, and the other way round.
+BOTH_WAYS = "; ".join(["", "newring h1 @s", "newring a $2", "newring c $2", "newring x $3", "add user k deep $5",
+                       "add user k flat $4", "newring h2 @s", "newring a $8", "newring c $8", "newring x $10",
+                       "add user k flat $9", "add user k deep $11", "search $2 user k", "search $8 user k"])
+SEARCHES = "keyring.c, search_nested_keyrings"
+
+RULES = {
+    "U3": Rule("first session keyring", has_no_session, "*", "*", "process_keys.c, lookup_user_key: a session keyring "
+               "that is a user's is replaced by a new one where something may be made", "session-keyring(7)",
+               H + H + "id @us; add user k s @s; print @us", parts=True),
+    "K19": Rule("made on demand", makes_more, "*", "*", "keyctl.c: KEY_LOOKUP_CREATE", "core.rst is silent",
+                H + "clear @t", parts=True),
+    "K33": Rule("mask bits", wrong_mask, "EINVAL", "error", "keyctl.c, keyctl_setperm_key", "silent",
+                H + "setperm 999 40000000"),
+    "K29": Rule("update range", long_update, "EINVAL", "*", "keyctl.c, keyctl_update_key", "keyctl(2)",
+                H + "add user k v @u; update $1 " + "x" * 4097),
+    "T2": Rule("describe of great ids", big_ids, "ok", "ok", "keyctl.c, keyctl_describe_key: %d", "Linux",
+               "hello 3000000005 3000000007; id @t create; rdescribe @t"),
+    "T1": Rule("group of user keyrings", of_group, "*", "*", "process_keys.c, look_up_user_keyrings: INVALID_GID", "silent",
+               H + "id @u; setperm @u 1f3f3f00; hello 1001 1000; print $1"),
+    "F4": Rule("known types", unknown_type, "*", "ENODEV", "key.c, key_type_lookup", "silent", H + "request trusted k"),
+    "F5": Rule("order of an ADD", order_of_add, "error", "error", "key.c, key_create_or_update", "silent",
+               H + "add keyring r x 999"),
+    "U6": Rule("joining by name", same_session, "ok", "ok", "process_keys.c, join_session_keyring", "Linux",
+               H + "join work; setperm @s 3f1b0000; join work"),
+    "U8": Rule("moves in place", in_place, "ok", "*", "keyring.c, key_move", "silent",
+               H + "add user k v @t; move $1 @us @us"),
+    "U9": Rule("closed keyrings", closed_match, "EPERM", "*", "key.c, key_create_or_update", "keyctl(2)",
+               H + "newring r @u; add user k v $1; restrict $1; add user k w $1"),
+    "U1": Rule("place of a link", other_match, "*", "*", "keyring.c, __key_unlink_begin", "Linux",
+               H + "newring a @u; add user k 1 $1; add user k 2 @u; unlink $3 $1"),
+    "U14": Rule("user keyrings stay", made_anew, "*", "*", "process_keys.c, look_up_user_keyrings", "user-keyring(7)",
+                H + "invalidate @u; " + H + "id @u"),
+    "U15": Rule("user keyrings stay", outlives, "*", "*", "process_keys.c, look_up_user_keyrings: .user_reg keeps them",
+                "user-keyring(7)", H + "id @u; hello 1001 1001; context 1; exit; context 2; print $1"),
+    "U16": Rule("user keyrings stay", not_entered, "*", "*", "process_keys.c, get_user_session_keyring_rcu", "user-keyring(7)",
+                H + "request keyring _uid_ses.1000"),
+    "U11": Rule("invalidated at once", lost_attachment, "*", "*", "process_keys.c, lookup_user_key", "Linux",
+                H + "id @t create; invalidate @t; id @t create"),
+    "U10": Rule("exec ends the others", held, "*", "*", "the program's file keeps its opener's keyrings", "Linux",
+                H + "add user k v @t; exec; rdescribe $1"),
+    "U12": Rule("refusals change nothing", keeps_made, "*", "*", "process_keys.c, lookup_user_key", "silent",
+                H + "add logon a v @t; id @t"),
+    "K28": Rule("late process keyring", later_process_ring, "*", "*", "process_keys.c, copy_creds", "process-keyring(7)",
+                H + "thread; id @p create; context 2; id @p"),
+    "U5": Rule("user keyrings stay", spoilt, "ENOKEY", "*", "process_keys.c, look_up_user_keyrings", "Linux",
+               H + "id @u; revoke @us; id @u"),
+    "P2": Rule("dead matches are displaced", revives, "*", "*", "keyring.c, find_key_to_update", "keyrings(7)",
+               H + "add user k v @u; timeout $1 1; wait 1; add user k w @u"),
+    "U2": Rule("possession of a match", updates, "*", "*", "keyring.c, find_key_to_update", "silent",
+               H + "join; add user k one @u; add user k two @u"),
+    "U7": Rule("joining by name", any_ring_of_name, "*", "*", "keyring.c, find_keyring_by_name", "keyctl(2)",
+               H + "newring work @u; setperm $1 3f3f0000; join work"),
+    "F6": Rule("order of a search's refusals", destination, "error", "ENOTDIR", "keyctl.c, keyctl_keyring_search", "silent",
+               H + "add user k v @u; search @u user z $1"),
+    "F3": Rule("order of a look-up", reads, "error", "error", "keyctl.c, keyctl_read_key", "keyctl_read(3)", H + "print 0"),
+    "F7": Rule("reading by possession", reads_by_special, "ok", "EACCES", "keyctl.c, keyctl_read_key", "silent",
+               H + "join; setperm @s 25000000; print @s"),
+    "K27": Rule("numbers of user keyrings aren't possessed", by_number, "*", "*", "process_keys.c, lookup_user_key", "silent",
+                H + "join; setperm @u 1f000000; id @u"),
+    "K26": Rule("group byte counts alone", no_group_byte, "*", "*", "permission.c, key_task_permission", "keyctl(2)",
+                H + "add user k v @u; setperm $1 3f3f003f; hello 1001 1000; rdescribe $1"),
+    "K25": Rule("possession without rights", unsearchable, "*", "*", "process_keys.c, lookup_user_key", "keyrings(7)",
+                H + "join; add user k v @s; setperm $2 37000000; rdescribe $2"),
+    "K30": Rule("nesting depth", nested, "*", "*", "keyring.c, keyring_detect_cycle", "keyctl(2)",
+                H + "newring r1 @u; " + "".join(f"newring r{at} ${at - 1}; " for at in range(2, 8)) + "link $1 @t"),
+    "K32": Rule("order of a search", two_matches, "ok", "ok", SEARCHES, "keyrings(7)",
+                H + "join" + BOTH_WAYS),
+    "P1": Rule("expired keyrings are not followed", expired_ring, "*", "*", "keyring.c, search_nested_keyrings", "silent",
+               H + "join; newring r @s; add user k v $2; timeout $2 1; wait 1; search @s user k"),
+    "P3": Rule("possessor byte", head_counts, "*", "*", "keyring.c, search_nested_keyrings", "silent",
+               H + "join; newring r @s; setperm $2 3f3f0000; add user k v $2; setperm $3 3f000000; link $3 @s; link $2 @u; "
+               "unlink $2 @s; search $2 user k"),
+    "F1": Rule("three keyrings of a request", dead_in_request, "*", "*", "process_keys.c, search_cred_keyrings_rcu",
+               "request_key(2)", H + "join; add user k v @s; timeout $2 1; wait 1; request user k"),
+    "F2": Rule("fault of a search", dead_in_search, "*", "*", "keyring.c, keyring_search_iterator", "silent",
+               H + "join; add user k v @s; revoke $2; newring r @s; add user k w $3; timeout $4 1; wait 1; "
+               "search @s user k"),
+}
+
+
+def fits(pattern, answer):
+    name = answer if isinstance(answer, str) else "ok"
+    return pattern == "*" or name in pattern.split() or pattern == "error" and isinstance(answer, str)
+
+
+def explaining(line):
+    """The first rule that explains a difference."""
+    return next((name for name, rule in RULES.items() if name in line.world.strayed or
+                 fits(rule.linux, line.linux) and fits(rule.here, line.here) and rule.state(line)), None)
+
+
+def parting(line):
+    """The rule by which a line would leave the two apart."""
+    return next((name for name, rule in RULES.items() if rule.parts and rule.state(line)), None)
+
+
+def goes_on(play, line):
+    """Whether the two stay together over a difference: nothing changes, or the same."""
+    if line.refused or line.word in ("print", "rdescribe") or line.word in ("search", "request") and not line.places(MAKING):
+        return True
+    if line.word == "join" and line.linux == 0 and isinstance(line.here, Key):
+        play.world.accept("join", line.words, line.here)
+        return True
+    return line.word == "id" and len(line.words) < 2

@@ -1,0 +1,229 @@
+"""The sides that answer lines: the kernel's keyrings, by contexts.c, and `keyretain script`. An answer is a number, bytes,
+None, or the name of an error."""
+import contextlib
+import errno
+import fcntl
+import os
+import select
+import signal
+import socket
+import struct
+import subprocess
+import time
+
+from compare import TOP  # noqa: F401 - has the path of the client
+from lines import RINGS
+import keyretain
+from scripts import OUTSIDE
+
+FIRST, CONTEXTS, ABOVE = 3, 24, 100  # the sockets of contexts.c; how many; where they stand here
+PATIENCE = 30
+NAMES = {number: name for number, name in errno.errorcode.items()} | {35: "EDEADLK", 95: "EOPNOTSUPP"}
+NUMBERS = {name: number for number, name in NAMES.items()}
+MAPS = f"0 {OUTSIDE} 100000\n3000000000 {OUTSIDE + 100000} 16\n"
+
+
+class Lost(Exception):
+    """A side that doesn't answer."""
+
+
+def text(word):
+    return f"s{word.encode().hex()}"
+
+
+def payload(word):
+    data = bytes.fromhex(word[4:]) if word.startswith("hex:") else word.encode()
+    return f"b{data.hex()} n{len(data)}"
+
+
+# Of each word of a script the call, where ID, TEXT, DATA and the like stand for what the words say.
+CALLS = {
+    "add": ("add", text, text, payload, "id"), "newring": ("add", b"keyring", text, "z n0", "id"),
+    "request": ("request", text, text, "z", "to"), "id": ("keyctl n0", "id", "flag"),
+    "join": ("keyctl n1", "name"), "update": ("keyctl n2", "id", payload), "revoke": ("keyctl n3", "id"),
+    "chown": ("keyctl n4", "id", "number", "n-1"), "chgrp": ("keyctl n4", "id", "n-1", "number"),
+    "setperm": ("keyctl n5", "id", "mask"), "rdescribe": ("keyctl n6", "id", "o"), "clear": ("keyctl n7", "id"),
+    "link": ("keyctl n8", "id", "id"), "unlink": ("keyctl n9", "id", "id"),
+    "search": ("keyctl n10", "id", text, text, "to"), "print": ("keyctl n11", "id", "o"),
+    "timeout": ("keyctl n15", "id", "number"), "invalidate": ("keyctl n21", "id"),
+    "restrict": ("keyctl n29", "id", "z", "z"), "move": ("keyctl n30", "id", "id", "id", "flag"),
+}
+NUMBERED = {"add", "newring", "request", "id", "join", "search", "hello", "thread", "fork"}
+BYTES = {"print", "rdescribe"}
+
+
+def call_of(word, words, serial):
+    """The call that a line of a script is; `serial` has the serial that a word stands for."""
+    said, rest = [], list(words)
+    for part in CALLS[word]:
+        if callable(part):
+            said.append(part(rest.pop(0)))
+        elif isinstance(part, bytes):
+            said.append(text(part.decode()))
+        elif part == "id":
+            said.append(f"n{serial(rest.pop(0))}")
+        elif part == "to":
+            said.append(f"n{serial(rest.pop(0)) if rest else 0}")
+        elif part == "number":
+            said.append(f"n{rest.pop(0)}")
+        elif part == "mask":
+            said.append(f"n{int(rest.pop(0), 16)}")
+        elif part == "name":
+            said.append(text(rest.pop(0)) if rest else "z")
+        elif part == "flag":
+            said.append(f"n{1 if rest and rest.pop(0) else 0}")
+        else:
+            said.append(part)
+    return " ".join(said)
+
+
+def serials(data, order):
+    """The serials of a keyring, in a machine's order of bytes."""
+    return [it for it, in struct.iter_unpack(f"{order}I", data)] if len(data) % 4 == 0 else None
+
+
+class Kernel:
+    """The kernel's keyrings, in a user namespace of its own, or where `root` is said among all users."""
+
+    def __init__(self, program, root=False):
+        pairs = [socket.socketpair(socket.AF_UNIX, socket.SOCK_SEQPACKET) for _ in range(CONTEXTS)]
+        self.ends = [pair[0] for pair in pairs]
+        others = [fcntl.fcntl(pair[1], fcntl.F_DUPFD_CLOEXEC, ABOVE) for pair in pairs]
+        for pair in pairs:
+            pair[1].close()
+            pair[0].settimeout(PATIENCE)
+            pair[0].setsockopt(socket.SOL_SOCKET, socket.SO_SNDBUF, 1 << 18)
+        actions = [(os.POSIX_SPAWN_DUP2, it, FIRST + at) for at, it in enumerate(others)]
+        words = [program, "beside" if root else "apart"]
+        self.pid = os.posix_spawn(program, words, os.environ, file_actions=actions)
+        for it in others:
+            os.close(it)
+        child = self.receive(0)[0]
+        if not root:
+            for name in "uid", "gid":
+                with open(f"/proc/{child}/{name}_map", "w", encoding="ascii") as file:
+                    file.write(MAPS)
+        self.ends[0].send(b"g")
+        self.receive(0)
+        self.taken, self.root, self.users = 1, root, set()
+        self.helper = self.make(0, "fork")
+        self.inherits = self.has_session()
+        self.sentinels = self.say(self.helper, "keyctl n1 z")[0]
+
+    def has_session(self):
+        """Whether a session is handed on to all contexts: that of a login, from above."""
+        session = self.say(self.helper, "keyctl n0 n-3 n0")[0]
+        return b";_uid_ses." not in self.say(self.helper, f"keyctl n6 n{session} o")[1]
+
+    def receive(self, context):
+        try:
+            said = self.ends[context].recv(1 << 18).decode()
+        except OSError as error:
+            raise Lost(f"context {context}: {error}") from error
+        if not said:
+            raise Lost(f"context {context} is gone")
+        value, _, data = said.partition(" ")
+        return int(value), bytes.fromhex(data)
+
+    def say(self, context, line):
+        self.ends[context].send(line.encode())
+        return self.receive(context)
+
+    def make(self, context, how):
+        """Another context, by a thread or a fork of one."""
+        number = self.taken
+        if number == CONTEXTS:
+            raise Lost("contexts")
+        self.taken += 1
+        if self.say(context, f"{how} {number}")[0] < 0:
+            raise Lost(how)
+        return number
+
+    def hello(self, words):
+        number = self.make(0, "fork")
+        self.users.add(words[0])
+        value, _ = self.say(number, f"user {' '.join(words)}")
+        if self.inherits:  # the user-session keyring in its place, as if there were none
+            self.say(number, "keyctl n0 n-5 n0")
+            self.say(number, f"keyctl n1 {text('_uid_ses.' + words[0])}")
+        return number, (None if value >= 0 else NAMES[-value])
+
+    def answer(self, context, word, words, serial):
+        """What a line is answered."""
+        value, data = self.say(context, call_of(word, words, serial))
+        if value < 0:
+            return NAMES.get(-value, str(-value))
+        if word == "rdescribe":
+            return data[:-1]
+        return data if word in BYTES else value if word in NUMBERED else None
+
+    def is_there(self, context, serial):
+        return self.say(context, f"keyctl n6 n{serial} z n0")[0] != -errno.ENOKEY
+
+    def settle(self):
+        self.say(self.helper, "settle")
+
+    def collect(self):
+        """Waits until the collector has been through all keys once, from its beginning."""
+        for _ in range(2):
+            key, _ = self.say(self.helper, f"add {text('user')} {text('sentinel')} b00 n1 n{self.sentinels}")
+            self.say(self.helper, f"keyctl n21 n{key}")
+            end = time.monotonic() + PATIENCE
+            while self.say(self.helper, f"keyctl n11 n{self.sentinels} o")[0] > 0:
+                if time.monotonic() > end:
+                    raise Lost("the collector")
+                time.sleep(0.0005)
+
+    def leave(self):
+        """Takes the user keyrings away that a user namespace would have kept."""
+        for uid in self.users - {"0"}:
+            number = self.make(0, "fork")
+            self.say(number, f"user {uid} {uid}")
+            rings = [self.say(number, f"keyctl n0 n{it} n0")[0] for it in (-4, -5)]  # both before one is made anew
+            for ring in rings:
+                self.say(number, f"keyctl n21 n{ring}")
+        self.collect()
+
+    def end(self):
+        with contextlib.suppress(Lost):
+            if self.root:
+                self.leave()
+        os.kill(self.pid, signal.SIGKILL)
+        os.waitpid(self.pid, 0)
+        if self.root:  # what held sessions is let go a little later, and the next script could join them by their names
+            time.sleep(0.2)
+        for it in self.ends:
+            it.close()
+
+
+class Script:
+    """`keyretain script`, by its lines."""
+
+    def __init__(self, program):
+        pipes = {"stdin": subprocess.PIPE, "stdout": subprocess.PIPE, "stderr": subprocess.DEVNULL}
+        self.process = subprocess.Popen([program, "script"], **pipes)
+
+    def answer(self, line):
+        word = line.partition(" ")[0]
+        try:
+            self.process.stdin.write(line.encode() + b"\n")
+            self.process.stdin.flush()
+            if not select.select([self.process.stdout], [], [], PATIENCE)[0]:
+                raise Lost("keyretain script")
+            said = self.process.stdout.readline().rstrip(b"\n")
+        except OSError as error:
+            raise Lost("keyretain script") from error
+        if said.startswith(b"error "):
+            return said.split(b" ")[2].decode()
+        if said in (b"", b"usage") and word not in BYTES:
+            raise Lost(f"keyretain script: {said!r} to {line[:100]}")
+        if word in NUMBERED:
+            return int(said)
+        if word in BYTES:
+            return bytes.fromhex(said[5:].decode()) if said.startswith(b":hex:") else said
+        return None
+
+    def end(self):
+        self.process.stdin.close()
+        self.process.wait(PATIENCE)
+        self.process.stdout.close()
