@@ -1,14 +1,15 @@
-// contexts PATH: contexts of the kernel's, each a thread, that make system calls by lines. Context N has the socket
-// FIRST + N, gets one line in a message, and answers each by one: what the call returned, or less 0 its error, and
-// behind that the bytes that it put out, in hexadecimal. Context 0 begins in a user namespace of its own where `apart`
-// is said, whose maps are written before it gets its first line, and in a PID namespace, with which all others end.
+// contexts apart|beside|within: contexts of a kernel, each a thread, that make system calls by lines. Context N has the
+// socket FIRST + N, gets one line in a message, and answers each by one: what the call returned, or its error below 0,
+// and behind that the bytes that it put out, in hexadecimal. Context 0 begins in a PID namespace, with which all others
+// end, where `apart` is said in a user namespace too, whose maps are written before it gets its first line; and where
+// `within` is said, as it is.
 //
 //   add|request|keyctl WORD ..   the system call; a word is nNUMBER, sTEXT or bBYTES in hexadecimal, z (null), or o,
 //                                a place for bytes put out and its size
 //   thread N, fork N             a thread, or a process, that is context N
 //   exec, exit                   execve(2) of this program, which goes on as this context; the end of the thread
 //   user UID GID [GROUP ..]      another user for good
-//   settle                       waits until each processor has left what it was at (membarrier(2))
+//   settle                       waits until each processor has left what it was at: membarrier(2)
 #define _GNU_SOURCE
 #include <errno.h>
 #include <grp.h>
@@ -156,11 +157,11 @@ int main(int count, char **words)
 {
 	path = words[0];
 	signal(SIGCHLD, SIG_IGN);
-	if (count == 2 && strcmp(words[1], "apart") && strcmp(words[1], "beside")) {
+	if (count == 2 && words[1][0] >= '0' && words[1][0] <= '9') {
 		answer(atoi(words[1]), 0, NULL, 0); // of `exec`
 		serve((void *)(intptr_t)atoi(words[1]));
 	}
-	if (count == 2) {
+	if (count == 2 && strcmp(words[1], "within")) {
 		signal(SIGCHLD, SIG_DFL);
 		if (unshare(CLONE_NEWPID | (strcmp(words[1], "apart") ? 0 : CLONE_NEWUSER)))
 			return 1;

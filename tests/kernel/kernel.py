@@ -5,7 +5,8 @@
   replay FILE                 a script from a file
   traces COUNT                short scripts in which both answer the same, with all answers
 
---root: among all users of the machine; --jobs N: so many at once; --coverage: what was answered to which ask."""
+--root: among all users of the machine; --calls FOLDER: on the same calls under keyretain-session, where FOLDER has it
+and moment.so, and KEYRETAIN is keyretaind; --jobs N: so many at once; --coverage: what was answered to which ask."""
 import argparse
 import collections
 import concurrent.futures
@@ -71,7 +72,14 @@ def step(it, line, seen, pairs):
 
 
 def begin(given, pace=1):
-    return play.Play(given.contexts, given.keyretain, given.root, pace)
+    kernel = sides.Kernel(given.contexts, given.root)
+    try:
+        other = (sides.Session(given.contexts, given.calls, given.keyretain) if given.calls
+                 else sides.Script(given.keyretain))
+    except Exception:
+        kernel.end()
+        raise
+    return play.Play(kernel, other, pace, bool(given.calls))
 
 
 def run_lines(given, next_line, pace):
@@ -102,7 +110,7 @@ def run_seed(given, seed):
             nonlocal drawer
             if at >= given.lines:
                 return None
-            drawer = drawer or scripts.Drawer(it.world, seed, given.root)
+            drawer = drawer or scripts.Drawer(it.world, seed, given.root, calls=bool(given.calls))
             for _ in range(30):
                 line = drawer.draw()
                 if is_control(it.world, line) or not rules.parting(line_of(it, line)) or drawer.likely(0.01):
@@ -147,7 +155,8 @@ def keep(given, seed, ran):
 def tell(given, totals, pairs, ends, lines):
     print(f"{sum(ends.values())} scripts, {lines} lines: {dict(ends)}")
     print("rules met: " + ", ".join(f"{name} {count}" for name, count in totals.most_common()))
-    print("rules that no seed needs: " + " ".join(name for name in rules.RULES if not totals[name]))
+    print("rules that no seed needs: " + " ".join(
+        name for name, rule in rules.RULES.items() if not totals[name] and rule.of_calls <= bool(given.calls)))
     if given.coverage:
         for word in sorted({word for word, _ in pairs}):
             print(f"{word}: " + ", ".join(f"{name} {count}" for (it, name), count in pairs.most_common() if it == word))
@@ -225,7 +234,7 @@ def probe(given, name):
 
 
 def probes(given):
-    for name in given.words or rules.RULES:
+    for name in given.words or [name for name, rule in rules.RULES.items() if rule.of_calls == bool(given.calls)]:
         try:
             check(f"the probe of {name}", probe(given, name))
         except Exception:
@@ -235,6 +244,7 @@ def probes(given):
 def read_words():
     words = argparse.ArgumentParser()
     words.add_argument("--root", action="store_true")
+    words.add_argument("--calls", metavar="FOLDER")
     words.add_argument("--coverage", action="store_true")
     words.add_argument("--jobs", type=int, default=6 * len(os.sched_getaffinity(0)))  # they wait, most of the time
     words.add_argument("--keep", default=os.environ.get("TMPDIR", "/tmp"))

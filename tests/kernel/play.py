@@ -1,7 +1,7 @@
 """A script on both sides, line by line."""
 import time
 
-from sides import BYTES, NUMBERED, Kernel, Lost, Script, serials
+from sides import BYTES, NUMBERED, serials
 from lines import RINGS
 from rules import MAKING, Line
 from world import Key, World
@@ -36,21 +36,21 @@ def show(answer):
 class Play:
     """Carries lines out. `linux` and `here` have the keys by serials of either side."""
 
-    def __init__(self, program, keyretain, root=False, pace=1):
-        self.world, self.pace = World(), pace
+    def __init__(self, kernel, other, pace=1, of_calls=False):
+        self.world, self.pace = World(of_calls), pace
         self.linux, self.here = {}, {}  # keys by serial
         self.of_linux, self.of_here = {}, {}  # serials by key
-        self.places = {}  # contexts there by contexts here
+        self.places = {}  # contexts there and here by the number of a context in the script
         self.seconds = {}  # of the kernel's clock, by the script's
         self.buried, self.kept = set(), set()  # keys that are gone here, and known to be gone there too, or to be kept
         self.last = None, None
         self.held = False  # whether the line names a key that is kept
-        self.kernel, self.script = Kernel(program, root), Script(keyretain)
-        self.script.answer(f"moment {EPOCH}")
+        self.kernel, self.other = kernel, other
+        self.other.set_moment(EPOCH)
 
     def end(self):
         self.kernel.end()
-        self.script.end()
+        self.other.end()
 
     # ---- Pairs of serials
 
@@ -77,22 +77,19 @@ class Play:
             return self.wait(int(words[0]))
         if word == "context":
             self.world.current = int(words[0])
-            self.script.answer(line)
             return None
         if word in ("hello", "thread", "fork", "exec", "exit"):
-            return self.control(line, word, words)
+            return self.control(word, words)
         if self.world.context is None or self.world.context.ended:
             return None
-        number = self.serial(self.of_here)
-        named = [str(number(it)) if it.startswith("$") else it for it in words]
-        here = self.script.answer(" ".join([word, *named]))
-        place = self.places[self.world.current]
+        there, mine = self.places[self.world.current]
+        here = self.other.answer(mine, word, words, self.serial(self.of_here))
         if {"@u", "@us", "@s"} & set(words):
             self.world.entered.add(self.world.context.uid)
-        self.bury(place, word, words)
+        self.bury(there, word, words)
         if word == "timeout":
             words = [words[0], self.timeout(int(words[1]))]
-        linux = self.kernel.answer(place, word, words, self.serial(self.of_linux))
+        linux = self.kernel.answer(there, word, words, self.serial(self.of_linux))
         if self.world.now + 1 in self.seconds and time.time() >= self.seconds[self.world.now + 1]:
             raise Late()
         if word == "invalidate" and linux is None:
@@ -115,7 +112,7 @@ class Play:
         key = None
         if word in NUMBERED:
             key = self.here.get(here)
-            if self.linux.get(linux) is not key or linux == 0:
+            if self.linux.get(linux) is not key or linux == 0 or word == "join" and self.may_be_another(words, key):
                 raise Difference(line, self.linux.get(linux, linux), key or here)
         made = self.world.accept(word, words, key or self.unpaired(word, words))
         if word in NUMBERED and key is None:
@@ -129,6 +126,10 @@ class Play:
         missing = Line(self.world, word, words).missing(MAKING)
         self.world.context.made_there |= "@t" in missing
         self.world.context.process.made_there |= "@p" in missing
+
+    def may_be_another(self, words, key):
+        """Whether JOIN may have come upon a keyring that no line has answered."""
+        return key is None and any(it.match == ("keyring", *words) and not it.number and not it.gone for it in self.world.keys)
 
     def unpaired(self, word, words):
         """The key that a search answers, where no line has answered it yet."""
@@ -154,22 +155,20 @@ class Play:
         if {self.linux.get(it) for it in there} != {self.here.get(it) for it in mine}:
             raise Difference(line, [self.linux.get(it, it) for it in there], [self.here.get(it, it) for it in mine])
 
-    def control(self, line, word, words):
+    def control(self, word, words):
         """Contexts that come and go."""
-        here = self.script.answer(line)
-        self.last = here, here
-        if isinstance(here, str):
-            return None
+        number, sides = len(self.places) + 1, (self.kernel, self.other)
         if word == "hello":
-            self.places[here], failed = self.kernel.hello(words)
-            if failed:
-                raise Lost(f"{line}: {failed}")
-        elif word in ("thread", "fork"):
-            self.places[here] = self.kernel.make(self.places[self.world.current], word)
+            self.places[number] = [side.hello(words) for side in sides]
         else:
-            self.kernel.say(self.places[self.world.current], word)
-        self.world.accept(word, words, None, here)
-        return None
+            here = self.places[self.world.current]
+            if word in ("thread", "fork"):
+                self.places[number] = [side.make(place, word) for side, place in zip(sides, here)]
+            else:
+                for side, place in zip(sides, here):
+                    side.control(place, word)
+        self.last = number, number
+        self.world.accept(word, words, None, number)
 
     # ---- What the kernel does later
 
@@ -211,7 +210,7 @@ class Play:
 
     def wait(self, seconds):
         self.world.now += seconds
-        self.script.answer(f"moment {EPOCH + self.world.now}")
+        self.other.set_moment(EPOCH + self.world.now)
         due = max((due for at, due in self.seconds.items() if at <= self.world.now), default=0)
         time.sleep(max(0, due + TICK - time.time()))
         self.seconds = {at: due for at, due in self.seconds.items() if at > self.world.now}

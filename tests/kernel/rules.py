@@ -1,7 +1,8 @@
 """Where Linux answers otherwise: one row for each rule, and nothing else is let pass."""
 from typing import Callable, NamedTuple
 
-from world import DEPTH, LINK, READ, SEARCH, SETATTR, TYPES, VIEW, WRITE, Key
+from scripts import OF_SESSION
+from world import SEARCH, TYPES, Key
 
 FAULTS = {"ENOKEY", "EKEYREVOKED", "EKEYEXPIRED", "EACCES"}
 # Where a word that is -1, -2 or -3 may make a keyring: in Linux, and here.
@@ -39,6 +40,11 @@ class Line(NamedTuple):
         return [key for key in map(self.world.key, self.ids) if key]
 
     @property
+    def is_of_users(self):
+        """Whether it asks for a user keyring, perhaps in place of a session keyring."""
+        return bool({"@u", "@us", "@s"} & set(self.words)) or self.word in ("request", "join")
+
+    @property
     def ids(self):
         counts = {"add": (3,), "newring": (1,), "search": (0, 3), "request": (2,), "join": (), "link": (0, 1),
                   "unlink": (0, 1), "move": (0, 1, 2)}
@@ -58,13 +64,15 @@ class Line(NamedTuple):
     @property
     def match(self):
         at = {"search": 1, "add": 0, "request": 0}.get(self.word)
-        return tuple(self.words[at:at + 2]) if at is not None else ("keyring", self.words[0])
+        return tuple(self.words[at:at + 2]) if at is not None else ("keyring", *self.words[:1])
 
     @property
     def reached(self):
         """All that the line names, or comes upon from there or on the way to it."""
         world = self.world
         found = dict.fromkeys(self.named)
+        if self.word == "join":
+            return [key for key in world.keys if key.match == ("keyring", *self.words)]
         for key in [*self.named, *self.heads, *[it for level in [next(iter(world.levels()))] for it in level]]:
             found.update(world.below(key))
         return list(found)
@@ -109,15 +117,13 @@ def spoilt(it):
     """A user keyring of this uid is dead, or its mask keeps a search out."""
     world = it.world
     users = [key for key in world.keys if key.of_user and key.uid_of == world.context.uid]
-    return bool(users) and (bool({"@u", "@us", "@s"} & set(it.words)) or it.word == "request" or
-                            any(key.of_user for key in it.named)) and any(
-        not world.is_alive(key) or key.changed or key.invalidated for key in users)
+    return it.is_of_users and any(not world.is_alive(key) or key.changed or key.invalidated for key in users)
 
 
 def outlives(it):
     """The last context of a user has ended."""
     world = it.world
-    return bool(world.outlived) and (it.held or world.context.uid in world.outlived or any(
+    return bool(world.outlived) and (it.held or world.context.uid in world.outlived and it.is_of_users or any(
         key.of_user and key.gone for key in it.reached))
 
 
@@ -128,16 +134,26 @@ def not_entered(it):
 
 def made_anew(it):
     world = it.world
-    return any(key.of_user and key.invalidated and key.uid_of == world.context.uid for key in world.keys)
+    return it.is_of_users and any(
+        key.of_user and key.invalidated and key.uid_of == world.context.uid for key in world.keys)
 
 
 def updates(it):
-    """ADD on a match, where possession of keyring and match differ or the mask of one wants it."""
-    if it.word != "add":
+    """ADD on a match, where the keyring is possessed and the match isn't, or the other way round."""
+    found = updated(it)
+    if not found:
         return False
-    ring = it.world.key(it.words[3])
+    possessed = it.world.possessed()
+    return (it.words[3].startswith("@") or it.world.key(it.words[3]) in possessed) != (found in possessed)
+
+
+def updated(it):
+    """The match that ADD updates."""
+    if it.word not in ("add", "newring"):
+        return None
+    ring = it.world.key(it.words[-1])
     found = ring and ring.links.get(it.match)
-    return bool(found) and it.world.is_alive(found)
+    return found if found and it.world.is_alive(found) and not found.is_ring else None
 
 
 def dead_in_search(it):
@@ -166,8 +182,7 @@ def revives(it):
 
 
 def expired_ring(it):
-    world = it.world
-    return any(key.is_ring and world.is_expired(key) and not key.gone for key in world.keys)
+    return any(key.is_ring and it.world.is_expired(key) for key in it.reached)
 
 
 def other_match(it):
@@ -179,8 +194,8 @@ def other_match(it):
 
 
 def any_ring_of_name(it):
-    return it.word == "join" and bool(it.words) and any(
-        key.is_ring and key.name == it.words[0] for key in it.world.keys)
+    return it.word == "join" and any(
+        not key.of_join or not it.world.is_alive(key) for key in it.reached if not key.gone)
 
 
 def same_session(it):
@@ -188,8 +203,13 @@ def same_session(it):
 
 
 def two_matches(it):
+    """Several keys could be the answer, below the keyring that has one first."""
     world = it.world
-    return it.word in ("search", "request") and len(set(it.matches)) > 1
+    for head in it.heads:
+        found = {key for key in world.below(head) if key.match == it.match and world.is_alive(key)}
+        if found:
+            return len(found) > 1
+    return False
 
 
 def head_counts(it):
@@ -232,7 +252,7 @@ def destination(it):
 
 
 def closed_match(it):
-    return updates(it) and it.world.key(it.words[3]).closed
+    return bool(updated(it)) and it.world.key(it.words[3]).closed
 
 
 def in_place(it):
@@ -246,9 +266,11 @@ def held(it):
 
 
 def lost_attachment(it):
-    """An invalidated thread or process keyring."""
-    return it.held and any(key.invalidated for key in it.world.keys) or any(
-        True for word in it.world.context.lost)
+    """An invalidated thread, process or session keyring."""
+    lost = it.world.context.lost
+    return (it.held and any(key.kept for key in it.world.keys) or any(
+        key.kept for key in (it.reached if it.word == "join" else it.named)) or bool(
+        lost and (lost & set(it.words) or it.word in ("request", "join"))))
 
 
 def unsearchable(it):
@@ -274,8 +296,11 @@ def by_number(it):
 
 
 def later_process_ring(it):
+    """A process keyring that was made behind the thread; a thread keyring for a new thread."""
     context = it.world.context
-    return context.process.split or context.given
+    ring = context.process.ring
+    return (context.given and ("@t" in it.words or it.word == "request") or context.process.split and (
+        "@p" in it.words or it.word == "request" or bool(ring) and bool(set(it.reached) & set(it.world.below(ring)))))
 
 
 def long_update(it):
@@ -298,9 +323,28 @@ def big_ids(it):
     return it.word == "rdescribe" and any(max(key.uid, key.gid) > 0x7FFFFFFF for key in it.named)
 
 
+def follows_first(it):
+    """A thread whose session is that of its process's first, as that joined another later or this was made by another."""
+    return it.world.of_calls and it.world.context.strays
+
+
+def unnamed_session(it):
+    return it.world.of_calls and (it.match[-1:] == ("_ses",) or any(
+        key.of_join and key.name == "_ses" for key in it.named))
+
+
+def session_left(it):
+    return it.world.of_calls and any(key.gone for key in it.reached)
+
+
+def first_ended(it):
+    return it.world.of_calls and it.world.left and "@s" in it.words + ["@s"] * (it.word == "request")
+
+
 class Rule(NamedTuple):
     """`page` is the rule's name in PROFILE.md; `state` says where it holds, `linux` and `here` what is answered there:
-    names of errors, or what `answers` says. `parts`: a line in that state leaves the two apart whatever they answer."""
+    names of errors, `ok`, `error` for any, `*` for anything. `parts`: a line in that state leaves the two apart whatever
+    they answer. `of_calls`: where system calls are answered."""
     page: str
     state: Callable
     linux: str
@@ -309,9 +353,11 @@ class Rule(NamedTuple):
     whose: str
     probe: str
     parts: bool = False
+    of_calls: bool = False
 
 
 H = "hello 1000 1000; "
+C = f"hello {OF_SESSION} {OF_SESSION}; join; "
 # A key that is two keyrings deep on one side and one deep on the other, and the other way round.
 BOTH_WAYS = "; ".join(["", "newring h1 @s", "newring a $2", "newring c $2", "newring x $3", "add user k deep $5",
                        "add user k flat $4", "newring h2 @s", "newring a $8", "newring c $8", "newring x $10",
@@ -319,6 +365,14 @@ BOTH_WAYS = "; ".join(["", "newring h1 @s", "newring a $2", "newring c $2", "new
 SEARCHES = "keyring.c, search_nested_keyrings"
 
 RULES = {
+    "S1": Rule("session of one context", follows_first, "*", "*", "cred.c, copy_creds", "keyretain-syscalls(7)",
+               C + "join a; thread; join b; context 2; id @s", of_calls=True),
+    "S2": Rule("session of one context", unnamed_session, "*", "*", "process_keys.c, install_session_keyring_to_cred",
+               "keyretain-syscalls(7)", C + "rdescribe @s", of_calls=True),
+    "S4": Rule("session of one context", first_ended, "*", "EKEYREVOKED", "cred.c, copy_creds", "keyretain-syscalls(7)",
+               C + "join a; thread; fork; exit; context 3; update @s x", of_calls=True),
+    "S3": Rule("dropped at once", session_left, "*", "*", "key.c, key_put", "keyretain-syscalls(7)",
+               C + "join a; join b; rdescribe $2", of_calls=True),
     "U3": Rule("first session keyring", has_no_session, "*", "*", "process_keys.c, lookup_user_key: a session keyring "
                "that is a user's is replaced by a new one where something may be made", "session-keyring(7)",
                H + H + "id @us; add user k s @s; print @us", parts=True),
@@ -370,7 +424,7 @@ RULES = {
     "F3": Rule("order of a look-up", reads, "error", "error", "keyctl.c, keyctl_read_key", "keyctl_read(3)", H + "print 0"),
     "F7": Rule("reading by possession", reads_by_special, "ok", "EACCES", "keyctl.c, keyctl_read_key", "silent",
                H + "join; setperm @s 25000000; print @s"),
-    "K27": Rule("numbers of user keyrings aren't possessed", by_number, "*", "*", "process_keys.c, lookup_user_key", "silent",
+    "K27": Rule("numbers of user keyrings aren't possessed", by_number, "*", "EACCES ENOKEY EKEYREVOKED EKEYEXPIRED", "process_keys.c, lookup_user_key", "silent",
                 H + "join; setperm @u 1f000000; id @u"),
     "K26": Rule("group byte counts alone", no_group_byte, "*", "*", "permission.c, key_task_permission", "keyctl(2)",
                 H + "add user k v @u; setperm $1 3f3f003f; hello 1001 1000; rdescribe $1"),
@@ -385,9 +439,9 @@ RULES = {
     "P3": Rule("possessor byte", head_counts, "*", "*", "keyring.c, search_nested_keyrings", "silent",
                H + "join; newring r @s; setperm $2 3f3f0000; add user k v $2; setperm $3 3f000000; link $3 @s; link $2 @u; "
                "unlink $2 @s; search $2 user k"),
-    "F1": Rule("three keyrings of a request", dead_in_request, "*", "*", "process_keys.c, search_cred_keyrings_rcu",
+    "F1": Rule("three keyrings of a request", dead_in_request, "error", "error", "process_keys.c, search_cred_keyrings_rcu",
                "request_key(2)", H + "join; add user k v @s; timeout $2 1; wait 1; request user k"),
-    "F2": Rule("fault of a search", dead_in_search, "*", "*", "keyring.c, keyring_search_iterator", "silent",
+    "F2": Rule("fault of a search", dead_in_search, "error", "error", "keyring.c, keyring_search_iterator", "silent",
                H + "join; add user k v @s; revoke $2; newring r @s; add user k w $3; timeout $4 1; wait 1; "
                "search @s user k"),
 }
@@ -401,7 +455,7 @@ def fits(pattern, answer):
 def explaining(line):
     """The first rule that explains a difference."""
     return next((name for name, rule in RULES.items() if name in line.world.strayed or
-                 fits(rule.linux, line.linux) and fits(rule.here, line.here) and rule.state(line)), None)
+                 rule.of_calls <= line.world.of_calls and fits(rule.linux, line.linux) and fits(rule.here, line.here) and rule.state(line)), None)
 
 
 def parting(line):

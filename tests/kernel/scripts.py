@@ -4,6 +4,7 @@ import random
 
 USERS = [("1000", "1000"), ("1001", "1000"), ("1002", "1002"), ("1000", "7"), ("3000000005", "3000000007")]
 OUTSIDE = 1_900_000_000  # the uids and gids outside which those of a namespace are: nobody's
+OF_SESSION = "1900200000"  # a user that isn't mapped to another, for calls under keyretain-session
 GROUPS = ["", "", " 7", " 1001", " 1000 1002", " 7 8 9 1001"]
 NAMES = ["a", "b", "c", "k:1", "k:2"]
 ODD_NAMES = [":x", ".dot", "x.y", "_tid", "_ses", "_uid.1000", "_uid_ses.1001", "d" * 4095, "d" * 4096, "a" * 300, "k:"]
@@ -23,7 +24,7 @@ MOST = 14  # contexts
 class Drawer:
     """Draws lines, of what `world` has. `root`: among all users, where user keyrings stay as they are."""
 
-    def __init__(self, world, seed, root=False, most=MOST):
+    def __init__(self, world, seed, root=False, calls=False, most=MOST):
         self.world, self.chance, self.root, self.most = world, random.Random(seed), root, most
         chance = self.chance
         self.users = chance.sample(USERS, chance.choice([1, 2, 2, 3, 4]))
@@ -32,6 +33,9 @@ class Drawer:
             first = OUTSIDE + 4 * (int(seed) % 1000)
             self.users = [("0", "0"), (str(first), str(first)), (str(first + 1), str(first))]
             self.sessions = [f"keyretain-{seed}-{it}" for it in SESSIONS]
+        if calls:
+            self.users = [(OF_SESSION, OF_SESSION)]
+        self.calls = calls
         self.names = chance.sample(NAMES, chance.choice([2, 3, 5]))
         self.odd = chance.choice([0.01, 0.03, 0.1])
         self.naive = not root and chance.random() < 0.08
@@ -42,6 +46,7 @@ class Drawer:
         self.weights["wait"] *= chance.choice([0, 0, 2])
         if not self.weights["wait"]:
             self.weights["timeout"] /= 2
+        self.weights["hello"] *= not calls
         self.waiting = []
 
     def draw(self):
@@ -86,13 +91,13 @@ class Drawer:
         is_new = uid not in {str(it.uid) for it in self.world.contexts.values()}
         if is_new and self.likely(0.9) and not (self.root and uid == "0"):
             self.waiting += ["id @u", "id @us"]
-        if self.root:
+        if self.root or self.calls:
             self.waiting.append(f"join {self.one(self.sessions)}")
         elif not self.naive and self.likely(0.9):
             self.waiting.append(self.join())
         if self.likely(0.3) and not (self.root and uid == "0"):
             self.waiting.append("link @u @s")
-        return f"hello {uid} {gid}{self.one(GROUPS)}"
+        return f"hello {uid} {gid}{self.one(GROUPS) if not self.calls else ''}"
 
     def context(self):
         live = [it for it, context in self.world.contexts.items() if not context.ended]

@@ -5,22 +5,24 @@ import errno
 import fcntl
 import os
 import select
+import shutil
 import signal
 import socket
 import struct
 import subprocess
+import tempfile
 import time
 
-from compare import TOP  # noqa: F401 - has the path of the client
+import compare  # noqa: F401 - it has the path of the client
+import daemons
 from lines import RINGS
-import keyretain
-from scripts import OUTSIDE
+from scripts import OF_SESSION, OUTSIDE
 
 FIRST, CONTEXTS, ABOVE = 3, 24, 100  # the sockets of contexts.c; how many; where they stand here
 PATIENCE = 30
 NAMES = {number: name for number, name in errno.errorcode.items()} | {35: "EDEADLK", 95: "EOPNOTSUPP"}
 NUMBERS = {name: number for number, name in NAMES.items()}
-MAPS = f"0 {OUTSIDE} 100000\n3000000000 {OUTSIDE + 100000} 16\n"
+MAPS = f"0 {OUTSIDE} 100000\n{OF_SESSION} {OF_SESSION} 1\n3000000000 {OUTSIDE + 100000} 16\n"
 
 
 class Lost(Exception):
@@ -82,38 +84,21 @@ def serials(data, order):
     return [it for it, in struct.iter_unpack(f"{order}I", data)] if len(data) % 4 == 0 else None
 
 
-class Kernel:
-    """The kernel's keyrings, in a user namespace of its own, or where `root` is said among all users."""
+class Calls:
+    """Contexts that make system calls by lines, by contexts.c: each has a socket, by which it is asked and answers."""
 
-    def __init__(self, program, root=False):
+    def __init__(self, words, env=None):
         pairs = [socket.socketpair(socket.AF_UNIX, socket.SOCK_SEQPACKET) for _ in range(CONTEXTS)]
-        self.ends = [pair[0] for pair in pairs]
+        self.ends, self.taken = [pair[0] for pair in pairs], 1
         others = [fcntl.fcntl(pair[1], fcntl.F_DUPFD_CLOEXEC, ABOVE) for pair in pairs]
         for pair in pairs:
             pair[1].close()
             pair[0].settimeout(PATIENCE)
             pair[0].setsockopt(socket.SOL_SOCKET, socket.SO_SNDBUF, 1 << 18)
         actions = [(os.POSIX_SPAWN_DUP2, it, FIRST + at) for at, it in enumerate(others)]
-        words = [program, "beside" if root else "apart"]
-        self.pid = os.posix_spawn(program, words, os.environ, file_actions=actions)
+        self.pid = os.posix_spawnp(words[0], words, {**os.environ, **(env or {})}, file_actions=actions)
         for it in others:
             os.close(it)
-        child = self.receive(0)[0]
-        if not root:
-            for name in "uid", "gid":
-                with open(f"/proc/{child}/{name}_map", "w", encoding="ascii") as file:
-                    file.write(MAPS)
-        self.ends[0].send(b"g")
-        self.receive(0)
-        self.taken, self.root, self.users = 1, root, set()
-        self.helper = self.make(0, "fork")
-        self.inherits = self.has_session()
-        self.sentinels = self.say(self.helper, "keyctl n1 z")[0]
-
-    def has_session(self):
-        """Whether a session is handed on to all contexts: that of a login, from above."""
-        session = self.say(self.helper, "keyctl n0 n-3 n0")[0]
-        return b";_uid_ses." not in self.say(self.helper, f"keyctl n6 n{session} o")[1]
 
     def receive(self, context):
         try:
@@ -126,7 +111,10 @@ class Kernel:
         return int(value), bytes.fromhex(data)
 
     def say(self, context, line):
-        self.ends[context].send(line.encode())
+        try:
+            self.ends[context].send(line.encode())
+        except OSError as error:
+            raise Lost(f"context {context}: {error}") from error
         return self.receive(context)
 
     def make(self, context, how):
@@ -139,14 +127,8 @@ class Kernel:
             raise Lost(how)
         return number
 
-    def hello(self, words):
-        number = self.make(0, "fork")
-        self.users.add(words[0])
-        value, _ = self.say(number, f"user {' '.join(words)}")
-        if self.inherits:  # the user-session keyring in its place, as if there were none
-            self.say(number, "keyctl n0 n-5 n0")
-            self.say(number, f"keyctl n1 {text('_uid_ses.' + words[0])}")
-        return number, (None if value >= 0 else NAMES[-value])
+    def control(self, context, word):
+        self.say(context, word)
 
     def answer(self, context, word, words, serial):
         """What a line is answered."""
@@ -156,6 +138,43 @@ class Kernel:
         if word == "rdescribe":
             return data[:-1]
         return data if word in BYTES else value if word in NUMBERED else None
+
+    def close(self):
+        for it in self.ends:
+            it.close()
+
+
+class Kernel(Calls):
+    """The kernel's keyrings, in a user namespace of its own, or where `root` is said among all users."""
+
+    def __init__(self, program, root=False):
+        super().__init__([program, "beside" if root else "apart"])
+        self.root, self.users = root, set()
+        child = self.receive(0)[0]
+        if not root:
+            for name in "uid", "gid":
+                with open(f"/proc/{child}/{name}_map", "w", encoding="ascii") as file:
+                    file.write(MAPS)
+        self.ends[0].send(b"g")
+        self.receive(0)
+        self.helper = self.make(0, "fork")
+        self.inherits = self.has_session()
+        self.sentinels = self.say(self.helper, "keyctl n1 z")[0]
+
+    def has_session(self):
+        """Whether a session is handed on to all contexts: that of a login, from above."""
+        session = self.say(self.helper, "keyctl n0 n-3 n0")[0]
+        return b";_uid_ses." not in self.say(self.helper, f"keyctl n6 n{session} o")[1]
+
+    def hello(self, words):
+        number = self.make(0, "fork")
+        self.users.add(words[0])
+        if self.say(number, f"user {' '.join(words)}")[0]:
+            raise Lost(f"hello {' '.join(words)}")
+        if self.inherits:  # the user-session keyring in its place, as if there were none
+            self.say(number, "keyctl n0 n-5 n0")
+            self.say(number, f"keyctl n1 {text('_uid_ses.' + words[0])}")
+        return number
 
     def is_there(self, context, serial):
         return self.say(context, f"keyctl n6 n{serial} z n0")[0] != -errno.ENOKEY
@@ -192,38 +211,91 @@ class Kernel:
         os.waitpid(self.pid, 0)
         if self.root:  # what held sessions is let go a little later, and the next script could join them by their names
             time.sleep(0.2)
-        for it in self.ends:
-            it.close()
+        self.close()
 
 
 class Script:
-    """`keyretain script`, by its lines."""
+    """`keyretain script`, by its lines. A context is named by its number, and `here` is the current one."""
 
     def __init__(self, program):
         pipes = {"stdin": subprocess.PIPE, "stdout": subprocess.PIPE, "stderr": subprocess.DEVNULL}
         self.process = subprocess.Popen([program, "script"], **pipes)
+        self.current = 0
 
-    def answer(self, line):
-        word = line.partition(" ")[0]
+    def say(self, line):
         try:
             self.process.stdin.write(line.encode() + b"\n")
             self.process.stdin.flush()
             if not select.select([self.process.stdout], [], [], PATIENCE)[0]:
                 raise Lost("keyretain script")
-            said = self.process.stdout.readline().rstrip(b"\n")
+            said = self.process.stdout.readline()
         except OSError as error:
             raise Lost("keyretain script") from error
+        if said in (b"", b"usage\n"):
+            raise Lost(f"keyretain script: {said!r} to {line[:100]}")
+        return said[:-1]
+
+    def answer(self, context, word, words, serial):
+        if context != self.current:
+            self.say(f"context {context}")
+            self.current = context
+        said = self.say(" ".join([word, *(str(serial(it)) if it.startswith("$") else it for it in words)]))
         if said.startswith(b"error "):
             return said.split(b" ")[2].decode()
-        if said in (b"", b"usage") and word not in BYTES:
-            raise Lost(f"keyretain script: {said!r} to {line[:100]}")
         if word in NUMBERED:
             return int(said)
         if word in BYTES:
             return bytes.fromhex(said[5:].decode()) if said.startswith(b":hex:") else said
         return None
 
+    def hello(self, words):
+        self.current = int(self.say(" ".join(["hello", *words])))
+        return self.current
+
+    def make(self, context, how):
+        return self.answer(context, how, [], None)
+
+    def control(self, context, word):
+        self.answer(context, word, [], None)
+
+    def set_moment(self, moment):
+        self.say(f"moment {moment}")
+
     def end(self):
         self.process.stdin.close()
         self.process.wait(PATIENCE)
         self.process.stdout.close()
+
+
+class Session(Calls):
+    """The same calls under `keyretain-session --syscalls`, with a daemon of its own, by one user in one session."""
+
+    def __init__(self, program, folder, keyretaind):
+        self.room = tempfile.mkdtemp(dir=folder)
+        os.chmod(self.room, 0o711)
+        self.moment, path = f"{self.room}/moment", f"{self.room}/sock"
+        self.set_moment(0)
+        with_clock = {**os.environ, "KEYRETAIN_MOMENT": self.moment, "LD_PRELOAD": f"{folder}/moment.so"}
+        self.daemon = daemons.Daemon(keyretaind, path, env=with_clock)
+        os.chmod(path, 0o666)
+        super().__init__(["setpriv", "--reuid", OF_SESSION, "--regid", OF_SESSION, "--clear-groups",
+                          f"{folder}/c/keyretain-session", "--syscalls", "--", program, "within"],
+                         {"KEYRETAIN_SOCKET": path})
+        try:
+            self.receive(0)
+        except Lost:
+            self.end()
+            raise
+
+    def set_moment(self, moment):
+        with open(self.moment, "r+b" if os.path.exists(self.moment) else "wb") as file:
+            file.write(struct.pack("<Q", moment))
+
+    def hello(self, words):
+        return 0
+
+    def end(self):
+        self.close()  # so all contexts end, and with them the session
+        os.waitpid(self.pid, 0)
+        self.daemon.end()
+        shutil.rmtree(self.room)

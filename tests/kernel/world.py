@@ -22,6 +22,7 @@ class Key:
     closed: bool = False
     gone: bool = False
     invalidated: bool = False
+    kept: bool = False  # whether it was a thread, process or session keyring when it was invalidated
     changed: bool = False  # its mask or owner
     regrouped: bool = False
     uid_of: int | None = None  # the user whose it is
@@ -53,13 +54,17 @@ class Context:
     thread: Key | None = None
     ended: bool = False
     joined: bool = False  # whether the session is its own, or one that was handed on
+    joined_itself: bool = False  # whether it isn't the first of its process, and has joined a session
     given: bool = False  # whether its maker had a thread keyring
     made_there: bool = False  # whether a refused line has made a thread keyring in Linux
+    is_first: bool = True  # of its process
+    strays: bool = False  # whether its session is another thread's, where system calls are answered
     lost: set = field(default_factory=set)  # of @t, @p and @s what was invalidated
 
 
 class World:
-    def __init__(self):
+    def __init__(self, of_calls=False):
+        self.of_calls = of_calls  # whether system calls are answered here
         self.keys, self.contexts, self.users, self.numbered, self.now = [], {}, {}, {}, 0
         self.current, self.executed, self.left = 0, False, False
         self.entered = set()  # users whose user keyrings were named
@@ -190,7 +195,8 @@ class World:
         given = not process and bool(it.thread or it.given or it.made_there or "@t" in it.lost)
         lost = it.lost & ({"@s"} if process else {"@s", "@p"})
         self.contexts[number] = Context(it.uid, it.gid, it.groups, process or it.process, it.session, joined=it.joined,
-                                        given=given, lost=lost)
+                                        given=given, lost=lost, is_first=bool(process),
+                                        strays=it.strays or it.joined_itself)
 
     def do_fork(self, _, number):
         self.do_thread(_, number, Process())
@@ -201,6 +207,7 @@ class World:
             other.ended = other.ended or (other.process is it.process and other is not it)
         it.thread = it.process.ring = None
         it.lost &= {"@s"}
+        it.is_first, it.strays, it.joined_itself = True, it.strays or it.joined_itself, False
         it.given = it.made_there = it.process.made_there = it.process.split = False
         self.executed = True
 
@@ -233,7 +240,10 @@ class World:
         if not isinstance(key, Key):
             name = words[0] if words else "_ses"
             key = self.make("keyring", name, 0x3f130000 if words else 0x3f030000, of_join=True)
-        self.context.session, self.context.joined = key, True
+        it = self.context
+        it.session, it.joined, it.joined_itself = key, True, not it.is_first
+        for other in self.contexts.values():
+            other.strays |= it.is_first and other.process is it.process and other is not it and not other.joined_itself
         self.context.lost.discard("@s")
         return key
 
@@ -252,8 +262,9 @@ class World:
             if ring.links.get(key.match) is key:
                 del ring.links[key.match]
         for it in self.contexts.values():
-            it.lost |= {word for word, own in (("@t", it.thread), ("@p", it.process.ring), ("@s", it.session))
-                        if own is key}
+            lost = {word for word, own in (("@t", it.thread), ("@p", it.process.ring), ("@s", it.session)) if own is key}
+            it.lost |= lost
+            key.kept = key.kept or bool(lost) and not it.ended
         for it in self.contexts.values():
             it.thread = None if it.thread is key else it.thread
             it.session = None if it.session is key else it.session
