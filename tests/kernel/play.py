@@ -86,7 +86,7 @@ class Play:
         here = self.other.answer(mine, word, words, self.serial(self.of_here))
         if {"@u", "@us", "@s"} & set(words):
             self.world.entered.add(self.world.context.uid)
-        self.bury(there, word, words)
+        self.bury(word, words)
         if word == "timeout":
             words = [words[0], self.timeout(int(words[1]))]
         linux = self.kernel.answer(there, word, words, self.serial(self.of_linux))
@@ -172,7 +172,7 @@ class Play:
 
     # ---- What the kernel does later
 
-    def bury(self, place, word, words):
+    def bury(self, word, words):
         """Waits until the kernel has let go what is gone here, where a line could come upon it."""
         gone = {self.world.key(it) for it in words if it.startswith("$") and self.world.key(it).gone}
         if word == "join" and words:
@@ -180,7 +180,7 @@ class Play:
         for key in gone - self.buried - self.kept:
             for at in range(SETTLED // (8 if self.world.keeps else 1)):
                 # one whose serial no line has answered can't be looked for
-                if not self.kernel.is_there(place, self.of_linux[key]) if key.number else at == 4:
+                if not self.kernel.is_there(self.of_linux[key]) if key.number else at == 4:
                     self.buried.add(key)
                     break
                 self.kernel.settle()

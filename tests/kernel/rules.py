@@ -41,8 +41,9 @@ class Line(NamedTuple):
 
     @property
     def is_of_users(self):
-        """Whether it asks for a user keyring, perhaps in place of a session keyring."""
-        return bool({"@u", "@us", "@s"} & set(self.words)) or self.word in ("request", "join")
+        """Whether it asks for a user keyring, or what is possessed depends on one in place of a session keyring."""
+        return (bool({"@u", "@us", "@s"} & set(self.words)) or self.word in ("request", "join")
+                or not self.world.context.joined)
 
     @property
     def ids(self):
@@ -124,7 +125,7 @@ def outlives(it):
     """The last context of a user has ended."""
     world = it.world
     return bool(world.outlived) and (it.held or world.context.uid in world.outlived and it.is_of_users or any(
-        key.of_user and key.gone for key in it.reached))
+        key.of_user and (key.gone or key.uid_of in world.outlived) for key in it.reached))
 
 
 def not_entered(it):
@@ -296,11 +297,12 @@ def by_number(it):
 
 
 def later_process_ring(it):
-    """A process keyring that was made behind the thread; a thread keyring for a new thread."""
-    context = it.world.context
-    ring = context.process.ring
-    return (context.given and ("@t" in it.words or it.word == "request") or context.process.split and (
-        "@p" in it.words or it.word == "request" or bool(ring) and bool(set(it.reached) & set(it.world.below(ring)))))
+    """A process keyring that was made behind a thread; a thread keyring for a new thread."""
+    world, context = it.world, it.world.context
+    split = [process.ring for process in {other.process for other in world.contexts.values()} if process.split]
+    return (context.given and ("@t" in it.words or it.word == "request")
+            or context.process.split and ("@p" in it.words or it.word == "request")
+            or any(ring and set(it.reached) & set(world.below(ring)) for ring in split))
 
 
 def long_update(it):
@@ -342,14 +344,19 @@ def first_ended(it):
 
 
 class Rule(NamedTuple):
-    """`page` is the rule's name in PROFILE.md; `state` says where it holds, `linux` and `here` what is answered there:
-    names of errors, `ok`, `error` for any, `*` for anything. `parts`: a line in that state leaves the two apart whatever
-    they answer. `of_calls`: where system calls are answered."""
+    """`page` is the rule's name in PROFILE.md, whose table has what is done `there`, in Linux, and `here`, and the place of
+    the kernel's code. `whose`: `Linux` departs from the manual that is named, `open` is what no manual says, `manual` is
+    where Linux does as the manual that is named says, or nearer to it. `state` says where the rule holds, `linux` and
+    `mine` what is answered then: names of errors, `ok`, `error` for any, `*` for anything. `parts`: a line in that state
+    leaves the two apart whatever they answer. `of_calls`: where system calls are answered."""
+
     page: str
     state: Callable
     linux: str
+    mine: str
+    there: str
     here: str
-    source: str
+    code: str
     whose: str
     probe: str
     parts: bool = False
@@ -362,89 +369,176 @@ C = f"hello {OF_SESSION} {OF_SESSION}; join; "
 BOTH_WAYS = "; ".join(["", "newring h1 @s", "newring a $2", "newring c $2", "newring x $3", "add user k deep $5",
                        "add user k flat $4", "newring h2 @s", "newring a $8", "newring c $8", "newring x $10",
                        "add user k flat $9", "add user k deep $11", "search $2 user k", "search $8 user k"])
-SEARCHES = "keyring.c, search_nested_keyrings"
+NESTED = "; ".join(["newring r1 @u", *(f"newring r{at} ${at - 1}" for at in range(2, 8)), "link $1 @t"])
 
 RULES = {
-    "S1": Rule("session of one context", follows_first, "*", "*", "cred.c, copy_creds", "keyretain-syscalls(7)",
-               C + "join a; thread; join b; context 2; id @s", of_calls=True),
-    "S2": Rule("session of one context", unnamed_session, "*", "*", "process_keys.c, install_session_keyring_to_cred",
-               "keyretain-syscalls(7)", C + "rdescribe @s", of_calls=True),
-    "S4": Rule("session of one context", first_ended, "*", "EKEYREVOKED", "cred.c, copy_creds", "keyretain-syscalls(7)",
-               C + "join a; thread; fork; exit; context 3; update @s x", of_calls=True),
-    "S3": Rule("dropped at once", session_left, "*", "*", "key.c, key_put", "keyretain-syscalls(7)",
-               C + "join a; join b; rdescribe $2", of_calls=True),
-    "U3": Rule("first session keyring", has_no_session, "*", "*", "process_keys.c, lookup_user_key: a session keyring "
-               "that is a user's is replaced by a new one where something may be made", "session-keyring(7)",
-               H + H + "id @us; add user k s @s; print @us", parts=True),
-    "K19": Rule("made on demand", makes_more, "*", "*", "keyctl.c: KEY_LOOKUP_CREATE", "core.rst is silent",
-                H + "clear @t", parts=True),
-    "K33": Rule("mask bits", wrong_mask, "EINVAL", "error", "keyctl.c, keyctl_setperm_key", "silent",
-                H + "setperm 999 40000000"),
-    "K29": Rule("update range", long_update, "EINVAL", "*", "keyctl.c, keyctl_update_key", "keyctl(2)",
-                H + "add user k v @u; update $1 " + "x" * 4097),
-    "T2": Rule("describe of great ids", big_ids, "ok", "ok", "keyctl.c, keyctl_describe_key: %d", "Linux",
-               "hello 3000000005 3000000007; id @t create; rdescribe @t"),
-    "T1": Rule("group of user keyrings", of_group, "*", "*", "process_keys.c, look_up_user_keyrings: INVALID_GID", "silent",
-               H + "id @u; setperm @u 1f3f3f00; hello 1001 1000; print $1"),
-    "F4": Rule("known types", unknown_type, "*", "ENODEV", "key.c, key_type_lookup", "silent", H + "request trusted k"),
-    "F5": Rule("order of an ADD", order_of_add, "error", "error", "key.c, key_create_or_update", "silent",
-               H + "add keyring r x 999"),
-    "U6": Rule("joining by name", same_session, "ok", "ok", "process_keys.c, join_session_keyring", "Linux",
-               H + "join work; setperm @s 3f1b0000; join work"),
-    "U8": Rule("moves in place", in_place, "ok", "*", "keyring.c, key_move", "silent",
-               H + "add user k v @t; move $1 @us @us"),
-    "U9": Rule("closed keyrings", closed_match, "EPERM", "*", "key.c, key_create_or_update", "keyctl(2)",
-               H + "newring r @u; add user k v $1; restrict $1; add user k w $1"),
-    "U1": Rule("place of a link", other_match, "*", "*", "keyring.c, __key_unlink_begin", "Linux",
-               H + "newring a @u; add user k 1 $1; add user k 2 @u; unlink $3 $1"),
-    "U14": Rule("user keyrings stay", made_anew, "*", "*", "process_keys.c, look_up_user_keyrings", "user-keyring(7)",
-                H + "invalidate @u; " + H + "id @u"),
-    "U15": Rule("user keyrings stay", outlives, "*", "*", "process_keys.c, look_up_user_keyrings: .user_reg keeps them",
-                "user-keyring(7)", H + "id @u; hello 1001 1001; context 1; exit; context 2; print $1"),
-    "U16": Rule("user keyrings stay", not_entered, "*", "*", "process_keys.c, get_user_session_keyring_rcu", "user-keyring(7)",
-                H + "request keyring _uid_ses.1000"),
-    "U11": Rule("invalidated at once", lost_attachment, "*", "*", "process_keys.c, lookup_user_key", "Linux",
-                H + "id @t create; invalidate @t; id @t create"),
-    "U10": Rule("exec ends the others", held, "*", "*", "the program's file keeps its opener's keyrings", "Linux",
-                H + "add user k v @t; exec; rdescribe $1"),
-    "U12": Rule("refusals change nothing", keeps_made, "*", "*", "process_keys.c, lookup_user_key", "silent",
-                H + "add logon a v @t; id @t"),
-    "K28": Rule("late process keyring", later_process_ring, "*", "*", "process_keys.c, copy_creds", "process-keyring(7)",
-                H + "thread; id @p create; context 2; id @p"),
-    "U5": Rule("user keyrings stay", spoilt, "ENOKEY", "*", "process_keys.c, look_up_user_keyrings", "Linux",
-               H + "id @u; revoke @us; id @u"),
-    "P2": Rule("dead matches are displaced", revives, "*", "*", "keyring.c, find_key_to_update", "keyrings(7)",
-               H + "add user k v @u; timeout $1 1; wait 1; add user k w @u"),
-    "U2": Rule("possession of a match", updates, "*", "*", "keyring.c, find_key_to_update", "silent",
-               H + "join; add user k one @u; add user k two @u"),
-    "U7": Rule("joining by name", any_ring_of_name, "*", "*", "keyring.c, find_keyring_by_name", "keyctl(2)",
-               H + "newring work @u; setperm $1 3f3f0000; join work"),
-    "F6": Rule("order of a search's refusals", destination, "error", "ENOTDIR", "keyctl.c, keyctl_keyring_search", "silent",
-               H + "add user k v @u; search @u user z $1"),
-    "F3": Rule("order of a look-up", reads, "error", "error", "keyctl.c, keyctl_read_key", "keyctl_read(3)", H + "print 0"),
-    "F7": Rule("reading by possession", reads_by_special, "ok", "EACCES", "keyctl.c, keyctl_read_key", "silent",
-               H + "join; setperm @s 25000000; print @s"),
-    "K27": Rule("numbers of user keyrings aren't possessed", by_number, "*", "EACCES ENOKEY EKEYREVOKED EKEYEXPIRED", "process_keys.c, lookup_user_key", "silent",
-                H + "join; setperm @u 1f000000; id @u"),
-    "K26": Rule("group byte counts alone", no_group_byte, "*", "*", "permission.c, key_task_permission", "keyctl(2)",
-                H + "add user k v @u; setperm $1 3f3f003f; hello 1001 1000; rdescribe $1"),
-    "K25": Rule("possession without rights", unsearchable, "*", "*", "process_keys.c, lookup_user_key", "keyrings(7)",
-                H + "join; add user k v @s; setperm $2 37000000; rdescribe $2"),
-    "K30": Rule("nesting depth", nested, "*", "*", "keyring.c, keyring_detect_cycle", "keyctl(2)",
-                H + "newring r1 @u; " + "".join(f"newring r{at} ${at - 1}; " for at in range(2, 8)) + "link $1 @t"),
-    "K32": Rule("order of a search", two_matches, "ok", "ok", SEARCHES, "keyrings(7)",
-                H + "join" + BOTH_WAYS),
-    "P1": Rule("expired keyrings are not followed", expired_ring, "*", "*", "keyring.c, search_nested_keyrings", "silent",
-               H + "join; newring r @s; add user k v $2; timeout $2 1; wait 1; search @s user k"),
-    "P3": Rule("possessor byte", head_counts, "*", "*", "keyring.c, search_nested_keyrings", "silent",
-               H + "join; newring r @s; setperm $2 3f3f0000; add user k v $2; setperm $3 3f000000; link $3 @s; link $2 @u; "
-               "unlink $2 @s; search $2 user k"),
-    "F1": Rule("three keyrings of a request", dead_in_request, "error", "error", "process_keys.c, search_cred_keyrings_rcu",
-               "request_key(2)", H + "join; add user k v @s; timeout $2 1; wait 1; request user k"),
-    "F2": Rule("fault of a search", dead_in_search, "error", "error", "keyring.c, keyring_search_iterator", "silent",
-               H + "join; add user k v @s; revoke $2; newring r @s; add user k w $3; timeout $4 1; wait 1; "
-               "search @s user k"),
+    "S1": Rule(
+        "threads of a supervisor", follows_first, "*", "*", "keeps the session that it was made with",
+        "a thread that has joined none has that of its process's first", "cred.c, copy_creds", "open",
+        C + "join a; thread; join b; context 2; id @s", of_calls=True),
+    "S2": Rule(
+        "names of sessions", unnamed_session, "*", "*", "`_ses`", "`_ses.` and 32 digits",
+        "process_keys.c, install_session_keyring_to_cred", "open", C + "rdescribe @s", of_calls=True),
+    "S4": Rule(
+        "threads of a supervisor", first_ended, "*", "EKEYREVOKED",
+        "has its session also where its maker's first thread ends", "EKEYREVOKED, where it hasn't asked before",
+        "cred.c, copy_creds", "open", C + "join a; thread; fork; exit; context 3; update @s x", of_calls=True),
+    "S3": Rule(
+        "sessions that are left", session_left, "*", "*", "gone at once", "gone some seconds later", "key.c, key_put",
+        "open", C + "join a; join b; rdescribe $2", of_calls=True),
+    "U3": Rule(
+        "first session keyring", has_no_session, "*", "*",
+        "where none was joined, the first ask on -3 that may make something makes a new session keyring, also if it"
+        " is refused", "it changes the user-session keyring, which all contexts of the uid share",
+        "process_keys.c, lookup_user_key", "manual: session-keyring(7)", H + H + "id @us; add user k s @s; print @us",
+        parts=True),
+    "K19": Rule(
+        "made on demand", makes_more, "*", "*",
+        "also by CLEAR, SETPERM, CHOWN, SET_TIMEOUT and as the key of LINK and MOVE", "ENOKEY",
+        "keyctl.c, KEY_LOOKUP_CREATE", "open", H + "clear @t", parts=True),
+    "K33": Rule(
+        "mask bits", wrong_mask, "EINVAL", "error", "EINVAL before the look-up", "EINVAL after it",
+        "keyctl.c, keyctl_setperm_key", "open", H + "setperm 999 40000000"),
+    "K29": Rule(
+        "update range", long_update, "EINVAL", "*", "UPDATE above 4096 bytes is EINVAL, before the look-up",
+        "it takes 32767", "keyctl.c, keyctl_update_key", "Linux: keyctl(2)",
+        H + "add user k v @u; update $1 " + "x" * 4097),
+    "T2": Rule(
+        "great ids", big_ids, "ok", "ok", "DESCRIBE tells a uid or gid above 2147483647 as negative", "as it is",
+        "keyctl.c, keyctl_describe_key", "Linux: keyctl(2)",
+        "hello 3000000005 3000000007; id @t create; rdescribe @t"),
+    "T1": Rule(
+        "group of user keyrings", of_group, "*", "*",
+        "none: DESCRIBE tells 65534, and the group byte counts for nobody", "the gid of the uid's first context",
+        "process_keys.c, look_up_user_keyrings", "open", H + "id @u; setperm @u 1f3f3f00; hello 1001 1000; print $1"),
+    "F4": Rule(
+        "known types", unknown_type, "*", "ENODEV",
+        "SEARCH and REQUEST: ENOKEY, after all look-ups; ADD: ENODEV after that of the ring", "ENODEV first",
+        "key.c, key_type_lookup", "open", H + "request trusted k"),
+    "F5": Rule(
+        "order of an ADD", order_of_add, "error", "error",
+        "look-up of the ring, ENODEV, ENOTDIR, EINVAL of payload, EPERM, EINVAL of a `logon` description",
+        "ENODEV and EINVAL first", "key.c, key_create_or_update", "open", H + "add keyring r x 999"),
+    "U6": Rule(
+        "joining by name", same_session, "ok", "ok", "JOIN of the session that one has answers 0", "its serial",
+        "process_keys.c, join_session_keyring", "Linux: keyctl(2)", H + "join work; setperm @s 3f1b0000; join work"),
+    "U8": Rule(
+        "moves in place", in_place, "ok", "*", "accepted also where the key isn't linked", "ENOENT",
+        "keyring.c, key_move", "open", H + "add user k v @t; move $1 @us @us"),
+    "U9": Rule(
+        "closed keyrings", closed_match, "EPERM", "*", "ADD on a match in a closed keyring is EPERM",
+        "it updates the match", "key.c, key_create_or_update", "Linux: keyctl(2)",
+        H + "newring r @u; add user k v $1; restrict $1; add user k w $1"),
+    "U1": Rule(
+        "place of a link", other_match, "*", "*", "UNLINK and MOVE take out another key of equal type and description",
+        "ENOENT", "keyring.c, __key_unlink_begin", "Linux: keyctl(2)",
+        H + "newring a @u; add user k 1 $1; add user k 2 @u; unlink $3 $1"),
+    "U14": Rule(
+        "user keyrings stay", made_anew, "*", "*", "one that was invalidated is made anew at the next look-up",
+        "ENOKEY, until the last context of the uid has ended", "process_keys.c, look_up_user_keyrings",
+        "manual: user-keyring(7)", H + "invalidate @u; " + H + "id @u"),
+    "U15": Rule(
+        "user keyrings stay", outlives, "*", "*",
+        "they stay, with what they link, when the uid's last process has ended", "they drop with its last context",
+        "process_keys.c, look_up_user_keyrings", "Linux: user-keyring(7)",
+        H + "id @u; hello 1001 1001; context 1; exit; context 2; print $1"),
+    "U16": Rule(
+        "user keyrings stay", not_entered, "*", "*",
+        "there are none before something names one, and REQUEST makes none", "HELLO makes them",
+        "process_keys.c, get_user_session_keyring_rcu", "manual: user-keyring(7)",
+        H + "request keyring _uid_ses.1000"),
+    "U11": Rule(
+        "invalidated at once", lost_attachment, "*", "*",
+        "an invalidated thread, process or session keyring stays attached, and none is made in its place",
+        "another is made", "process_keys.c, lookup_user_key", "Linux: thread-keyring(7)",
+        H + "id @t create; invalidate @t; id @t create"),
+    "U10": Rule(
+        "exec ends the others", held, "*", "*",
+        "the old keyrings live on while the program runs, as its file was opened with them; so do those of a first "
+        "thread that ends before the others", "they drop", "exec.c, do_open_execat", "Linux: process-keyring(7)",
+        H + "add user k v @t; exec; rdescribe $1"),
+    "U12": Rule(
+        "refusals change nothing", keeps_made, "*", "*",
+        "a refused ask leaves the thread or process keyring that it made", "nothing is made",
+        "process_keys.c, lookup_user_key", "open", H + "add logon a v @t; id @t"),
+    "K28": Rule(
+        "late process keyring", later_process_ring, "*", "*",
+        "older threads don't get it; a new thread gets a thread keyring where its maker has one",
+        "they share it; none", "process_keys.c, copy_creds", "Linux: process-keyring(7)",
+        H + "thread; id @p create; context 2; id @p"),
+    "U5": Rule(
+        "user keyrings stay", spoilt, "ENOKEY", "*",
+        "where one of the two is dead, or its mask keeps its user from a search, -4 and -5 are both ENOKEY",
+        "the other stays good", "process_keys.c, look_up_user_keyrings", "Linux: keyctl(2)",
+        H + "id @u; revoke @us; id @u"),
+    "P2": Rule(
+        "dead matches are displaced", revives, "*", "*", "ADD on an expired match updates and revives it",
+        "it makes a new key", "keyring.c, find_key_to_update", "manual: core.rst",
+        H + "add user k v @u; timeout $1 1; wait 1; add user k w @u"),
+    "U2": Rule(
+        "possession of a match", updates, "*", "*", "ADD on a match asks WRITE of it with the keyring's possession",
+        "with its own", "keyring.c, find_key_to_update", "open", H + "join; add user k one @u; add user k two @u"),
+    "U7": Rule(
+        "joining by name", any_ring_of_name, "*", "*",
+        "JOIN takes any keyring of that name, also one that ADD made, a user keyring or an expired one",
+        "those that JOIN made", "keyring.c, find_keyring_by_name", "manual: keyctl(2)",
+        H + "newring work @u; setperm $1 3f3f0000; join work"),
+    "F6": Rule(
+        "order of a search's refusals", destination, "error", "ENOTDIR",
+        "ENOTDIR of a destination only where a key was found", "before the search", "keyring.c, __key_link_begin",
+        "open", H + "add user k v @u; search @u user z $1"),
+    "F3": Rule(
+        "order of a look-up", reads, "error", "error",
+        "READ: all faults of the look-up are ENOKEY; EACCES and EOPNOTSUPP go before death", "as for every ask",
+        "keyctl.c, keyctl_read_key", "Linux: keyctl(2)", H + "print 0"),
+    "F7": Rule(
+        "reading by possession", reads_by_special, "ok", "EACCES",
+        "what a special id names is read without READ and SEARCH", "EACCES", "keyctl.c, keyctl_read_key",
+        "Linux: keyctl(2)", H + "join; setperm @s 25000000; print @s"),
+    "K27": Rule(
+        "numbers of user keyrings aren't possessed", by_number, "*", "EACCES ENOKEY EKEYREVOKED EKEYEXPIRED",
+        "-4 and -5 are possessed for the call", "by levels alone", "process_keys.c, lookup_user_key", "open",
+        H + "join; setperm @u 1f000000; id @u"),
+    "K26": Rule(
+        "group byte counts alone", no_group_byte, "*", "*", "a group byte 00 falls back to the other byte",
+        "it counts", "permission.c, key_task_permission", "Linux: keyrings(7)",
+        H + "add user k v @u; setperm $1 3f3f003f; hello 1001 1000; rdescribe $1"),
+    "K25": Rule(
+        "possession without rights", unsearchable, "*", "*", "a key without SEARCH isn't possessed", "it is",
+        "process_keys.c, lookup_user_key", "manual: keyrings(7)",
+        H + "join; add user k v @s; setperm $2 37000000; rdescribe $2"),
+    "K30": Rule(
+        "nesting depth", nested, "*", "*", "ELOOP from 7 nested links on, and for deep cycles",
+        "from 6 on, and EDEADLK", "keyring.c, keyring_detect_cycle", "open", H + NESTED),
+    "K32": Rule(
+        "order of a search", two_matches, "ok", "ok", "one keyring, then depth-first by hash",
+        "breadth-first by link order", "keyring.c, search_nested_keyrings", "Linux: keyrings(7)",
+        H + "join" + BOTH_WAYS),
+    "P1": Rule(
+        "expired keyrings are not followed", expired_ring, "*", "*", "its links are followed", "they aren't",
+        "keyring.c, search_nested_keyrings", "open",
+        H + "join; newring r @s; add user k v $2; timeout $2 1; wait 1; search @s user k"),
+    "P3": Rule(
+        "possessor byte", head_counts, "*", "*", "in a search the head's possession counts for all below",
+        "each key's own", "keyring.c, keyring_search_iterator", "open",
+        H + "join; newring r @s; setperm $2 3f3f0000; add user k v $2; setperm $3 3f000000; link $3 @s; link $2 @u;"
+        " unlink $2 @s; search $2 user k"),
+    "F1": Rule(
+        "three keyrings of a request", dead_in_request, "error", "error",
+        "an expired match is skipped; a dead or unsearchable one is the fault only where each attached keyring has "
+        "one", "faults are joined", "process_keys.c, search_cred_keyrings_rcu", "Linux: request_key(2)",
+        H + "join; add user k v @s; timeout $2 1; wait 1; request user k"),
+    "F2": Rule(
+        "fault of a search", dead_in_search, "error", "error", "that of the match seen last",
+        "EKEYREVOKED before EKEYEXPIRED before EACCES", "keyring.c, keyring_search_iterator", "open",
+        H + "join; add user k v @s; revoke $2; newring r @s; add user k w $3; timeout $4 1; wait 1; search @s user k"),
 }
+
+
+def table():
+    """The lines of PROFILE.md's table, by its sections' order of rules."""
+    rows = [f"| {it.page} | {it.here} | {it.there} | {it.whose} | {it.code} |" for it in RULES.values()]
+    return ["| Rule | Here | Linux | Whose | In the kernel's code |", "|---|---|---|---|---|", *sorted(rows)]
 
 
 def fits(pattern, answer):
@@ -455,7 +549,7 @@ def fits(pattern, answer):
 def explaining(line):
     """The first rule that explains a difference."""
     return next((name for name, rule in RULES.items() if name in line.world.strayed or
-                 rule.of_calls <= line.world.of_calls and fits(rule.linux, line.linux) and fits(rule.here, line.here) and rule.state(line)), None)
+                 rule.of_calls <= line.world.of_calls and fits(rule.linux, line.linux) and fits(rule.mine, line.here) and rule.state(line)), None)
 
 
 def parting(line):

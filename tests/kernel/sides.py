@@ -96,6 +96,7 @@ class Calls:
             pair[0].settimeout(PATIENCE)
             pair[0].setsockopt(socket.SOL_SOCKET, socket.SO_SNDBUF, 1 << 18)
         actions = [(os.POSIX_SPAWN_DUP2, it, FIRST + at) for at, it in enumerate(others)]
+        actions += [(os.POSIX_SPAWN_OPEN, it, os.devnull, os.O_RDWR, 0) for it in (1, 2)]
         self.pid = os.posix_spawnp(words[0], words, {**os.environ, **(env or {})}, file_actions=actions)
         for it in others:
             os.close(it)
@@ -176,8 +177,9 @@ class Kernel(Calls):
             self.say(number, f"keyctl n1 {text('_uid_ses.' + words[0])}")
         return number
 
-    def is_there(self, context, serial):
-        return self.say(context, f"keyctl n6 n{serial} z n0")[0] != -errno.ENOKEY
+    def is_there(self, serial):
+        """Whether there is still something of a key: what isn't linked is ENOENT, in whatever state, for everybody."""
+        return self.say(self.helper, f"keyctl n9 n{serial} n{self.sentinels}")[0] != -errno.ENOKEY
 
     def settle(self):
         self.say(self.helper, "settle")

@@ -309,7 +309,7 @@ class World:
         self.key(words[0]).closed = True
 
     def do_search(self, words, key):
-        if len(words) > 3 and isinstance(key, Key):
+        if len(words) > 3 and words[3] != "0" and isinstance(key, Key):
             self.making(words[3]).links[key.match] = key
         return key if isinstance(key, Key) else None
 
