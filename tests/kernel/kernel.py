@@ -1,4 +1,4 @@
-"""kernel.py CONTEXTS KEYRETAIN WORD ..: scripts at random on the kernel's keyrings and on `keyretain script`, line by line.
+"""kernel.py CONTEXTS KEYRETAIN WORD ..: scripts on the kernel's keyrings and on `keyretain script`, line by line.
 
   seeds FIRST COUNT LINES     scripts of so many lines, by seeds; a script ends where the two are apart
   probes [NAME ..]            the probe of each rule, which must show just this
@@ -165,12 +165,12 @@ def tell(given, totals, pairs, ends, lines):
 def trace(given, seed):
     """A short script as text, and what it shows; None where the two differ."""
     it, told, pairs = begin(given), [], set()
-    drawer, teller = scripts.Drawer(it.world, f"trace {seed}", most=traces_of.CONTEXTS), traces_of.Teller(it, play.EPOCH)
+    drawer = scripts.Drawer(it.world, f"trace {seed}", most=traces_of.CONTEXTS)
+    teller = traces_of.Teller(it, play.EPOCH)
     try:
         while len(told) < traces_of.LINES:
-            line = traces_of.drawn(drawer, is_control)
-            if not is_control(it.world, line) and (rules.parting(line_of(it, line)) or line_of(it, line).missing(rules.MAKING)
-                                                   and drawer.likely(0.8)):
+            line = traces_of.drawn(drawer)
+            if not is_control(it.world, line) and rules.parting(line_of(it, line)):
                 continue
             said, word = teller.tell(line), line.split()[0]
             key = it.world.key(line.split()[1]) if word == "print" else None
@@ -190,7 +190,8 @@ def trace(given, seed):
 def traces(given):
     count = int(given.words[0])
     with concurrent.futures.ProcessPoolExecutor(given.jobs) as pool:
-        found = [it for it in pool.map(trace, [given] * (count * traces_of.DRAWN), range(count * traces_of.DRAWN)) if it]
+        drawn = range(count * traces_of.DRAWN)
+        found = [it for it in pool.map(trace, [given] * len(drawn), drawn) if it]
     chosen, seen = traces_of.choose(found, count)
     print(traces_of.HEAD)
     for at, told in enumerate(chosen, 1):

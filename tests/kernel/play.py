@@ -129,7 +129,8 @@ class Play:
 
     def may_be_another(self, words, key):
         """Whether JOIN may have come upon a keyring that no line has answered."""
-        return key is None and any(it.match == ("keyring", *words) and not it.number and not it.gone for it in self.world.keys)
+        return key is None and any(it.match == ("keyring", *words) and not it.number and not it.gone
+                                   for it in self.world.keys)
 
     def unpaired(self, word, words):
         """The key that a search answers, where no line has answered it yet."""
@@ -147,7 +148,8 @@ class Play:
             return
         there, mine = serials(linux, "="), serials(here, "<")
         if there is None or mine is None or len(there) != len(mine):
-            raise Difference(line, [self.linux.get(it, it) for it in there or []], [self.here.get(it, it) for it in mine or []])
+            raise Difference(line, [self.linux.get(it, it) for it in there or []],
+                             [self.here.get(it, it) for it in mine or []])
         lone = [it for it in there if it not in self.linux], [it for it in mine if it not in self.here]
         if len(lone[0]) == len(lone[1]) == 1:
             unnamed = [it for it in key.links.values() if not it.number]
@@ -191,7 +193,7 @@ class Play:
     # ---- Time
 
     def timeout(self, seconds):
-        """The seconds after which a key expires there: at the second of the kernel's clock that the script's has got."""
+        """The seconds after which a key expires there: each second of the script's has one of the kernel's clock."""
         if not 0 < seconds < 100:
             return str(seconds)
         if time.time() % 1 < TICK:

@@ -326,7 +326,7 @@ def big_ids(it):
 
 
 def follows_first(it):
-    """A thread whose session is that of its process's first, as that joined another later or this was made by another."""
+    """A thread whose session is that of its process's first, which joined another later or wasn't its maker."""
     return it.world.of_calls and it.world.context.strays
 
 
@@ -344,11 +344,11 @@ def first_ended(it):
 
 
 class Rule(NamedTuple):
-    """`page` is the rule's name in PROFILE.md, whose table has what is done `there`, in Linux, and `here`, and the place of
-    the kernel's code. `whose`: `Linux` departs from the manual that is named, `open` is what no manual says, `manual` is
-    where Linux does as the manual that is named says, or nearer to it. `state` says where the rule holds, `linux` and
-    `mine` what is answered then: names of errors, `ok`, `error` for any, `*` for anything. `parts`: a line in that state
-    leaves the two apart whatever they answer. `of_calls`: where system calls are answered."""
+    """`page` is the rule's name in PROFILE.md, whose table has what is done `there`, in Linux, and `here`, and where in
+    the kernel's code. `whose`: `Linux` departs from the manual that is named; `open` is what no manual says; by
+    `manual` Linux does what the manual that is named says, or is nearer to it. `state` says where the rule holds,
+    `linux` and `mine` what is answered then: names of errors, `ok`, `error` for any, `*` for anything. `parts`: a line
+    in that state leaves the two apart whatever they answer. `of_calls`: where system calls are answered."""
 
     page: str
     state: Callable
@@ -548,8 +548,8 @@ def fits(pattern, answer):
 
 def explaining(line):
     """The first rule that explains a difference."""
-    return next((name for name, rule in RULES.items() if name in line.world.strayed or
-                 rule.of_calls <= line.world.of_calls and fits(rule.linux, line.linux) and fits(rule.mine, line.here) and rule.state(line)), None)
+    return next((name for name, it in RULES.items() if name in line.world.strayed or it.of_calls <= line.world.of_calls
+                 and fits(it.linux, line.linux) and fits(it.mine, line.here) and it.state(line)), None)
 
 
 def parting(line):
@@ -559,7 +559,8 @@ def parting(line):
 
 def goes_on(play, line):
     """Whether the two stay together over a difference: nothing changes, or the same."""
-    if line.refused or line.word in ("print", "rdescribe") or line.word in ("search", "request") and not line.places(MAKING):
+    finds = line.word in ("search", "request") and not line.places(MAKING)
+    if line.refused or finds or line.word in ("print", "rdescribe"):
         return True
     if line.word == "join" and line.linux == 0 and isinstance(line.here, Key):
         play.world.accept("join", line.words, line.here)

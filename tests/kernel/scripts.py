@@ -1,11 +1,12 @@
-"""Scripts at random. What is drawn next depends on what is there, by world.py, and on what was drawn at the beginning for
-the whole script: how often each command comes, how many users and names there are, how wild masks and ids are."""
+"""Scripts at random. What is drawn next depends on what is there, by world.py, and on what was drawn at the beginning
+for the whole script: how often each command comes, how many users and names there are, how wild masks and ids are."""
 import random
 
 USERS = [("1000", "1000"), ("1001", "1000"), ("1002", "1002"), ("1000", "7"), ("3000000005", "3000000007")]
 OUTSIDE = 1_900_000_000  # the uids and gids outside which those of a namespace are: nobody's
 OF_SESSION = "1900200000"  # a user that isn't mapped to another, for calls under keyretain-session
 GROUPS = ["", "", " 7", " 1001", " 1000 1002", " 7 8 9 1001"]
+RINGS = ["ring", "r2", "r3", "r4", "r5", "r6", "r7", "r8"]
 NAMES = ["a", "b", "c", "k:1", "k:2"]
 ODD_NAMES = [":x", ".dot", "x.y", "_tid", "_ses", "_uid.1000", "_uid_ses.1001", "d" * 4095, "d" * 4096, "a" * 300, "k:"]
 ODD_TYPES = ["trusted", ".user", "u" * 31, "u" * 32, "users", "keyrings"]
@@ -14,10 +15,10 @@ ODD_SESSIONS = [".x", "n" * 4095, "n" * 4096, "_ses", "_uid.1000", "_tid", "ring
 MASKS = ["3f3f3f3f"] * 3 + ["3f010000", "3f1f0000", "1f3f0000", "3f0b0000", "3f080000", "083f0000", "3f000000",
                             "3f3f0000", "3f1f1f00", "3f1f001f", "003f0000", "00003f3f", "37373737", "3f20001b"]
 BYTES = [0, 1, 2, 4, 8, 0xb, 0x10, 0x1b, 0x1f, 0x20, 0x2b, 0x37, 0x3f, 0x3f, 0x3f]
-WORDS = {"add": 16, "newring": 9, "print": 9, "rdescribe": 5, "update": 5, "link": 8, "unlink": 4, "move": 5, "search": 8,
-         "request": 6, "setperm": 5, "chown": 1.5, "chgrp": 1.5, "timeout": 3, "revoke": 1.5, "invalidate": 1.2,
-         "clear": 1, "restrict": 0.6, "id": 5, "wait": 1, "hello": 1.5, "context": 6, "thread": 1.5, "fork": 1.5,
-         "exec": 0.7, "exit": 0.7, "join": 3}
+WORDS = {"add": 16, "newring": 9, "print": 9, "rdescribe": 5, "update": 5, "link": 8, "unlink": 4, "move": 5,
+         "search": 8, "request": 6, "setperm": 5, "chown": 1.5, "chgrp": 1.5, "timeout": 3, "revoke": 1.5,
+         "invalidate": 1.2, "clear": 1, "restrict": 0.6, "id": 5, "wait": 1, "hello": 1.5, "context": 6, "thread": 1.5,
+         "fork": 1.5, "exec": 0.7, "exit": 0.7, "join": 3}
 MOST = 14  # contexts
 
 
@@ -116,7 +117,8 @@ class Drawer:
     def exit(self):
         live = [it for it in self.world.contexts.values() if not it.ended]
         uid = self.world.context.uid
-        return "exit" if sum(it.uid == uid for it in live) > 1 or len(live) > 1 and self.likely(0.03) else "rdescribe @s"
+        may = sum(it.uid == uid for it in live) > 1 or len(live) > 1 and self.likely(0.03)
+        return "exit" if may else "rdescribe @s"
 
     def join(self):
         if self.likely(0.3):
@@ -207,7 +209,7 @@ class Drawer:
     def ring_name(self):
         if self.strange():
             return self.one(ODD_NAMES[:4] + ODD_NAMES[7:] if self.root else ODD_NAMES)
-        return self.either("ring", "r2", "r3", "r4", "r5", "r6", "r7", "r8") if self.deep else self.either("ring", "r2", "r3")
+        return self.one(RINGS if self.deep else RINGS[:3])
 
     def data(self):
         if self.likely(0.02):
@@ -224,7 +226,7 @@ class Drawer:
         return self.one(MASKS)
 
     def seconds(self):
-        return self.either(1, 1, 1, 2, 2, 0, 1000, 4294967295) if self.weights["wait"] else self.either(0, 1000, 4294967295)
+        return self.one([0, 1000, 4294967295] + [1, 1, 1, 2, 2] * bool(self.weights["wait"]))
 
     def destination(self):
         return f" {self.ring()}" if self.likely(0.25) else ""

@@ -1,5 +1,5 @@
-"""The sides that answer lines: the kernel's keyrings, by contexts.c, and `keyretain script`. An answer is a number, bytes,
-None, or the name of an error."""
+"""The sides that answer lines: the kernel's keyrings, by contexts.c, and `keyretain script`, or the same calls under
+keyretain-session. An answer is a number, bytes, None, or the name of an error."""
 import contextlib
 import errno
 import fcntl

@@ -1,7 +1,6 @@
-"""Short scripts in which both sides answer the same, as text: what each line asks, and what it is answered."""
+"""Short scripts in which both sides answer the same, as text: what each line asks, and what is answered."""
 import collections
 
-from rules import MAKING
 from sides import RINGS, serials
 import scripts
 
@@ -98,8 +97,8 @@ def reply(word, here, is_ring, numbers):
     return f"bytes {here.hex() or '-'}"
 
 
-def drawn(drawer, is_control):
-    """A line that is short, and of which no keyring is made that a refusal would leave."""
+def drawn(drawer):
+    """A line that is short."""
     for _ in range(50):
         line = drawer.draw()
         if len(line) < LONGEST and not (drawer.waiting and drawer.waiting[0] == "exec"):

@@ -262,7 +262,8 @@ class World:
             if ring.links.get(key.match) is key:
                 del ring.links[key.match]
         for it in self.contexts.values():
-            lost = {word for word, own in (("@t", it.thread), ("@p", it.process.ring), ("@s", it.session)) if own is key}
+            own = {"@t": it.thread, "@p": it.process.ring, "@s": it.session}
+            lost = {word for word, ring in own.items() if ring is key}
             it.lost |= lost
             key.kept = key.kept or bool(lost) and not it.ended
         for it in self.contexts.values():

@@ -46,6 +46,14 @@ def format_section(number, name):
     return fields, said.get("Answer", "nothing").removesuffix(".")
 
 
+def profile_table():
+    """The lines of PROFILE.md's table of what Linux does otherwise, and the names of all rules of that page."""
+    text = text_of("docs/PROFILE.md")
+    names = re.findall(r"^- ((?:\*\*[^*]+\*\*(?:, )?)+)\.", text, re.M)
+    return (re.findall(r"^\|.*\|$", text.partition("## 14. ")[2], re.M),
+            {name for it in names for name in re.findall(r"\*\*([^*]+)\*\*", it)})
+
+
 def listed_asks(text):
     """The names of the asks that a sentence lists, those too of which it says something only at times."""
     return set(re.findall(r"\b[A-Z]{3,}(?:_[A-Z]+)*\b", text)) - {"ENOMEM"}

@@ -18,6 +18,9 @@ from places import compare, compare_all
 import rows
 import vectors
 
+sys.path.insert(0, f"{rows.TOP}/tests/kernel")
+import rules as kernel_rules  # noqa: E402
+
 KEYRETAIN, CODEC, CALLS = (*sys.argv[1:], None, None)[:3]
 KEYRINGS, TYPES = "@t @p @s @u @us", rows.types()
 ASKS, COMMANDS = rows.asks(), rows.commands()
@@ -217,6 +220,13 @@ def try_types():
         compare(f"{place}, the types", times, len(listed.findall(plain)))
 
 
+def try_profile():
+    lines, names = documents.profile_table()
+    compare("PROFILE, beside Linux", kernel_rules.table(), lines)
+    compare("rules beside Linux that PROFILE lacks", [],
+            [it.page for it in kernel_rules.RULES.values() if it.page not in names])
+
+
 # ---- What the proofs rest on
 
 
@@ -259,8 +269,8 @@ def try_bodies():
     compare("how a check of wrong bodies is read", bodies.WANTED, bodies.verdicts())
 
 
-for case in (try_definitions, try_format, try_lists, try_pages, try_python, try_admission, try_bench, try_types,
-             try_foreign, try_waiting, try_unsafe, try_bodies):
+for case in (try_definitions, try_format, try_lists, try_profile, try_pages, try_python, try_admission, try_bench,
+             try_types, try_foreign, try_waiting, try_unsafe, try_bodies):
     attempt(case)
 if os.access(KEYRETAIN, os.X_OK):
     try_help()
