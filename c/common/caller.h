@@ -104,6 +104,7 @@ struct caller {
     bool names_thread; /* said before caller_enter: the call names the thread keyring */
     bool joins;        /* the same: it joins a session */
     bool may_hold;     /* said before caller_leave: there may be a process keyring now */
+    bool may_hold_thread; /* the same of the thread keyring */
     struct kr *connection;
     uint32_t context;
     bool lost_session; /* the session that this thread should have was revoked, or nobody holds it any more */

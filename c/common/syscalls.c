@@ -209,7 +209,9 @@ long key_call_of_row(const struct key_row *row, struct arguments arguments) {
     if (is_answered_here(row, at, &result)) return result;
     if (!caller_enter(&caller)) return -1;
     result = ask(&caller, row, at);
-    caller.may_hold = key_row_names(row, at, KEY_SPEC_PROCESS_KEYRING) && (result >= 0 || errno != ENOKEY);
+    bool is_there = result >= 0 || errno != ENOKEY;
+    caller.may_hold = key_row_names(row, at, KEY_SPEC_PROCESS_KEYRING) && is_there;
+    caller.may_hold_thread = key_row_names(row, at, KEY_SPEC_THREAD_KEYRING) && is_there;
     caller_leave(&caller, result);
     return result;
 }

@@ -26,10 +26,17 @@ static void put_status(struct admission_process *process, const struct proc_stat
 }
 
 /* Who has executed it is told as a number of its own user namespace: of another one that is nobody's number here. */
-void admission_read(struct admission_process *process, pid_t id, const struct proc_status *status) {
+void admission_put(struct admission_process *process, const struct proc_status *status,
+                   const struct proc_vector *vector, bool is_elsewhere) {
     put_status(process, status);
-    process->has_auxv = proc_read_auxv(id, &process->is_secure, &process->starter);
-    if (maps_are_others(id)) process->starter = UINT32_MAX;
+    process->has_auxv = vector && vector_find(vector, &process->is_secure, &process->starter);
+    if (is_elsewhere) process->starter = UINT32_MAX;
+}
+
+void admission_read(struct admission_process *process, pid_t id, const struct proc_status *status) {
+    struct proc_vector vector;
+    bool is_read = proc_read_vector(id, &vector);
+    admission_put(process, status, is_read ? &vector : NULL, maps_are_others(id));
 }
 
 void admission_set(struct admission_process *process, uint32_t uid) {

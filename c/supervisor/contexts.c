@@ -285,10 +285,3 @@ void context_end(struct context *context) {
     }
     context_forget(context);
 }
-
-/* It may have one also where the daemon doesn't say so in time, or the keyring may not be searched. */
-bool context_has_keyring(const struct context *context, int32_t id) {
-    struct kr *connection = context_connection(context);
-    if (!connection) return false;
-    return kr_get_id(connection, context->number, id, 0) >= 0 || (errno != ENOKEY && !kr_is_broken(connection));
-}

@@ -3,13 +3,14 @@
 
 #include <sys/epoll.h>
 
-enum { BUCKETS = 1024, SPARE_DESCRIPTORS = 110, OF_PROCESS = 2 };
+enum { BUCKETS = 16384, SPARE_DESCRIPTORS = 174, OF_PROCESS = 2, OF_SWEEP = 64 };
 
 static struct {
     int epoll;
     struct process *buckets[BUCKETS];
     TAILQ_HEAD(, process) order; /* the one that asked longest ago is the first */
-    unsigned swept;              /* how many entries the sweep has to look at */
+    TAILQ_HEAD(, process) swept; /* that a sweep looks at: the one that was looked at longest ago is the first */
+    unsigned to_sweep;
     rlim_t descriptors, most_descriptors;
 } all;
 
@@ -17,6 +18,7 @@ void entries_begin(int epoll) {
     struct rlimit limit;
     all.epoll = epoll;
     TAILQ_INIT(&all.order);
+    TAILQ_INIT(&all.swept);
     all.most_descriptors = getrlimit(RLIMIT_NOFILE, &limit) == 0 ? limit.rlim_cur : RLIM_INFINITY;
 }
 
@@ -26,13 +28,16 @@ bool entries_are_many(void) { return all.descriptors + SPARE_DESCRIPTORS >= all.
 /* ---- Ends ---- */
 
 static void sweep_no_more(struct process *process) {
-    if (process->may_have_keyrings) all.swept--;
+    if (!process->may_have_keyrings) return;
+    all.to_sweep--;
+    TAILQ_REMOVE(&all.swept, process, order_of_sweep);
     process->may_have_keyrings = false;
 }
 
 void sweep_from_now_on(struct process *process) {
     if (process->may_have_keyrings) return;
-    all.swept++;
+    all.to_sweep++;
+    TAILQ_INSERT_TAIL(&all.swept, process, order_of_sweep);
     process->may_have_keyrings = true;
 }
 
@@ -159,17 +164,28 @@ bool has_executed(const struct process *process, uint64_t image) {
 
 /* ---- The sweep ---- */
 
-bool entries_want_sweep(void) { return all.swept > 0; }
+unsigned entries_to_sweep(void) { return all.to_sweep; }
 
 /* What waits within execve(2), as to close a file whose server is slow, has what is read of it wait too: not where its
  * memory is seen to be gone. */
-void entries_sweep(void) {
-    for (struct process *process = entries_oldest(); process && all.swept > 0; process = entries_next(process)) {
-        if (!process->may_have_keyrings) continue;
-        for (struct task *task = process->tasks, *next; task; task = next) {
-            next = task->next;
-            if (task->descriptor >= 0 && proc_has_ended(task->descriptor)) end_task(task);
-        }
-        if (has_executed(process, 0) || has_executed(process, proc_image(process->id))) note_executed(process);
+static void look_again(struct process *process) {
+    struct proc_vector vector;
+    for (struct task *task = process->tasks, *next; task; task = next) {
+        next = task->next;
+        if (task->descriptor >= 0 && proc_has_ended(task->descriptor)) end_task(task);
     }
+    if (has_executed(process, 0) ||
+        (proc_read_vector(process->id, &vector) && has_executed(process, proc_image(process->id, &vector))))
+        note_executed(process);
+}
+
+unsigned entries_sweep(unsigned left) {
+    for (int i = 0; i < OF_SWEEP && left > 0; i++, left--) {
+        struct process *process = TAILQ_FIRST(&all.swept);
+        if (!process) return 0;
+        TAILQ_REMOVE(&all.swept, process, order_of_sweep);
+        TAILQ_INSERT_TAIL(&all.swept, process, order_of_sweep);
+        look_again(process);
+    }
+    return left;
 }

@@ -49,6 +49,7 @@ struct standing {
     struct context context;
     bool is_lost;                      /* the session */
     bool has_joined;                   /* it is the one in which the thread itself has joined that session */
+    bool may_have_thread_keyring, may_have_process_keyring; /* by what the daemon has answered */
     bool is_elsewhere;                 /* in another user namespace, when it was made */
     struct admission_process made_for; /* what was judged then */
 };
@@ -80,8 +81,9 @@ struct process {
     bool may_have_keyrings; /* some call has named a thread or process keyring */
     struct task *tasks;
     struct task *first; /* thread: the last of them */
+    unsigned standings; /* of its threads */
     struct process *next;
-    TAILQ_ENTRY(process) order;
+    TAILQ_ENTRY(process) order, order_of_standings, order_of_sweep;
 };
 
 /* Ends of processes and threads are told by this epoll(7) descriptor, with what entries_ended takes. */
@@ -125,8 +127,9 @@ struct process *entries_next(const struct process *process);
 /* Whether descriptors run short. */
 bool entries_are_many(void);
 
-bool entries_want_sweep(void);
-void entries_sweep(void);
+/* A sweep looks at a part of them, and answers how many are left of this many. */
+unsigned entries_to_sweep(void);
+unsigned entries_sweep(unsigned left);
 
 /* The first standing of a thread of which this holds, or NULL. */
 #define FIND_STANDING(task, at, holds)                                                      \
@@ -154,7 +157,8 @@ struct asker {
     bool is_elsewhere, revokes;
 };
 
-/* The one under this identity that was made for this process as it is now, or NULL. */
+/* The one under this identity that was made for this process as it is now, or NULL. Its process is the last whose
+ * contexts are given up. */
 struct standing *find_standing(struct task *task, const struct user *user, const struct asker *asker);
 
 /* The one under this identity in this session, which is made where there is none. NULL with errno. */
@@ -167,15 +171,19 @@ void bring_standings(struct task *task, struct session *session);
 
 void standing_set_session(struct standing *standing, struct session *session);
 
+/* After a call that named such a keyring: there may be one now, which would end with it. All threads of a process have
+ * the process keyring. */
+void standing_may_have(struct task *task, struct standing *standing, bool thread_keyring, bool process_keyring);
+
 /* Whether a user may have one more context. Who has most of them on a connection leaves the last ones to others: false
  * with EDQUOT where nothing can be given up. */
 bool standings_may_have_more(const struct user *user);
 
 void end_standings(struct task *task);
 
-/* Ends contexts that nothing is lost with: of the connection of this age, or lasting ones for 0. `keeps` is that of
- * sessions.h, and `asking` the thread whose call is served, or NULL. False where there is none. */
-bool standings_make_room(unsigned age, const struct task *asking, bool (*keeps)(pid_t, const struct session *));
+/* Ends contexts that nothing is lost with: of the connection of this age, or lasting ones for 0. `asking` is the thread
+ * whose call is served, or NULL. False where there is none. */
+bool standings_make_room(unsigned age, const struct task *asking);
 
 /* Where descriptors run short: gives up threads and processes that have nothing to lose, and are known again as
  * `may_be_forgotten` says. */
@@ -193,6 +201,8 @@ void admission_begin(bool is_container, pid_t first);
 /* Who runs a process or thread; and who is all of one uid, as who begins the first session: outside of containers this
  * program, which may run set-uid. All bytes are set, by which two are compared. */
 void admission_read(struct admission_process *process, pid_t id, const struct proc_status *status);
+void admission_put(struct admission_process *process, const struct proc_status *status,
+                   const struct proc_vector *vector, bool is_elsewhere);
 void admission_set(struct admission_process *process, uint32_t uid);
 
 /* As who a call is asked that names the user keyrings, begins a session, or neither. */
@@ -247,7 +257,9 @@ void maps_put(struct admission_process *process);
  * told by one: it may be another container's, of the same id. */
 bool maps_are_outside(pid_t process);
 
-/* Whether a thread is in another user namespace: its user keyrings are others. */
+/* Whether a thread is in another user namespace: its user keyrings are others. And who has made the outermost of those
+ * that it is in and that isn't served; -1 where that isn't known. */
 bool maps_are_others(pid_t thread);
+uid_t maps_maker(pid_t thread);
 
 #endif

@@ -26,6 +26,8 @@ enum { GIVEN = 8 };
 enum { PAGE = 4096, PAGES = 96, BEHIND = 65, WORDS = 5, HEAD = 2 + WORDS * 8 };
 
 static uint8_t *arena;
+static struct copies *copies;
+static struct sender sender;
 static struct task task;
 static struct entered entered;
 static unsigned long seen;
@@ -69,7 +71,7 @@ static void see(const void *bytes, size_t length) {
 }
 
 static int given_numbers[GIVEN], given_count;
-int serve_give(int descriptor, bool closes) {
+int turns_give(int descriptor, bool closes) {
     (void)closes;
     int number = given_count < GIVEN && answer(9) >= 0 ? dup(descriptor) : fail_as(EMFILE);
     if (number >= 0) given_numbers[given_count++] = number;
@@ -114,7 +116,6 @@ int64_t kr_receive(struct kr *connection, uint64_t *tag, void *buffer, size_t ro
     return length;
 }
 
-
 static void see_text(const char *text) {
     if (text) see(text, strlen(text));
 }
@@ -146,13 +147,15 @@ static bool is_valid(void) { return random_state >> 16 & 7; }
 /* Behind the arena nobody may write, as far as the longest answer reaches. */
 static void begin(void) {
     arena = mmap(NULL, (PAGES + BEHIND) * PAGE, PROT_NONE, MAP_PRIVATE | MAP_ANONYMOUS, -1, 0);
-    entered.memory = (struct memory){ .thread = getpid(), .file = open("/proc/self/mem", O_RDWR | O_CLOEXEC) };
+    copies = copies_make();
+    sender.thread = getpid();
     if (arena == MAP_FAILED || mprotect(arena, PAGES * PAGE, PROT_READ | PROT_WRITE) < 0) abort();
-    if (entered.memory.file < 0 || calls_begin() < 0 || pipes_begin() < 0) abort();
+    if (!copies || pipes_begin() < 0) abort();
     munmap(arena + 8 * PAGE, PAGE);
     mprotect(arena + 40 * PAGE, PAGE, PROT_READ);
     mprotect(arena + 50 * PAGE, PAGE, PROT_NONE);
     entered.task = &task;
+    entered.sender = &sender;
     entered.is_valid = is_valid;
 }
 
@@ -170,7 +173,10 @@ static void call(const struct seccomp_data *data, bool is_kept) {
     uint64_t sum;
     int number = filter_decode(data, given);
     if (number < 0) return;
-    long result = call_carry_out(key_row_of(number), given, data, &sum);
+    if (copies_begin(copies, key_row_of(number), given)) copies_take(copies, getpid());
+    long result = call_carry_out(copies, data, &sum);
+    if (copies->puts && is_valid()) copies_put(copies);
+    copies_end(copies);
     if (sum != 0 && is_kept) replay_keep(&task.replay, data, &entered.asker.process, sum, result, errno);
 }
 

@@ -29,7 +29,7 @@ static bool read_map(pid_t process, const char *name, struct map *map) {
     char text[MAP_RANGES * RANGE_LETTERS + 1];
     int length = 0;
     map->count = 0;
-    if (!proc_read(process, name, text, sizeof text)) return false;
+    if (!proc_read_long(process, name, text, sizeof text)) return false;
     for (const char *line = text; map->count < MAP_RANGES; map->count++, line += length) {
         struct range *range = &map->ranges[map->count];
         if (sscanf(line, "%u %u %u%n", &range->inside, &range->outside, &range->length, &length) != 3) break;
@@ -142,4 +142,18 @@ bool maps_are_outside(pid_t process) {
 bool maps_are_others(pid_t thread) {
     struct stat namespace;
     return find_namespace(thread, "user", &namespace) < 0 || !is_same(&namespace, &all.namespace);
+}
+
+uid_t maps_maker(pid_t thread) {
+    uid_t maker = (uid_t)-1;
+    struct stat namespace;
+    int next = proc_open_file(thread, "ns/user", O_RDONLY);
+    while (next >= 0 && fstat(next, &namespace) == 0 && !is_same(&namespace, &all.namespace)) {
+        if (ioctl(next, NS_GET_OWNER_UID, &maker) < 0) maker = (uid_t)-1;
+        int around = ioctl(next, NS_GET_PARENT);
+        close(next);
+        next = around;
+    }
+    close_one(&next);
+    return maker;
 }

@@ -1,39 +1,57 @@
-/* memory.c: /proc/PID/mem, which reads and writes also where the program itself may not. So what is written is looked
- * at first. */
+/* memory.c: reads a thread's memory by its number, where the thread itself may read; and writes by /proc/PID/mem, which
+ * stays bound to that memory, and writes also where the thread itself may not. So where that is to go is looked at
+ * first. */
 #include "proc.h"
 
 #include <linux/types.h>
 #include <sys/ioctl.h>
+#include <sys/uio.h>
 
 enum { PAGE = 4096, SHORT = 256 };
 
 int memory_open(struct memory *memory, pid_t thread) {
-    memory->thread = thread;
     memory->file = proc_open_file(thread, "mem", O_RDWR);
-    return memory->file < 0 ? -1 : 0;
+    memory->maps = memory->file < 0 ? -1 : proc_open_file(thread, "maps", O_RDONLY);
+    if (memory->maps >= 0) return 0;
+    memory_close(memory);
+    return -1;
 }
 
-void memory_close(struct memory *memory) { close_one(&memory->file); }
+void memory_close(struct memory *memory) {
+    close_one(&memory->file);
+    close_one(&memory->maps);
+}
 
-/* The kernel reads nothing, and calls that no error, of memory that nobody has any more. */
-bool memory_is_gone(int file) {
+int memory_watch(pid_t thread) { return proc_open_file(thread, "pagemap", O_RDONLY); }
+
+/* Of memory that nobody has any more the kernel reads nothing, and calls that no error; of other it refuses half an
+ * entry before it takes the lock of the memory, which its program may hold for as long as it likes. */
+bool memory_is_gone(int watched) {
     char byte;
-    return pread(file, &byte, 1, 0) == 0;
+    return pread(watched, &byte, 1, 0) == 0;
 }
 
-bool memory_read(const struct memory *memory, void *to, unsigned long from, size_t length) {
-    return pread(memory->file, to, length, (off_t)from) == (ssize_t)length;
+/* Where a file's server doesn't answer, its reader can be killed, and the thread itself isn't held up. */
+static ssize_t read_part(pid_t thread, void *to, unsigned long from, size_t length) {
+    const struct iovec here = { to, length }, there = { (void *)from, length };
+    return process_vm_readv(thread, &here, 1, &there, 1, 0);
+}
+
+bool memory_read(pid_t thread, void *to, unsigned long from, size_t length) {
+    ssize_t got = read_part(thread, to, from, length);
+    if (got >= 0 && (size_t)got < length) errno = EFAULT;
+    return got == (ssize_t)length;
 }
 
 /* Up to the end of a page at a time, as the next may not be there; first a few bytes, as most texts are short. Nothing
  * stays of what was read behind the text, nor of one that can't be read. */
-bool memory_read_text(const struct memory *memory, char *to, unsigned long from, size_t max) {
+bool memory_read_text(pid_t thread, char *to, unsigned long from, size_t max) {
     size_t length = 0;
     while (length < max) {
         size_t wanted = PAGE - (from + length) % PAGE;
         if (wanted > max - length) wanted = max - length;
         if (length == 0 && wanted > SHORT) wanted = SHORT;
-        ssize_t got = pread(memory->file, to + length, wanted, (off_t)(from + length));
+        ssize_t got = read_part(thread, to + length, from + length, wanted);
         if (got <= 0) return explicit_bzero(to, length), false;
         char *next = to + length, *end = memchr(next, '\0', (size_t)got);
         if (end) {
@@ -71,33 +89,28 @@ static enum answer is_writable_in(int maps, unsigned long at, unsigned long end)
 }
 
 /* Before, it is told in lines, in the order of addresses. */
-static bool is_writable_in_lines(FILE *maps, unsigned long at, unsigned long end) {
+static bool is_writable_in_lines(int file, unsigned long at, unsigned long end) {
+    int other = dup(file);
+    FILE *maps = other < 0 ? NULL : fdopen(other, "r");
     unsigned long start, stop;
     char *line = NULL, writable;
     size_t room = 0;
+    if (!maps) return close_one(&other), false;
     while (at < end && getline(&line, &room, maps) > 0) {
         if (sscanf(line, "%lx-%lx %*c%c", &start, &stop, &writable) != 3 || at < start || at >= stop) continue;
         if (writable != 'w') break;
         at = stop;
     }
     free(line);
+    fclose(maps);
     return at >= end;
 }
 
-static bool is_writable(pid_t thread, unsigned long at, size_t length) {
-    int file = at + length < at ? -1 : proc_open_file(thread, "maps", O_RDONLY);
-    FILE *maps = file < 0 ? NULL : fdopen(file, "r");
-    if (!maps) return close_one(&file), false;
-    enum answer answer = is_writable_in(fileno(maps), at, at + length);
-    bool is_one = answer == UNKNOWN ? is_writable_in_lines(maps, at, at + length) : answer == YES;
-    fclose(maps);
-    return is_one;
-}
-
-/* What is looked at and written to was opened, or is, while the thread waited. So it is that thread's memory, whatever
- * is executed meanwhile, and whoever has its number. */
-bool memory_write(const struct memory *memory, unsigned long to, const void *from, size_t length,
-                  bool (*is_valid)(void)) {
-    return is_writable(memory->thread, to, length) && is_valid() &&
-           pwrite(memory->file, from, length, (off_t)to) == (ssize_t)length;
+/* What is looked at and written to was opened while the thread waited. So it is that thread's memory, whatever is
+ * executed meanwhile, and whoever has its number. */
+bool memory_write(const struct memory *memory, unsigned long to, const void *from, size_t length) {
+    const unsigned long end = to + length;
+    enum answer answer = end < to ? NO : is_writable_in(memory->maps, to, end);
+    bool is_writable = answer == UNKNOWN ? is_writable_in_lines(memory->maps, to, end) : answer == YES;
+    return is_writable && pwrite(memory->file, from, length, (off_t)to) == (ssize_t)length;
 }

@@ -11,7 +11,7 @@
 /* As in linux/watch_queue.h, which can't be included beside fcntl.h. */
 enum { O_NOTIFICATION_PIPE = O_EXCL, IOC_WATCH_QUEUE_SET_SIZE = 0x5760, IOC_WATCH_QUEUE_SET_FILTER = 0x5761 };
 
-enum { FILTERS = 16, HELD = 1024, LOSS = 8 /* bytes of a record */ };
+enum { FILTERS = 16, FILTER_HEAD = 8, HELD = 1024, LOSS = 8 /* bytes of what a filter begins with, of a record */ };
 
 /* Of a key, by its serial; the identity is of who has set it. One that was taken away is here until its pipe is told
  * so. */
@@ -52,10 +52,11 @@ void pipe_end(struct pipe *pipe);
 /* False where there is no room for all that is held, of which epoll(7) tells. */
 bool pipe_put(struct pipe *pipe);
 
-/* The calls of the thread that has entered: the answer, or -1 with errno. For the last its own context is asked. */
-long pipe_make(unsigned long to, unsigned flags);
+/* The calls of the thread that has entered: the answer, or -1 with errno. Of a filter so many bytes could be read; NULL
+ * takes it away. For the last its own context is asked. */
+long pipe_make(int given[2], unsigned flags);
 long pipe_set_size(int descriptor, unsigned long capacity);
-long pipe_set_filter(int descriptor, unsigned long from);
+long pipe_set_filter(int descriptor, const uint8_t *from, size_t length);
 long pipe_watch(struct kr *asker, uint32_t context, int32_t id, int descriptor, int watch);
 
 /* ---- queues.c: what the daemon has, on a connection of its own, which is there while a pipe has a queue ----

@@ -62,7 +62,7 @@ static bool may_have_more(uint32_t uid) {
  * FUSE could have this wait. */
 static bool read_name(int descriptor, char *name, size_t room) {
     char path[64];
-    snprintf(path, sizeof path, "/proc/%d/fd/%d", (int)tracees_entered()->memory.thread, descriptor);
+    snprintf(path, sizeof path, "/proc/%d/fd/%d", (int)tracees_entered()->sender->thread, descriptor);
     ssize_t length = readlink(path, name, room - 1);
     name[length > 0 ? length : 0] = '\0';
     return length >= 0;
@@ -74,7 +74,7 @@ static bool has_two_numbers(void) {
     struct rlimit limit;
     char name[2];
     int free_ones = 0;
-    if (prlimit(tracees_entered()->memory.thread, RLIMIT_NOFILE, NULL, &limit) < 0) return true;
+    if (prlimit(tracees_entered()->sender->thread, RLIMIT_NOFILE, NULL, &limit) < 0) return true;
     int number = limit.rlim_cur < INT_MAX ? (int)limit.rlim_cur : INT_MAX;
     for (int looks = 0; looks < LOOKS && number > 0 && free_ones < 2; looks++)
         free_ones += !read_name(--number, name, sizeof name);
@@ -95,28 +95,25 @@ static struct pipe *add_pipe(uint32_t uid, const int ends[2]) {
 /* Gives the thread two numbers of it: false where there is none left. */
 static bool give(int end, unsigned flags, int given[2]) {
     for (int i = 0; i < 2; i++)
-        if ((given[i] = serve_give(end, flags & O_CLOEXEC)) < 0) return false;
+        if ((given[i] = turns_give(end, flags & O_CLOEXEC)) < 0) return false;
     return true;
 }
 
 /* What can be seen to fail does before there is one. */
-long pipe_make(unsigned long to, unsigned flags) {
-    const struct entered *entered = tracees_entered();
-    int ends[2], given[2];
+long pipe_make(int given[2], unsigned flags) {
+    const uint32_t uid = tracees_entered()->identity.uid;
+    int ends[2];
     if (flags & ~(unsigned)(O_CLOEXEC | O_NONBLOCK | O_DIRECT | O_NOTIFICATION_PIPE)) return fail_as(EINVAL);
-    if (!memory_read(&entered->memory, given, to, sizeof given) ||
-        !memory_write(&entered->memory, to, given, sizeof given, entered->is_valid))
-        return fail_as(EFAULT);
     if (!has_two_numbers()) return fail_as(EMFILE);
     const int kind = SOCK_SEQPACKET | SOCK_CLOEXEC | (flags & O_NONBLOCK ? SOCK_NONBLOCK : 0);
-    if (!may_have_more(entered->identity.uid) || socketpair(AF_UNIX, kind, 0, ends) < 0) return fail_as(ENFILE);
-    struct pipe *pipe = add_pipe(entered->identity.uid, ends);
+    if (!may_have_more(uid) || socketpair(AF_UNIX, kind, 0, ends) < 0) return fail_as(ENFILE);
+    struct pipe *pipe = add_pipe(uid, ends);
     bool is_given = pipe && give(ends[0], flags, given);
     close_one(&ends[0]);
     if (!pipe) close_one(&ends[1]);
     if (!pipe) return fail_as(ENFILE);
     if (!is_given) return pipe_end(pipe), fail_as(EMFILE);
-    return memory_write(&entered->memory, to, given, sizeof given, entered->is_valid) ? 0 : fail_as(EFAULT);
+    return 0;
 }
 
 /* ---- What is asked of one ---- */
@@ -144,16 +141,17 @@ static bool is_sound(const struct kr_entry *entry) {
 }
 
 /* The daemon takes no filter away: one that all notes pass is as good. */
-long pipe_set_filter(int descriptor, unsigned long from) {
-    const struct memory *memory = &tracees_entered()->memory;
-    struct { uint32_t count, reserved; } head = { 1, 0 }; /* what a filter of linux/watch_queue.h begins with */
+long pipe_set_filter(int descriptor, const uint8_t *from, size_t length) {
+    struct { uint32_t count, reserved; } head = { 1, 0 };
     struct kr_entry filter[FILTERS] = { { .type = 1 } };
     struct pipe *pipe = find_pipe(descriptor);
     if (!pipe) return -1;
     if (!from) memset(filter[0].subtypes, 0xff, sizeof filter[0].subtypes);
-    if (from && !memory_read(memory, &head, from, sizeof head)) return fail_as(EFAULT);
+    if (from && length < FILTER_HEAD) return fail_as(EFAULT);
+    if (from) memcpy(&head, from, sizeof head);
     if (head.count < 1 || head.count > FILTERS || head.reserved) return fail_as(EINVAL);
-    if (from && !memory_read(memory, filter, from + sizeof head, head.count * sizeof *filter)) return fail_as(EFAULT);
+    if (from && length < FILTER_HEAD + head.count * sizeof *filter) return fail_as(EFAULT);
+    if (from) memcpy(filter, from + FILTER_HEAD, head.count * sizeof *filter);
     for (unsigned i = 0; i < head.count; i++)
         if (!is_sound(&filter[i])) return fail_as(EINVAL);
     memcpy(pipe->filter, filter, sizeof filter);

@@ -16,18 +16,25 @@ int proc_open_file(pid_t id, const char *name, int flags) {
 }
 
 /* Puts the first bytes of a file as a text; false for none. Closes it. */
-static bool read_file(int file, char *text, size_t room) {
+static bool read_file(int file, char *text, size_t room, bool is_long) {
     size_t length = 0;
     ssize_t got = 0;
     if (file < 0) return false;
-    while (length < room - 1 && (got = read(file, text + length, room - 1 - length)) > 0) length += (size_t)got;
+    do {
+        got = read(file, text + length, room - 1 - length);
+        if (got > 0) length += (size_t)got;
+    } while (is_long && got > 0 && length < room - 1);
     close(file);
     text[length] = '\0';
     return got >= 0 && length > 0;
 }
 
 bool proc_read(pid_t id, const char *name, char *text, size_t room) {
-    return read_file(proc_open_file(id, name, O_RDONLY), text, room);
+    return read_file(proc_open_file(id, name, O_RDONLY), text, room, false);
+}
+
+bool proc_read_long(pid_t id, const char *name, char *text, size_t room) {
+    return read_file(proc_open_file(id, name, O_RDONLY), text, room, true);
 }
 
 /* ---- status ---- */
@@ -66,7 +73,7 @@ bool proc_read_status(pid_t thread, struct proc_status *status) {
     int file = proc_open_file(thread, "status", O_RDONLY);
     memset(status, 0, sizeof *status);
     status->owner = fstat(file, &of_file) == 0 ? of_file.st_uid : UINT32_MAX;
-    if (!read_file(file, text, sizeof text) || !read_number(text, "\nTgid:", &process) ||
+    if (!read_file(file, text, sizeof text, false) || !read_number(text, "\nTgid:", &process) ||
         !read_ids(text, "\nUid:", &status->uids) || !read_ids(text, "\nGid:", &status->gids) ||
         !read_groups(text, status))
         return false;
@@ -107,7 +114,7 @@ pid_t proc_next(DIR *processes) {
 bool proc_is_ours(void) {
     char text[4096];
     int number, within;
-    if (!read_file(open("/proc/self/status", O_RDONLY | O_CLOEXEC), text, sizeof text)) return false;
+    if (!read_file(open("/proc/self/status", O_RDONLY | O_CLOEXEC), text, sizeof text, false)) return false;
     const char *at = find_field(text, "\nNStgid:");
     errno = ESRCH;
     return !at || (sscanf(at, "%d %d", &number, &within) == 1 && number == getpid());
@@ -138,40 +145,38 @@ static bool find_auxiliary(const char *bytes, size_t room, size_t width, uint64_
     return false;
 }
 
+bool proc_read_vector(pid_t process, struct proc_vector *vector) {
+    memset(vector, 0, sizeof *vector);
+    return proc_read(process, "auxv", vector->bytes, sizeof vector->bytes);
+}
+
 /* The first is a type, which is a small number, and a value that isn't 0: of a program of 32 bits both are in one
  * word. */
-bool proc_read_auxv(pid_t process, bool *is_secure, uint32_t *uid) {
-    char bytes[1024] = "";
+bool vector_find(const struct proc_vector *vector, bool *is_secure, uint32_t *uid) {
     uint64_t first, secure, starter;
-    if (!proc_read(process, "auxv", bytes, sizeof bytes)) return false;
-    memcpy(&first, bytes, sizeof first);
+    memcpy(&first, vector->bytes, sizeof first);
     size_t width = first > UINT32_MAX ? sizeof(uint32_t) : sizeof(uint64_t);
-    if (!find_auxiliary(bytes, sizeof bytes, width, AT_UID, &starter) ||
-        !find_auxiliary(bytes, sizeof bytes, width, AT_SECURE, &secure))
+    if (!find_auxiliary(vector->bytes, sizeof vector->bytes, width, AT_UID, &starter) ||
+        !find_auxiliary(vector->bytes, sizeof vector->bytes, width, AT_SECURE, &secure))
         return false;
     *is_secure = secure != 0;
     *uid = (uint32_t)starter;
     return true;
 }
 
+static uint64_t add_to_sum(uint64_t sum, const void *bytes, size_t length) {
+    for (size_t i = 0; i < length; i++) sum = (sum ^ ((const unsigned char *)bytes)[i]) * UINT64_C(0x100000001b3);
+    return sum;
+}
+
 /* FNV-1a. The file system of what it executes, which may be its own user's, isn't asked. */
-uint64_t proc_image(pid_t thread) {
-    struct {
-        char vector[1024];
-        uint64_t device[2], inode;
-    } told;
+uint64_t proc_image(pid_t thread, const struct proc_vector *vector) {
     char path[64];
     struct statx file;
-    uint64_t sum = 1;
-    memset(&told, 0, sizeof told);
     snprintf(path, sizeof path, "/proc/%d/exe", (int)thread);
-    if (!proc_read(thread, "auxv", told.vector, sizeof told.vector)) return 0;
     if (statx(AT_FDCWD, path, AT_STATX_DONT_SYNC, STATX_INO, &file) < 0) return 0;
-    told.device[0] = file.stx_dev_major;
-    told.device[1] = file.stx_dev_minor;
-    told.inode = file.stx_ino;
-    for (size_t i = 0; i < sizeof told; i++) sum = (sum ^ ((unsigned char *)&told)[i]) * UINT64_C(0x100000001b3);
-    return sum | 1;
+    const uint64_t told[3] = { file.stx_dev_major, file.stx_dev_minor, file.stx_ino };
+    return add_to_sum(add_to_sum(1, vector->bytes, sizeof vector->bytes), told, sizeof told) | 1;
 }
 
 /* ---- Limits ---- */

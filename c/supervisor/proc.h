@@ -27,8 +27,10 @@ bool proc_is_ours(void);
 /* Opens a file of a process in proc(5), with these flags of open(2); -1 with errno. */
 int proc_open_file(pid_t id, const char *name, int flags);
 
-/* The beginning of a file of a process in proc(5), as a text; false for none. */
+/* The beginning of a file of a process in proc(5), as a text; false for none. The first is for those that one read
+ * tells whole, as their text has no more than a page: all but the maps of ids. */
 bool proc_read(pid_t id, const char *name, char *text, size_t room);
+bool proc_read_long(pid_t id, const char *name, char *text, size_t room);
 
 /* False where there is no such thread, or it may not be looked at. */
 bool proc_read_status(pid_t thread, struct proc_status *status);
@@ -45,16 +47,22 @@ pid_t proc_parent(pid_t process);
 /* Whether a process was forked and has executed nothing since; `unknown` where that can't be read. */
 bool proc_has_only_forked(pid_t process, bool unknown);
 
-/* AT_SECURE of getauxval(3), whether a process executes something that runs with more rights than its caller's, as what
- * is set-uid does; and AT_UID, the real uid that it was executed with, which may be another one now. False where they
- * can't be read. */
-bool proc_read_auxv(pid_t process, bool *is_secure, uint32_t *uid);
+/* What execve(2) has told a process (getauxval(3)); false where it can't be read. */
+struct proc_vector {
+    char bytes[1024];
+};
+bool proc_read_vector(pid_t process, struct proc_vector *vector);
+
+/* AT_SECURE of it, whether a process executes something that runs with more rights than its caller's, as what is
+ * set-uid does; and AT_UID, the real uid that it was executed with, which may be another one now. False where it has
+ * none. */
+bool vector_find(const struct proc_vector *vector, bool *is_secure, uint32_t *uid);
 
 /* A number of what a process executes, and of all that execve(2) has told it so, addresses among that; 0 where it isn't
  * known. Another execve(2) has another one, unless that is of the same program, and the process has seen to it that
  * nothing is put at random, which it can't for what gains rights. Overlayfs gives a file with hard links another inode
  * where it is changed, also only in its mode. */
-uint64_t proc_image(pid_t thread);
+uint64_t proc_image(pid_t thread, const struct proc_vector *vector);
 
 /* The soft limit RLIMIT_LOCKS. */
 bool proc_read_locks(pid_t process, uint64_t *soft);
@@ -67,27 +75,28 @@ bool proc_has_ended(int descriptor);
 
 /* ---- memory.c: the memory of a thread whose call is carried out for it ---- */
 
-/* What is opened stays bound to that memory, whoever gets the thread's number later. */
+/* To be written to. What is opened stays bound to that memory, whoever gets the thread's number later. */
 struct memory {
-    pid_t thread;
-    int file;
+    int file, maps;
 };
 
 /* -1 with errno: EACCES where it may not be looked at. */
 int memory_open(struct memory *memory, pid_t thread);
 void memory_close(struct memory *memory);
 
-/* Whether what a descriptor of memory_open stands for is gone: its processes have ended or executed something else. */
-bool memory_is_gone(int file);
+/* A descriptor that stands for a process's memory, by which it is told whether that is gone: its processes have ended
+ * or executed something else. Nothing that they do makes the question wait. */
+int memory_watch(pid_t thread);
+bool memory_is_gone(int watched);
 
-/* False where not all of it can be read. */
-bool memory_read(const struct memory *memory, void *to, unsigned long from, size_t length);
+/* Of whoever has the thread's number now. False with errno where not all of it can be read: EFAULT where the thread
+ * itself couldn't. */
+bool memory_read(pid_t thread, void *to, unsigned long from, size_t length);
 
 /* A text with its null byte; a longer one than `max` bytes is cut there. `to` has room for one byte more. */
-bool memory_read_text(const struct memory *memory, char *to, unsigned long from, size_t max);
+bool memory_read_text(pid_t thread, char *to, unsigned long from, size_t max);
 
-/* False where the program itself could not write there. `is_valid` tells whether the thread still waits. */
-bool memory_write(const struct memory *memory, unsigned long to, const void *from, size_t length,
-                  bool (*is_valid)(void));
+/* False where the program itself could not write there. */
+bool memory_write(const struct memory *memory, unsigned long to, const void *from, size_t length);
 
 #endif

@@ -13,7 +13,7 @@
 #define SECCOMP_USER_NOTIF_FD_SYNC_WAKE_UP 1ul
 #endif
 
-enum { EVENTS = 16, SWEEP_MILLISECONDS = 1000, ROOM = 512 };
+enum { EVENTS = 16, SWEEP_MILLISECONDS = 1000, TAKEN_A_TURN = 256 };
 
 struct listener {
     int descriptor;
@@ -25,65 +25,9 @@ static struct {
     int epoll, signals, pipes, more;
     struct listener *listeners;
     bool has_told; /* how the child ended */
+    bool is_sweeping;
     int64_t next_sweep;
-    int listener; /* of the call that is served */
-    /* a newer kernel's may be longer than those that are known here */
-    union {
-        struct seccomp_notif notification;
-        char notification_room[ROOM];
-    };
-    union {
-        struct seccomp_notif_resp reply;
-        char reply_room[ROOM];
-    };
 } all;
-
-/* ---- A call ---- */
-
-static bool is_valid(void) { return ioctl(all.listener, SECCOMP_IOCTL_NOTIF_ID_VALID, &all.notification.id) == 0; }
-
-int serve_give(int descriptor, bool closes) {
-    struct seccomp_notif_addfd added = { .id = all.notification.id, .srcfd = (unsigned)descriptor,
-                                         .newfd_flags = closes ? O_CLOEXEC : 0 };
-    return ioctl(all.listener, SECCOMP_IOCTL_NOTIF_ADDFD, &added);
-}
-
-/* ENOENT: nobody waits for it any more. */
-static bool reply(long result, int error) {
-    memset(all.reply_room, 0, ROOM);
-    all.reply.id = all.notification.id;
-    if (result < 0)
-        all.reply.error = -error;
-    else
-        all.reply.val = result;
-    return ioctl(all.listener, SECCOMP_IOCTL_NOTIF_SEND, &all.reply) == 0;
-}
-
-static void answer_entered(const struct key_row *row, const unsigned long given[KEY_ARGUMENTS]) {
-    const struct seccomp_data *data = &all.notification.data;
-    const struct entered *entered = tracees_entered();
-    uint64_t sum;
-    long result = call_carry_out(row, given, data, &sum);
-    int error = errno;
-    if (!reply(result, error) && errno == ENOENT && sum != 0)
-        replay_keep(&entered->task->replay, data, &entered->asker.process, sum, result, error);
-    tracees_leave();
-}
-
-/* What can't be looked into is answered as where no daemon is: never by the kernel's keys. ENOENT: it was killed before
- * it was received. */
-static void take_notification(int listener) {
-    unsigned long given[KEY_ARGUMENTS];
-    all.listener = listener;
-    memset(all.notification_room, 0, ROOM);
-    if (ioctl(listener, SECCOMP_IOCTL_NOTIF_RECV, &all.notification) < 0) return;
-    int call = filter_decode(&all.notification.data, given);
-    const struct key_row *row = key_row_of(call);
-    if (call >= 0 && all.notification.pid != 0 && tracees_enter((pid_t)all.notification.pid, row, given, is_valid))
-        answer_entered(row, given);
-    else
-        reply(-1, ENOSYS);
-}
 
 /* ---- Listeners ---- */
 
@@ -161,7 +105,7 @@ static void reap(void) {
         if (WIFSTOPPED(status))
             ptrace(PTRACE_DETACH, process, NULL, WSTOPSIG(status));
         else
-            note_end(process, status);
+            turns_reaped(process), note_end(process, status);
     }
 }
 
@@ -169,56 +113,81 @@ static void reap(void) {
 
 /* A runtime, or the agent, may have a listener that ends for a moment longer: then epoll(7) doesn't forget it by
  * itself, and would go on to tell of an entry that is freed. */
-static void take_event(const struct epoll_event *event) {
+static void end_listener(struct listener *listener) {
+    TAKE_OUT(all.listeners, listener);
+    epoll_ctl(all.epoll, EPOLL_CTL_DEL, listener->descriptor, NULL);
+    turns_forget(listener->descriptor);
+    close_one(&listener->descriptor);
+    free(listener);
+}
+
+/* Whether a call was received. */
+static bool take_event(const struct epoll_event *event) {
     struct listener *listener = event->data.ptr;
-    if (event->data.ptr == &all.signals) {
+    if (event->data.ptr == &all.signals)
         reap();
-    } else if (event->data.ptr == &all.more) {
+    else if (event->data.ptr == &all.more)
         take_listener();
-    } else if (event->data.ptr == &all.pipes) {
+    else if (event->data.ptr == &all.pipes)
         pipes_take();
-    } else if (event->events & EPOLLIN) {
-        take_notification(listener->descriptor);
-    } else {
-        TAKE_OUT(all.listeners, listener);
-        epoll_ctl(all.epoll, EPOLL_CTL_DEL, listener->descriptor, NULL);
-        close_one(&listener->descriptor);
-        free(listener);
-    }
+    else if (turns_have(event->data.ptr))
+        turns_go_on(event->data.ptr);
+    else if (event->events & EPOLLIN)
+        return turns_take(listener->descriptor);
+    else
+        end_listener(listener);
+    return false;
 }
 
-/* Ends of processes come first, and one at a time: what else is ready may go with it. */
-static void take_events(const struct epoll_event *events, int count) {
+static bool is_end(const void *source) {
+    return source != &all.signals && source != &all.more && source != &all.pipes && !turns_have(source) &&
+           !FIND(all.listeners, at, at == source);
+}
+
+/* Ends of processes come first, and one at a time: what else is ready may go with it. How many calls were received. */
+static unsigned take_events(const struct epoll_event *events, int count) {
+    unsigned received = 0;
     for (int i = 0; i < count; i++) {
-        const void *source = events[i].data.ptr;
-        if (source == &all.signals || source == &all.more || source == &all.pipes) continue;
-        if (FIND(all.listeners, at, at == source)) continue;
+        if (!is_end(events[i].data.ptr)) continue;
         entries_ended(events[i].data.ptr);
-        return;
+        return 0;
     }
-    for (int i = 0; i < count; i++) take_event(&events[i]);
+    for (int i = 0; i < count; i++) received += take_event(&events[i]);
+    return received;
 }
 
-/* How long to wait for events: until the next sweep, or for ever. */
-static int milliseconds_to_sweep(void) {
-    if (!tracees_want_sweep()) {
-        all.next_sweep = kr_now() + SWEEP_MILLISECONDS;
-        return -1;
-    }
-    int64_t left = all.next_sweep - kr_now();
+/* How long to wait for events; -1 for ever. */
+static int milliseconds_to_wait(void) {
+    int64_t next = all.is_sweeping ? 0 : turns_next();
+    bool wants_sweep = next > 0 && tracees_want_sweep();
+    if (next > 0 && !wants_sweep) all.next_sweep = kr_now() + SWEEP_MILLISECONDS;
+    if (wants_sweep && all.next_sweep < next) next = all.next_sweep;
+    int64_t poll = queues_milliseconds(), left = next > 0 ? next - kr_now() : 0;
+    if (next == KR_NEVER) return (int)poll;
+    if (poll >= 0 && poll < left) left = poll;
     return left > 0 ? (int)left : 0;
 }
 
+/* A part of it, so that nobody waits for all. */
+static void sweep(void) {
+    if (!all.is_sweeping && kr_now() < all.next_sweep && !turns_want_sweep()) return;
+    all.is_sweeping = (all.is_sweeping || tracees_want_sweep()) && tracees_sweep();
+    if (!all.is_sweeping) all.next_sweep = kr_now() + SWEEP_MILLISECONDS;
+}
+
+/* All calls that wait are received before one of each user is served, but for a flood of them. */
 static void run(void) {
     struct epoll_event events[EVENTS];
+    unsigned received = 0;
     while (all.listeners) {
-        int sweep = milliseconds_to_sweep(), poll = queues_milliseconds();
-        int count = epoll_wait(all.epoll, events, EVENTS, poll < 0 || (sweep >= 0 && sweep < poll) ? sweep : poll);
-        take_events(events, count);
+        int count = epoll_wait(all.epoll, events, EVENTS, milliseconds_to_wait());
+        unsigned before = received;
+        received += take_events(events, count);
+        if (received > before && received < TAKEN_A_TURN) continue;
+        received = 0;
+        turns_serve();
         queues_poll();
-        if (kr_now() < all.next_sweep) continue;
-        if (tracees_want_sweep()) tracees_sweep();
-        all.next_sweep = kr_now() + SWEEP_MILLISECONDS;
+        sweep();
     }
 }
 
@@ -242,12 +211,9 @@ static int watch_children(void) {
 }
 
 static int begin(int listener) {
-    struct seccomp_notif_sizes sizes;
-    if (syscall(SYS_seccomp, SECCOMP_GET_NOTIF_SIZES, 0, &sizes) < 0) return -1;
-    if (sizes.seccomp_notif > ROOM || sizes.seccomp_notif_resp > ROOM) return fail_as(EMSGSIZE);
     all.more = all.settings->more;
     all.epoll = epoll_create1(EPOLL_CLOEXEC);
-    if (all.epoll < 0 || calls_begin() < 0 || watch_children() < 0) return -1;
+    if (all.epoll < 0 || turns_begin(all.epoll) < 0 || watch_children() < 0) return -1;
     if ((all.pipes = pipes_begin()) < 0 || watch(all.pipes, &all.pipes) < 0) return -1;
     if (all.more >= 0 && watch(all.more, &all.more) < 0) return -1;
     return add_listener(listener);

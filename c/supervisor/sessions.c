@@ -3,7 +3,7 @@
 
 #include <sys/random.h>
 
-enum { MASK_WITHOUT_NAME = 0x3f030000, ABSENT_SWEEPS = 2, DECIMAL = 10 };
+enum { MASK_WITHOUT_NAME = 0x3f030000, ABSENT_SWEEPS = 2, OF_SWEEP = 64 };
 
 static struct {
     struct session *sessions, *first;
@@ -156,29 +156,31 @@ void session_put_tag(pid_t process, const struct session *session) {
 
 /* ---- The ends of sessions ---- */
 
-static unsigned count_unused(void) {
-    unsigned count = 0;
-    for (struct session *session = all.sessions; session; session = session->next) count += session->uses == 0;
-    return count;
-}
+bool sessions_want_sweep(void) { return FIND(all.sessions, session, session->uses == 0) != NULL; }
 
-bool sessions_want_sweep(void) { return count_unused() > 0; }
-
-static void see_tags(DIR *processes, bool (*keeps)(pid_t, const struct session *)) {
+/* False where all have been looked at. */
+static bool see_tags(DIR *processes, bool (*keeps)(pid_t, const struct session *)) {
     uint64_t soft;
-    for (pid_t process; (process = proc_next(processes)) > 0;) {
+    for (int i = 0; i < OF_SWEEP; i++) {
+        pid_t process = proc_next(processes);
+        if (process <= 0) return false;
         struct session *session = proc_read_locks(process, &soft) ? session_of_tag(soft) : NULL;
         if (session && session->uses == 0 && keeps(process, session)) session->absent = 0;
     }
-    closedir(processes);
+    return true;
 }
 
 /* A process that is forked by one which ends may be missed once. */
-void sessions_sweep(bool (*keeps)(pid_t, const struct session *)) {
-    DIR *processes = sessions_want_sweep() ? proc_begin(0) : NULL;
-    if (!processes) return;
-    for (struct session *session = all.sessions; session; session = session->next) session->absent++;
-    see_tags(processes, keeps);
+bool sessions_sweep(bool (*keeps)(pid_t, const struct session *)) {
+    static DIR *processes;
+    if (!processes) {
+        processes = sessions_want_sweep() ? proc_begin(0) : NULL;
+        if (!processes) return false;
+        for (struct session *session = all.sessions; session; session = session->next) session->absent++;
+    }
+    if (see_tags(processes, keeps)) return true;
+    closedir(processes);
+    processes = NULL;
     for (struct session *session = all.sessions, *next; session; session = next) {
         next = session->next;
         if (session->uses > 0 || session->absent < ABSENT_SWEEPS) continue;
@@ -187,12 +189,7 @@ void sessions_sweep(bool (*keeps)(pid_t, const struct session *)) {
         user_let_go(session->user);
         free(session);
     }
-}
-
-bool sessions_make_room(bool (*keeps)(pid_t, const struct session *)) {
-    unsigned before = count_unused();
-    for (int i = 0; i < ABSENT_SWEEPS; i++) sessions_sweep(keeps);
-    return count_unused() < before;
+    return false;
 }
 
 /* ---- Another connection ---- */

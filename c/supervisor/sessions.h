@@ -78,9 +78,6 @@ int context_thread(struct context *made, const struct context *from);
 void context_end(struct context *context);
 void context_forget(struct context *context);
 
-/* Whether it has its thread or process keyring, which would end with it. */
-bool context_has_keyring(const struct context *context, int32_t id);
-
 /* ---- users.c: the identities of what a supervisor serves ----
  *
  * Each that asks has a context, from which others are forked, and which keeps its user keyrings.
@@ -182,12 +179,10 @@ struct session *session_of_tag(uint64_t soft);
 void session_put_tag(pid_t process, const struct session *session);
 
 /* Ends the sessions that no entry uses and no process keeps by its tag, in two sweeps one after the other; `keeps`
- * tells of a process that has the tag of one. */
+ * tells of a process that has the tag of one. A sweep looks at a part of the processes: false where it is at its end,
+ * and the next begins anew. */
 bool sessions_want_sweep(void);
-void sessions_sweep(bool (*keeps)(pid_t process, const struct session *session));
-
-/* Does both sweeps at once: whether some session has ended. */
-bool sessions_make_room(bool (*keeps)(pid_t process, const struct session *session));
+bool sessions_sweep(bool (*keeps)(pid_t process, const struct session *session));
 
 /* An entry is gone. */
 void sessions_forget(const void *beginner);

@@ -3,9 +3,13 @@
 
 enum { LOOKED_AT = 64, GIVEN_UP = 8, LAST = 15 };
 
+/* The processes that have contexts: the one that asked longest ago is the first. */
+static TAILQ_HEAD(, process) all = TAILQ_HEAD_INITIALIZER(all);
+
 /* ---- A thread's ---- */
 
 static void drop_standing(struct task *task, unsigned at) {
+    if (--task->process->standings == 0) TAILQ_REMOVE(&all, task->process, order_of_standings);
     context_end(&task->standings[at].context);
     session_let_go(task->standings[at].session);
     user_let_go(task->standings[at].user);
@@ -20,6 +24,10 @@ void end_standings(struct task *task) {
 struct standing *find_standing(struct task *task, const struct user *user, const struct asker *asker) {
     for (unsigned i = task->count; i > 0; i--)
         if (!context_connection(&task->standings[i - 1].context)) drop_standing(task, i - 1);
+    if (task->process->standings > 0) {
+        TAILQ_REMOVE(&all, task->process, order_of_standings);
+        TAILQ_INSERT_TAIL(&all, task->process, order_of_standings);
+    }
     const struct admission_process *now = &asker->process;
     bool stays = krs_admission_c_stays(now, user->identity.uid, asker->revokes);
     return FIND_STANDING(task, at,
@@ -31,6 +39,7 @@ struct standing *find_standing(struct task *task, const struct user *user, const
 /* A place for one more; the one that asked longest ago makes room, but for the first. */
 static struct standing *add_standing(struct task *task, const struct standing *made) {
     if (task->count == STANDINGS) drop_standing(task, 1);
+    if (task->process->standings++ == 0) TAILQ_INSERT_TAIL(&all, task->process, order_of_standings);
     task->standings[task->count] = *made;
     session_use(made->session);
     user_use(made->user);
@@ -79,12 +88,23 @@ void standing_set_session(struct standing *standing, struct session *session) {
     session_let_go(before);
 }
 
+static bool may_have_keyring(const struct standing *standing) {
+    return standing->may_have_thread_keyring || standing->may_have_process_keyring;
+}
+
+void standing_may_have(struct task *task, struct standing *standing, bool thread_keyring, bool process_keyring) {
+    struct task *first = task->process->first;
+    standing->may_have_thread_keyring |= thread_keyring;
+    standing->may_have_process_keyring |= process_keyring;
+    for (unsigned i = 0; i < first->count; i++)
+        first->standings[i].may_have_process_keyring |= process_keyring && first->standings[i].user == standing->user;
+}
+
 void bring_standings(struct task *task, struct session *session) {
     for (unsigned i = task->count; i > 0; i--) {
         struct standing *standing = &task->standings[i - 1];
         if (standing->session == session) continue;
-        if (context_has_keyring(&standing->context, KEY_SPEC_THREAD_KEYRING) ||
-            context_has_keyring(&standing->context, KEY_SPEC_PROCESS_KEYRING)) {
+        if (may_have_keyring(standing)) {
             bool is_in = session_enter_by_name(&standing->context, standing->user, session);
             standing_set_session(standing, is_in ? session : NULL);
             standing->is_lost = !is_in;
@@ -99,14 +119,12 @@ void bring_standings(struct task *task, struct session *session) {
 
 /* ---- Giving up ---- */
 
-static bool has_keyring(struct task *task, int32_t id) {
-    return FIND_STANDING(task, standing, context_has_keyring(&standing->context, id)) != NULL;
+static bool has_thread_keyring(struct task *task) {
+    return FIND_STANDING(task, standing, standing->may_have_thread_keyring) != NULL;
 }
 
 static bool process_has_state(const struct process *process) {
-    return process->may_have_keyrings &&
-           FIND(process->tasks, task, has_keyring(task, KEY_SPEC_THREAD_KEYRING) ||
-                                          has_keyring(task, KEY_SPEC_PROCESS_KEYRING));
+    return FIND(process->tasks, task, FIND_STANDING(task, standing, may_have_keyring(standing)) != NULL);
 }
 
 /* Whether it has a context on the connection of this age, or of any for 0. */
@@ -119,7 +137,8 @@ static void end_all_standings(struct process *process) {
 }
 
 static bool end_idle_process(unsigned age, const struct task *asking) {
-    for (struct process *process = entries_oldest(); process; process = entries_next(process)) {
+    struct process *process;
+    TAILQ_FOREACH(process, &all, order_of_standings) {
         bool is_idle = (!asking || process != asking->process) && FIND(process->tasks, task, has_standing(task, age));
         if (!is_idle || process_has_state(process)) continue;
         end_all_standings(process);
@@ -130,9 +149,10 @@ static bool end_idle_process(unsigned age, const struct task *asking) {
 
 /* A thread that isn't the first shares that one's process keyring: it has but its thread keyring to lose. */
 static bool end_idle_task(unsigned age, const struct task *asking) {
-    for (struct process *process = entries_oldest(); process; process = entries_next(process))
+    struct process *process;
+    TAILQ_FOREACH(process, &all, order_of_standings)
         for (struct task *task = process->tasks; task != process->first; task = task->next) {
-            if (task == asking || !has_standing(task, age) || has_keyring(task, KEY_SPEC_THREAD_KEYRING)) continue;
+            if (task == asking || !has_standing(task, age) || has_thread_keyring(task)) continue;
             end_standings(task);
             return true;
         }
@@ -141,7 +161,8 @@ static bool end_idle_task(unsigned age, const struct task *asking) {
 
 static unsigned count_of(uint32_t uid, unsigned age) {
     unsigned count = sessions_count(uid, age);
-    for (struct process *process = entries_oldest(); process; process = entries_next(process))
+    const struct process *process;
+    TAILQ_FOREACH(process, &all, order_of_standings)
         for (struct task *task = process->tasks; task; task = task->next)
             for (unsigned i = 0; i < task->count; i++)
                 count += task->standings[i].user->identity.uid == uid && task->standings[i].context.age == age;
@@ -157,8 +178,8 @@ bool standings_may_have_more(const struct user *user) {
 }
 
 /* An identity that only idle processes have is given up with their contexts. */
-bool standings_make_room(unsigned age, const struct task *asking, bool (*keeps)(pid_t, const struct session *)) {
-    if (sessions_make_room(keeps) || users_make_room(age)) return true;
+bool standings_make_room(unsigned age, const struct task *asking) {
+    if (users_make_room(age)) return true;
     if (age > 0) return end_idle_process(age, asking) || end_idle_task(age, asking);
     while (end_idle_process(0, asking))
         if (users_make_room(0)) return true;
@@ -176,8 +197,7 @@ static unsigned give_up_tasks(struct process *process, const struct task *asking
     unsigned count = 0;
     for (struct task *task = process->tasks, *next; task != process->first; task = next) {
         next = task->next;
-        if (task == asking || task->has_joined || !has_nothing(task) || has_keyring(task, KEY_SPEC_THREAD_KEYRING))
-            continue;
+        if (task == asking || task->has_joined || !has_nothing(task) || has_thread_keyring(task)) continue;
         end_task(task);
         count++;
     }
@@ -202,6 +222,9 @@ void standings_make_descriptors(const struct task *asking, bool (*may_be_forgott
 }
 
 void standings_leave_old_connections(void) {
-    for (struct process *process = entries_oldest(); process; process = entries_next(process))
+    struct process *next;
+    for (struct process *process = TAILQ_FIRST(&all); process; process = next) {
+        next = TAILQ_NEXT(process, order_of_standings);
         if (!process_has_state(process)) end_all_standings(process);
+    }
 }

@@ -16,45 +16,56 @@ const struct entered *tracees_entered(void) { return &all; }
 /* What is known of a thread that asks, before it is sure that its number is still its own. */
 struct arrival {
     int process_descriptor, thread_descriptor; /* for new entries, or -1 */
+    int memory;                                /* where its entry has none, or another one's; or -1 */
     struct process *process;                   /* NULL where it is a new one */
     struct task *task;                         /* NULL where it is a new one */
     uint64_t image;
     bool has_executed;
 };
 
+bool sender_read(struct sender *sender, pid_t thread) {
+    sender->thread = thread;
+    sender->is_elsewhere = maps_are_others(thread);
+    return proc_read_status(thread, &sender->status);
+}
+
 /* Opens by number what is wanted of a thread, and changes nothing. Descriptors stay bound to what they were opened
  * for, whoever gets the number later. One whose uids have no numbers there can't be told from others. */
-static bool look_at(pid_t thread, struct arrival *arrival) {
-    const struct proc_status *status = &all.status;
-    *arrival = (struct arrival){ .process_descriptor = -1, .thread_descriptor = -1 };
-    if (memory_open(&all.memory, thread) < 0 || !proc_read_status(thread, &all.status)) return false;
+static bool look_at(const struct sender *sender, struct arrival *arrival) {
+    const struct proc_status *status = &sender->status;
+    const pid_t thread = sender->thread;
+    struct proc_vector vector;
+    *arrival = (struct arrival){ .process_descriptor = -1, .thread_descriptor = -1, .memory = -1 };
     if (!maps_have_uid(status->uids.real) || !maps_have_uid(status->uids.files)) return false;
-    admission_read(&all.asker.process, thread, status);
-    all.asker.is_elsewhere = maps_are_others(thread);
-    arrival->process = find_process(status->process);
-    if ((arrival->image = proc_image(thread)) == 0) return false;
-    arrival->has_executed = arrival->process && has_executed(arrival->process, arrival->image);
-    if (arrival->process && !arrival->has_executed) arrival->task = find_task(arrival->process, thread);
-    if (!arrival->process && (arrival->process_descriptor = proc_open(status->process)) < 0) return false;
-    if (!arrival->process && maps_are_outside(status->process)) return false;
+    if (!proc_read_vector(thread, &vector) || (arrival->image = proc_image(thread, &vector)) == 0) return false;
+    admission_put(&all.asker.process, status, &vector, sender->is_elsewhere);
+    all.asker.is_elsewhere = sender->is_elsewhere;
+    struct process *process = arrival->process = find_process(status->process);
+    arrival->has_executed = process && has_executed(process, arrival->image);
+    if ((!process || arrival->has_executed || process->memory < 0) && (arrival->memory = memory_watch(thread)) < 0)
+        return false;
+    if (process && !arrival->has_executed) arrival->task = find_task(process, thread);
+    if (!process && (arrival->process_descriptor = proc_open(status->process)) < 0) return false;
+    if (!process && maps_are_outside(status->process)) return false;
     bool is_first = thread == status->process;
     return arrival->task || is_first || (arrival->thread_descriptor = proc_open_thread(thread)) >= 0;
 }
 
 /* Changes entries, now that the notification still waited after all was opened. */
-static struct task *settle_in(pid_t thread, struct arrival *arrival) {
+static struct task *settle_in(const struct sender *sender, struct arrival *arrival) {
     struct process *process = arrival->process;
+    const pid_t thread = sender->thread;
     if (arrival->has_executed) note_executed(process);
     if (!process) {
-        process = add_process(all.status.process, arrival->process_descriptor);
+        process = add_process(sender->status.process, arrival->process_descriptor);
         arrival->process_descriptor = -1;
     }
     if (!process) return NULL;
     if (process->memory < 0) {
-        process->memory = fcntl(all.memory.file, F_DUPFD_CLOEXEC, 0);
+        process->memory = arrival->memory;
+        arrival->memory = -1;
         process->is_fork = proc_has_only_forked(process->id, false);
     }
-    if (process->memory < 0) return NULL;
     process->image = arrival->image;
     if (arrival->task) return arrival->task;
     if (thread == process->id) return process->first;
@@ -65,11 +76,12 @@ static struct task *settle_in(pid_t thread, struct arrival *arrival) {
 
 /* What is opened by number is the notified thread's only where the notification still waits afterwards. So all is
  * opened first, then is_valid is asked once, and only then something is changed. */
-static struct task *have_entry(pid_t thread) {
+static struct task *have_entry(const struct sender *sender) {
     struct arrival arrival;
-    struct task *task = look_at(thread, &arrival) && all.is_valid() ? settle_in(thread, &arrival) : NULL;
+    struct task *task = look_at(sender, &arrival) && all.is_valid() ? settle_in(sender, &arrival) : NULL;
     close_one(&arrival.process_descriptor);
     close_one(&arrival.thread_descriptor);
+    close_one(&arrival.memory);
     return task;
 }
 
@@ -84,19 +96,17 @@ static bool is_of_user(struct task *task, const struct key_row *row, const unsig
            (key_row_names(row, given, KEY_SPEC_SESSION_KEYRING) || key_row_names(row, given, task->session->serial));
 }
 
-bool tracees_enter(pid_t thread, const struct key_row *row, const unsigned long given[KEY_ARGUMENTS],
+bool tracees_enter(const struct sender *sender, const struct key_row *row, const unsigned long given[KEY_ARGUMENTS],
                    bool (*is_valid)(void)) {
     all.is_valid = is_valid;
+    all.sender = sender;
     all.task = NULL;
-    struct task *task = have_entry(thread);
-    if (!task) {
-        memory_close(&all.memory);
-        return false;
-    }
+    struct task *task = have_entry(sender);
+    if (!task) return false;
     bool names_thread = key_row_names(row, given, KEY_SPEC_THREAD_KEYRING);
     all.asker.revokes =
         row->call == KEYCTL_REVOKE && task->has_joined && key_row_names(row, given, task->session->serial);
-    admission_put_identity(&all.identity, &all.status, is_of_user(task, row, given));
+    admission_put_identity(&all.identity, &sender->status, is_of_user(task, row, given));
     all.task = task;
     process_asks(task->process);
     task->process->has_threads |= names_thread || row->call == KEYCTL_JOIN_SESSION_KEYRING;
@@ -105,7 +115,6 @@ bool tracees_enter(pid_t thread, const struct key_row *row, const unsigned long 
 }
 
 void tracees_leave(void) {
-    memory_close(&all.memory);
     if (entries_are_many()) standings_make_descriptors(all.task, admission_may_be_forgotten);
     all.task = NULL;
 }
@@ -190,6 +199,7 @@ bool caller_enter(struct caller *caller) {
 void caller_leave(struct caller *caller, long result) {
     if (caller->serials->highest > highest) highest = caller->serials->highest;
     if (result < 0 && errno == ESRCH) context_forget(&caller->standing->context);
+    standing_may_have(who_stands(all.task), caller->standing, caller->may_hold_thread, caller->may_hold);
 }
 
 /* Its standing, which has joined a session, and may have another place then. */
@@ -241,7 +251,7 @@ static struct process *have_parent(const struct session *session) {
     struct process *process = find_process(parent);
     int descriptor = process ? -1 : proc_open(parent);
     bool is_one = (process || descriptor >= 0) && proc_read_status(parent, &status) &&
-                  admission_may_be_given(&all.status, session, &status);
+                  admission_may_be_given(&all.sender->status, session, &status);
     if (is_one && proc_parent(child) == parent) return process ? process : add_process(parent, descriptor);
     close_one(&descriptor);
     return NULL;
@@ -263,15 +273,36 @@ long tracees_session_to_parent(void) {
 
 /* ---- Room, and the sweep ---- */
 
-bool tracees_make_room(unsigned age) { return standings_make_room(age, all.task, admission_keeps); }
-bool tracees_want_sweep(void) { return entries_want_sweep() || sessions_want_sweep() || users_want_sweep(); }
+bool tracees_make_room(unsigned age) { return standings_make_room(age, all.task); }
+bool tracees_may_have_room(void) { return sessions_want_sweep(); }
+bool tracees_want_sweep(void) { return entries_to_sweep() > 0 || sessions_want_sweep() || users_want_sweep(); }
 
-void tracees_sweep(void) {
+static struct {
+    enum { OF_NOTHING, OF_ENTRIES, OF_SESSIONS } part;
+    unsigned left, count;
+} sweep;
+
+unsigned tracees_sweeps(void) { return sweep.count; }
+
+bool tracees_sweep(void) {
     contexts_set_deadline();
-    entries_sweep();
-    sessions_sweep(admission_keeps);
-    users_sweep();
-    contexts_tidy();
+    switch (sweep.part) {
+    case OF_NOTHING:
+        sweep.left = entries_to_sweep();
+        sweep.part = OF_ENTRIES;
+        return true;
+    case OF_ENTRIES:
+        sweep.left = entries_sweep(sweep.left);
+        if (sweep.left == 0) sweep.part = OF_SESSIONS;
+        return true;
+    case OF_SESSIONS:
+        if (sessions_sweep(admission_keeps)) return true;
+        users_sweep();
+        contexts_tidy();
+        sweep.part = OF_NOTHING;
+        sweep.count++;
+    }
+    return false;
 }
 
 /* ---- Beginning ---- */
@@ -286,7 +317,6 @@ static int begin_child(pid_t child) {
 
 int tracees_begin(const struct tracees_settings *settings, int epoll) {
     struct admission_process begun;
-    all.memory.file = -1;
     has_pipes = settings->has_pipes;
     entries_begin(epoll);
     admission_begin(settings->is_container, settings->first);

@@ -94,7 +94,7 @@ bool users_make_room(unsigned age) {
     for (struct user *user = all; user; user = user->next) {
         bool is_there = age ? user->context.age == age : !context_is_old(&user->context);
         bool is_one = is_there && may_be_given_up(user) && context_connection(&user->context);
-        if (!is_one || would_lose_keys(user)) continue;
+        if (!is_one || (user->has_keys = would_lose_keys(user))) continue;
         end_user(user);
         return true;
     }

@@ -37,20 +37,17 @@ static bool replaced(void) {
 }
 
 static char byte_of(pid_t process) {
-    struct memory memory;
     char byte = '?';
-    if (memory_open(&memory, process) == 0 && !memory_read(&memory, &byte, (unsigned long)shared_byte, 1)) byte = '!';
-    memory_close(&memory);
-    return byte;
+    return memory_read(process, &byte, (unsigned long)shared_byte, 1) ? byte : '!';
 }
 
 /* As for a call that names the thread keyring. */
 static bool enter(pid_t thread, bool (*is_valid)(void)) {
     const unsigned long given[KEY_ARGUMENTS] = { (unsigned long)(long)KEY_SPEC_THREAD_KEYRING };
-    return tracees_enter(thread, key_row_of(KEYCTL_GET_KEYRING_ID), given, is_valid);
+    static struct sender sender;
+    return sender_read(&sender, thread) &&
+           tracees_enter(&sender, key_row_of(KEYCTL_GET_KEYRING_ID), given, is_valid);
 }
-
-static const struct memory *entered_memory(void) { return &tracees_entered()->memory; }
 
 static long ask(int command, unsigned long one, unsigned long two) {
     struct arguments arguments = { { one, two } };
@@ -75,10 +72,6 @@ static void try_validity(void) {
     check("a notification that waits no more is not answered", !enter(child, never));
     check("and nothing of its thread stays open", count_descriptors() == descriptors);
     check("one that waits is", enter(child, always));
-    check("nothing is written for one that waits no more",
-          !memory_write(entered_memory(), (unsigned long)shared_byte, "x", 1, never) && byte_of(child) == 'a');
-    check("something is for one that waits",
-          memory_write(entered_memory(), (unsigned long)shared_byte, "x", 1, always) && byte_of(child) == 'x');
     tracees_leave();
     descriptors = count_descriptors();
     check("one that has asked before is", enter(child, always));
@@ -89,18 +82,15 @@ static void try_validity(void) {
 
 /* A stranger is never written to, though it has the number of who waited just before. */
 static void try_stranger(void) {
+    struct memory memory;
     pid_t child = begin_child();
-    check("a thread enters", enter(child, always));
-    memory_write(entered_memory(), (unsigned long)shared_byte, "x", 1, replaced);
-    check("who gets the number is not written to", byte_of(successor) == 'a');
-    tracees_leave();
-    end_child(successor);
-    child = begin_child();
-    char read = '?';
-    check("a thread enters again", enter(child, always));
+    check("the memory of a thread is opened", memory_open(&memory, child) == 0);
+    check("and written to", memory_write(&memory, (unsigned long)shared_byte, "x", 1) && byte_of(child) == 'x');
+    check("not where it may only read itself", !memory_write(&memory, (unsigned long)try_stranger, "x", 1));
     replaced();
-    check("nor read", !memory_read(entered_memory(), &read, (unsigned long)shared_byte, 1));
-    tracees_leave();
+    check("who gets its number is not written to",
+          !memory_write(&memory, (unsigned long)shared_byte, "x", 1) && byte_of(successor) == 'a');
+    memory_close(&memory);
     end_child(successor);
 }
 

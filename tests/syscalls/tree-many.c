@@ -77,6 +77,49 @@ static int ask_in_processes(int count, int id) {
     return 0;
 }
 
+/* ---- Many of another user that ask in a loop ---- */
+
+enum { CALLS = 9 };
+
+static int compare(const void *one, const void *other) {
+    unsigned long left = *(const unsigned long *)one, right = *(const unsigned long *)other;
+    return (left > right) - (left < right);
+}
+
+/* How many of their calls are answered while one of this process is: in the middle of some. */
+static int ask_beside(int count, bool joins) {
+    unsigned long *answered = mmap(NULL, sizeof *answered, PROT_READ | PROT_WRITE, MAP_SHARED | MAP_ANONYMOUS, -1, 0);
+    unsigned long between[CALLS];
+    begin();
+    for (int i = 0; i < count; i++)
+        if (fork() == 0) {
+            become_nobody();
+            give(0);
+            close(gates[1]);
+            for (struct pollfd gate = { .fd = gates[0], .events = POLLIN }; poll(&gate, 1, 0) == 0;) {
+                if (joins)
+                    join(NULL);
+                else
+                    ring_of(KEY_SPEC_PROCESS_KEYRING, 0);
+                __atomic_add_fetch(answered, 1, __ATOMIC_RELAXED);
+            }
+            _exit(0);
+        }
+    for (int i = 0; i < count; i++) take();
+    while (__atomic_load_n(answered, __ATOMIC_RELAXED) < (unsigned long)count / 10) usleep(LOOK_MICROSECONDS);
+    for (int i = 0; i < CALLS; i++) {
+        unsigned long before = __atomic_load_n(answered, __ATOMIC_RELAXED);
+        if (ring_of(KEY_SPEC_SESSION_KEYRING, 0) <= 0) return 2;
+        between[i] = __atomic_load_n(answered, __ATOMIC_RELAXED) - before;
+    }
+    close(gates[1]);
+    while (wait(NULL) > 0) continue;
+    qsort(between, CALLS, sizeof *between, compare);
+    if (between[CALLS / 2] > (unsigned long)count / 10) printf("%lu: ", between[CALLS / 2]);
+    puts(between[CALLS / 2] <= (unsigned long)count / 10 ? "few" : "many");
+    return 0;
+}
+
 /* ---- Threads ---- */
 
 static pthread_barrier_t barrier;
@@ -234,6 +277,7 @@ int many_modes(const char *mode, int many, int count, char **words) {
     if (strcmp(mode, "processes") == 0) return ask_in_processes(many, KEY_SPEC_SESSION_KEYRING);
     if (strcmp(mode, "keyrings") == 0) return ask_in_processes(many, KEY_SPEC_PROCESS_KEYRING);
     if (strcmp(mode, "threads") == 0) return ask_in_threads(many, KEY_SPEC_SESSION_KEYRING);
+    if (strcmp(mode, "beside") == 0) return ask_beside(many, count > 3);
     if (strcmp(mode, "thread-keyrings") == 0) return ask_in_threads(many, KEY_SPEC_THREAD_KEYRING);
     if (strcmp(mode, "sequence") == 0) return ask_in_sequence(many);
     if (strcmp(mode, "naming") == 0) return name_in_threads(many);

@@ -262,6 +262,16 @@ static int flood(int count, bool stays, bool is_thread) {
     return 0;
 }
 
+/* A payload in a page of this file, and once more; then a call without one. */
+static int ask_of_page(const char *path) {
+    int file = open(path, O_RDONLY);
+    const void *page = mmap(NULL, PAGE, PROT_READ, MAP_PRIVATE, file, 0);
+    for (int i = 0; i < 2; i++)
+        printf("%s, then ", add_key("user", "a", page, PAGE, KEY_SPEC_PROCESS_KEYRING) < 0 ? strerror(errno) : "added");
+    puts(ring_of(KEY_SPEC_PROCESS_KEYRING, 1) > 0 ? "served" : "refused");
+    return 0;
+}
+
 /* One who logs another user in joins a session for it; then many processes of a third user ask. */
 static int log_in_beside(int count) {
     long joined = setresuid(NOBODY, 0, 0) < 0 ? -1 : join(NULL);
@@ -549,6 +559,7 @@ int users_modes(const char *mode, int many, int count, char **words) {
     if (strcmp(mode, "login-beside") == 0) return log_in_beside(many);
     if (strcmp(mode, "left-key") == 0) return leave_key(many, count == 4);
     if (strcmp(mode, "flood") == 0) return flood(many, count > 3, count > 4);
+    if (strcmp(mode, "page") == 0 && count > 2) return ask_of_page(words[2]);
     if (strcmp(mode, "kept-in-session") == 0) return keep_in_session();
     if (strcmp(mode, "outlast") == 0) return outlast();
     if (strcmp(mode, "kept-serial") == 0 && count > 3)

@@ -3,7 +3,9 @@
 #define KEYRETAIN_TREE_H
 
 #include <grp.h>
+#include <poll.h>
 #include <sched.h>
+#include <sys/mman.h>
 #include <sys/prctl.h>
 #include <sys/resource.h>
 

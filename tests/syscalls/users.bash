@@ -315,3 +315,40 @@ try_users() {
   try_cheap_join
   try_named
 }
+
+# One user is one in the line, whatever that user has: of the calls of 400 processes that ask in a loop few are answered
+# between two of another user.
+try_turns() {
+  [ "$(id -u)" = 0 ] || { skipped 'turns of users: not root'; return; }
+  prints "400 processes of another user that ask: their calls within one" few "$dir/tree" beside 400
+  prints "200 that join a session each time" few "$dir/tree" beside 200 join
+  try_asks
+  try_page
+}
+
+# What no room is found for costs no asks of whom it might be taken from.
+try_asks() {
+  local asks
+  command -v strace >/dev/null || { skipped 'asks of calls that find no room: no strace'; return; }
+  timeout "$limit" strace -f -qq -e trace=sendto -e signal=none -o "$dir/asks" "$dir/now/keyretain-session" \
+    --syscalls -- "$dir/tree" keyrings 80 >/dev/null 2>&1
+  asks=$(grep -c 'sendto(.*, MSG_NOSIGNAL' "$dir/asks")
+  is 'asks for 160 calls, some of which find no room' 'five for each at most' \
+    "$([ "$asks" -gt 100 ] && [ "$asks" -le 800 ] && echo 'five for each at most' || echo "$asks")"
+}
+
+# A page of a file whose server doesn't answer: its user's call fails a second later, and others are answered meanwhile.
+try_page() {
+  local said
+  mkdir -p "$dir/page"
+  rm -f "$dir/asked"
+  said=$(unshare -m python3 -B "$lib/served.py" "$dir/page" read timeout -s KILL 30 "$dir/now/keyretain-session" \
+    --syscalls -- bash -c 'setpriv --reuid 65533 --clear-groups "$0" page "$1/file" >"$2" & until [ -e "$1.held" ]; do
+    sleep 0.02; done; timeout 5 "$0" session >/dev/null && echo served; wait; cat "$2"' \
+    "$dir/tree" "$dir/page" "$dir/asked" 2>/dev/null)
+  case $? in
+    77 | 127) skipped 'a page of a file whose server does not answer: no python3, or no FUSE can be had here' ;;
+    *) is "others, where a page of one's does not answer" \
+      $'served\nBad address, then Bad address, then served' "$said" ;;
+  esac
+}
