@@ -21,5 +21,8 @@ pages = $(foreach it,$(1),'$(SOURCES_OF_ALL)/man/$(it):$(MANDIR)/man$(subst .,,$
 put = @set -e; IFS=:; for row in $(1); do set -- $$row; to="$(DESTDIR)$$2"; install -d "$${to%/*}"; \
   case $$1:$$3 in *:link) ln -sf "$$1" "$$to" ;; *.service:*) \
     sed '/^Exec/{ s|@bindir@|$(BINDIR)|g; s|@sbindir@|$(SBINDIR)|g }' "$$1" >"$$to"; chmod "$$3" "$$to" ;; \
-  *) install -m "$$3" "$$1" "$$to" ;; esac; done
+  *) install -m "$$3" "$$1" "$$to" ;; esac; case $$1 in *.service) $(call whole,"$$to") ;; esac; done
+
+# $(call whole,FILE): fails where a word of what is installed still waits for what it stands for.
+whole = if grep -H '@[a-z][a-z]*@' $(1) >&2; then exit 1; fi
 take = @IFS=:; for row in $(1); do set -- $$row; rm -f "$(DESTDIR)$$2"; done

@@ -89,9 +89,10 @@ static long describe(struct caller *caller, int32_t id, char *buffer, size_t roo
     return length + 1;
 }
 
-/* The kernel says of an id that none can be that there is no key. */
+/* The kernel says of an id that none can be that there is no key, and puts no null byte behind a payload. */
 static long read_key(struct caller *caller, int32_t id, void *buffer, size_t room) {
-    long length = kr_read(caller->connection, caller->context, id, buffer, room);
+    const struct kr_field field = { .number = (uint32_t)id };
+    long length = kr_ask(caller->connection, KR_READ, caller->context, &field, buffer, room);
     return length < 0 && errno == EINVAL ? fail_as(ENOKEY) : length;
 }
 

@@ -56,6 +56,12 @@ static struct kr_field text(const char *text) { return items(text, text ? strlen
 #define SERIAL(operation, ...) (int32_t)NUMBER(operation, context, __VA_ARGS__)
 #define NOTHING(operation, context, ...) (int)NUMBER(operation, context, __VA_ARGS__)
 
+/* Ends an answer as a text where room is left for that. */
+static int64_t ended(int64_t length, char *buffer, size_t room) {
+    if (buffer && length >= 0 && (uint64_t)length < room) buffer[length] = '\0';
+    return length;
+}
+
 /* ---- Contexts ---- */
 
 int64_t kr_hello(struct kr *connection, uint32_t uid, uint32_t gid, uint32_t count, const uint32_t *groups) {
@@ -91,7 +97,7 @@ int kr_setperm(struct kr *connection, uint32_t context, int32_t key, uint32_t ma
 }
 
 int64_t kr_describe(struct kr *connection, uint32_t context, int32_t key, void *buffer, size_t room) {
-    return BYTES(KR_DESCRIBE, context, id(key));
+    return ended(BYTES(KR_DESCRIBE, context, id(key)), buffer, room);
 }
 
 int kr_clear(struct kr *connection, uint32_t context, int32_t ring) { return NOTHING(KR_CLEAR, context, id(ring)); }
@@ -110,7 +116,7 @@ int32_t kr_search(struct kr *connection, uint32_t context, int32_t head, const c
 }
 
 int64_t kr_read(struct kr *connection, uint32_t context, int32_t key, void *buffer, size_t room) {
-    return BYTES(KR_READ, context, id(key));
+    return ended(BYTES(KR_READ, context, id(key)), buffer, room);
 }
 
 int kr_set_timeout(struct kr *connection, uint32_t context, int32_t key, uint32_t seconds) {

@@ -8,7 +8,7 @@
  *
  * Times are seconds, but for milliseconds that are named so. Masks are those of keyctl_setperm(3). Serials are above 2;
  * the ids -1 to -5 are the keyrings of keyrings(7), KEY_SPEC_THREAD_KEYRING and so on. Lengths and rooms are bytes.
- * Texts end with a null byte, and NULL is the empty one. No answer has a null byte put after it. */
+ * Texts end with a null byte, and NULL is the empty one. */
 #ifndef KEYRETAIN_H
 #define KEYRETAIN_H
 
@@ -94,7 +94,7 @@ int kr_chown(struct kr *connection, uint32_t context, int32_t id, uint32_t uid, 
 int kr_setperm(struct kr *connection, uint32_t context, int32_t id, uint32_t mask);
 
 /* Answers the length of `type;uid;gid;mask;description`, which is in `buffer` where `room` holds all of it; else
- * nothing is put there. */
+ * nothing is put there. Where room is left a null byte follows, which isn't counted. */
 int64_t kr_describe(struct kr *connection, uint32_t context, int32_t id, void *buffer, size_t room);
 
 int kr_clear(struct kr *connection, uint32_t context, int32_t ring);

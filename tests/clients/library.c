@@ -22,6 +22,13 @@ static void try_keys(uint32_t uid) {
     snprintf(described, sizeof described, "user;%u;1000;3f010000;alpha", (unsigned)uid);
     check("it is described",
           is_text(described, kr_describe(connection, context, (int32_t)key, buffer, sizeof buffer), buffer));
+    memset(buffer, 'x', sizeof buffer);
+    check("a null byte where room is left", kr_read(connection, context, (int32_t)key, buffer, 3) == 2 &&
+          kr_describe(connection, context, (int32_t)key, buffer + 8, strlen(described) + 1) > 0 &&
+          memcmp(buffer, "s3\0xxxxx", 8) == 0 && strcmp(buffer + 8, described) == 0);
+    memset(buffer, 'x', sizeof buffer);
+    check("and none where it isn't", kr_read(connection, context, (int32_t)key, buffer, 2) == 2 &&
+          memcmp(buffer, "s3xx", 4) == 0);
     check("it is found", kr_search(connection, context, USER_KEYRING, "user", "alpha", 0) == key);
     check("it is updated", kr_update(connection, context, (int32_t)key, "new", 3) == 0);
     check("it is read anew", is_text("new", kr_read(connection, context, (int32_t)key, buffer, sizeof buffer), buffer));

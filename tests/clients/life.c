@@ -214,6 +214,9 @@ static void try_room(key_serial_t key) {
     check("puts nothing behind that", text[length - 1] == 'x' && text[length] == 'x');
     check("describe with room", keyctl_describe(key, text, (size_t)length) == length);
     check("puts a null byte at its end", text[length - 1] == '\0' && text[length] == 'x');
+    memset(text, 'x', sizeof text);
+    length = keyctl_read(key, text, sizeof text);
+    check("read puts nothing behind a payload", length > 0 && text[length - 1] != 'x' && text[length] == 'x');
 }
 
 /* keyctl_read_alloc(3): all of a payload, whatever its length. */

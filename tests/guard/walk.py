@@ -5,8 +5,10 @@ import os
 import pty
 import re
 import select
+import shutil
 import subprocess
 import sys
+import tempfile
 
 from compare import compare, conclude
 
@@ -51,6 +53,8 @@ class Shell:
 
 with open(page, encoding="utf-8") as file:
     walk = next(it for it in re.findall(r"^\.Bd -literal\n(.*?)^\.Ed$", file.read(), re.M | re.S) if "bob$" in it)
+folder = tempfile.mkdtemp(prefix="keyretain.")
+os.chmod(folder, 0o1777)
 shells = {"alice": Shell(1000), "bob": Shell(1001)}
 who = []
 for line in walk.splitlines():
@@ -58,9 +62,11 @@ for line in walk.splitlines():
     if prompt:
         who = [prompt[1]] if prompt[1] else list(shells)
         for name in who:
-            shells[name].type(prompt[2].replace("/run/keyretain/keyretain.sock", public))
+            typed = prompt[2].replace("/run/keyretain/keyretain.sock", public)
+            shells[name].type(typed.replace("/tmp/token", f"{folder}/token"))
     else:
         compare(f"{who[0]}, {line}", line, shells[who[0]].line())
 for name, shell in shells.items():
     compare(f"what else {name} is told", "", shell.end())
+shutil.rmtree(folder)
 conclude()
