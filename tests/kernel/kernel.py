@@ -15,7 +15,8 @@ import sys
 import traceback
 from typing import NamedTuple
 
-from compare import check, conclude, text_of  # noqa: F401
+from compare import check, conclude
+import coverage
 import play
 import rules
 import scripts
@@ -158,8 +159,7 @@ def tell(given, totals, pairs, ends, lines):
     print("rules that no seed needs: " + " ".join(
         name for name, rule in rules.RULES.items() if not totals[name] and rule.of_calls <= bool(given.calls)))
     if given.coverage:
-        for word in sorted({word for word, _ in pairs}):
-            print(f"{word}: " + ", ".join(f"{name} {count}" for (it, name), count in pairs.most_common() if it == word))
+        coverage.tell(pairs)
 
 
 def trace(given, seed):

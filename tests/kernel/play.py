@@ -1,14 +1,14 @@
 """A script on both sides, line by line."""
 import time
 
-from sides import BYTES, NUMBERED, serials
+from sides import BYTES, NUMBERED, PATIENCE, serials
 from lines import RINGS
 from rules import MAKING, Line
 from world import Key, World
 
 EPOCH = 1_000_000  # the moment here at which scripts begin
 TICK = 0.012  # seconds, the most by which the kernel's count of seconds is late
-SETTLED = 60  # times that the kernel is waited for
+SETTLED = 8  # times that the kernel is waited for, at least
 READING = {"print", "rdescribe", "search", "request", "id"}
 
 
@@ -136,8 +136,9 @@ class Play:
         """The key that a search answers, where no line has answered it yet."""
         if word not in ("search", "request"):
             return None
+        found = Line(self.world, word, words).matches + self.world.keys
         match = tuple(words[1:3] if word == "search" else words[:2])
-        return next((key for key in self.world.keys if not key.number and not key.gone and key.match == match), None)
+        return next((key for key in found if not key.number and not key.gone and key.match == match), None)
 
     def compare_bytes(self, line, linux, here):
         word, *words = line.split()
@@ -180,14 +181,16 @@ class Play:
         if word == "join" and words:
             gone = {key for key in self.world.keys if key.gone and key.match == ("keyring", words[0])}
         for key in gone - self.buried - self.kept:
-            for at in range(SETTLED // (8 if self.world.keeps else 1)):
-                # one whose serial no line has answered can't be looked for
-                if not self.kernel.is_there(self.of_linux[key]) if key.number else at == 4:
-                    self.buried.add(key)
+            # where nothing is known to keep it, it goes however busy the machine is
+            until = time.monotonic() + (0 if self.world.keeps else PATIENCE)
+            at = 0
+            # one whose serial no line has answered can't be looked for
+            while is_kept := self.kernel.is_there(self.of_linux[key]) if key.number else at < SETTLED / 2:
+                if at >= SETTLED and time.monotonic() > until:
                     break
                 self.kernel.settle()
-            else:
-                self.kept.add(key)
+                at += 1
+            (self.kept if is_kept else self.buried).add(key)
         self.held = bool(gone & self.kept)
 
     # ---- Time

@@ -44,7 +44,7 @@ class Drawer:
         self.harm = chance.choice([0, 0, 0.3, 1])  # of user keyrings
         self.deep = chance.random() < 0.3
         self.weights = {word: weight * chance.choice([0.3, 1, 1, 2.5]) for word, weight in WORDS.items()}
-        self.weights["wait"] *= chance.choice([0, 0, 2])
+        self.weights["wait"] *= chance.choice([0, 0, 1, 3])
         if not self.weights["wait"]:
             self.weights["timeout"] /= 2
         self.weights["hello"] *= not calls
@@ -69,7 +69,7 @@ class Drawer:
             "add": lambda: f"{self.match(True)} {self.data()} {ring()}",
             "newring": lambda: f"{self.ring_name()} {ring()}",
             "print": key, "rdescribe": key, "revoke": self.victim, "invalidate": self.victim,
-            "update": lambda: f"{key()} {self.data()}",
+            "update": lambda: f"{self.payload_key()} {self.data()}",
             "link": lambda: f"{self.ring() if self.deep or self.likely(0.4) else key()} {ring()}",
             "unlink": self.linked, "move": lambda: f"{self.linked()} {ring()}{self.either('', ' excl')}",
             "search": lambda: f"{ring()} {self.match()}{self.destination()}",
@@ -163,6 +163,9 @@ class Drawer:
             return self.named() or self.attached()
         return self.attached()
 
+    def payload_key(self):
+        return self.likely(0.7) and self.named(lambda key: not key.is_ring) or self.key()
+
     def ring(self):
         if self.likely(0.04):
             return self.key()
@@ -229,4 +232,4 @@ class Drawer:
         return self.one([0, 1000, 4294967295] + [1, 1, 1, 2, 2] * bool(self.weights["wait"]))
 
     def destination(self):
-        return f" {self.ring()}" if self.likely(0.25) else ""
+        return f" {self.key() if self.likely(0.1) else self.ring()}" if self.likely(0.25) else ""

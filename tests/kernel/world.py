@@ -73,7 +73,7 @@ class World:
     @property
     def keeps(self):
         """Whether Linux may keep what is gone here."""
-        return self.executed or self.left or bool(self.outlived) or any(key.invalidated for key in self.keys)
+        return self.executed or self.left or bool(self.outlived) or any(key.kept for key in self.keys)
 
     # ---- What words stand for
 
