@@ -2,6 +2,7 @@
  * The supervisor is built with sanitizers, and must be there afterwards. */
 #define _GNU_SOURCE
 #include <stdint.h>
+#include <sys/ioctl.h>
 #include <sys/mman.h>
 #include <time.h>
 
@@ -60,9 +61,24 @@ static int command(unsigned *seed) {
     return is_end && pick(seed, 8) != 0 ? KEYCTL_READ : command;
 }
 
+/* Pipes of notes that may be anywhere in the first numbers. */
+static void call_for_notes(unsigned *seed) {
+    int end = (int)(3 + pick(seed, 30));
+    switch (pick(seed, 8)) {
+    case 0: syscall(SYS_pipe2, pointer(seed), O_EXCL | (pick(seed, 4) ? O_NONBLOCK : any(seed))); break;
+    case 1: ioctl(end, 0x5760, length(seed)); break;
+    case 2: ioctl(end, 0x5761, pointer(seed)); break;
+    case 3: recv(end, area, pick(seed, PAGE), MSG_DONTWAIT); break;
+    case 4: close(end); break;
+    default: keyctl(KEYCTL_WATCH_KEY, id(seed), (unsigned long)end, pick(seed, 300) - 2, 0);
+    }
+}
+
 static void call(unsigned *seed) {
     area[pick(seed, 2 * PAGE)] = (char)rand_r(seed);
-    switch (pick(seed, 10)) {
+    switch (pick(seed, 12)) {
+    case 10:
+    case 11: call_for_notes(seed); break;
     case 0:
     case 1:
     case 2: syscall(SYS_add_key, pointer(seed), pointer(seed), pointer(seed), length(seed), id(seed)); break;
