@@ -1,7 +1,9 @@
-"""keys.py: items that somebody takes away in the store, that expire, or whose daemon ends."""
+"""keys.py: items that somebody takes away in the store, or changes there, that expire, or whose daemon ends."""
 import os
 
-from stage import ITEM, PATIENCE, RING, SESSION_COLLECTION, Caller, bus, compare, conclude, daemon, secrets, until
+from jeepney import HeaderFields, MatchRule, message_bus
+from stage import ITEM, PATIENCE, RING, SESSION_COLLECTION, ROOT, Caller, bus, compare, conclude, \
+    daemon, secrets, until
 import keyretain
 from keyretain.credentials import secret_items as items
 
@@ -24,7 +26,7 @@ def try_taken(caller):
         item = caller.create(session, {"w": "meanwhile"}, b"s3cret")
         read = items.load()[item.rpartition("/")[2]]
         client.revoke(context, key_of(client, context, item))
-        compare("what is revoked while it is changed", False, items.keep(read, 0, False))
+        compare("what is revoked while it is changed", None, items.keep(read, 0, False))
         compare("isn't put there again", ("NoSuchObject", ([], [])),
                 (caller.secret(item, session), caller.search({"w": "meanwhile"})))
         item = caller.create(session, {"w": "timeout"}, b"s3cret")
@@ -39,7 +41,38 @@ def try_taken(caller):
         compare("what somebody else has put there", ([], []), caller.search({}))
 
 
+def item_told(hearer):
+    """The next signal of an item, with its path."""
+    while True:
+        message = hearer.connection.receive(timeout=PATIENCE)
+        if (member := message.header.fields[HeaderFields.member]).startswith("Item"):
+            return member, message.body[0]
+
+
+def try_others(caller):
+    """What others do is told while the caller is there, and what it does itself is told once."""
+    with Caller() as hearer, keyretain.Client(timeout=PATIENCE) as client:
+        rule = MatchRule(type="signal", path_namespace=ROOT)
+        hearer.connection.send_and_get_reply(message_bus.AddMatch(rule), timeout=PATIENCE)
+        item = caller.create(caller.open_plain(), {"o": "p"}, b"one")
+        compare("its own", ("ItemCreated", item), item_told(hearer))
+        context = client.hello(os.geteuid(), os.getegid())
+        key, ring = key_of(client, context, item), client.search(context, keyretain.USER, "keyring", RING)
+        payload = client.read(context, key)
+        client.update(context, key, payload[:-3] + b"two")
+        compare("another changes it", ("ItemChanged", item), item_told(hearer))
+        name = f"{77:032}"
+        client.add(context, "user", f"secret {name}", payload, ring)
+        compare("another makes one", ("ItemCreated", f"{SESSION_COLLECTION}/{name}"), item_told(hearer))
+        client.unlink(context, key, ring)
+        compare("another deletes it", ("ItemDeleted", item), item_told(hearer))
+        client.clear(context, ring)
+        compare("or all", ("ItemDeleted", f"{SESSION_COLLECTION}/{name}"), item_told(hearer))
+
+
 with bus():
+    with daemon(), secrets(), Caller() as one:
+        try_others(one)
     with daemon() as server, secrets() as process, Caller() as one:
         try_taken(one)
         last = one.create(one.open_plain(), {"l": "m"}, b"s3cret")

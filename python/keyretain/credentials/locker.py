@@ -89,6 +89,17 @@ class Locker(AbstractContextManager["Locker"]):
         elif described[0] == b"user" and len(described) == 5:
             yield Entry(serial, described[4])
 
+    def watched(self, most: int) -> Iterator[bool]:
+        """Watches so many entries, the newest, and the keyrings that lead to them. Then it says each time whether
+        something has happened to them since."""
+        queue = self._client.open_queue(most)
+        links = self._client.read_ring(self._context, self._ring) if self._ring else []
+        for key in [USER, *([self._ring] if self._ring else []), *sorted(links, reverse=True)[:most]]:
+            with letting_pass((*GONE, errno.EACCES)):
+                self._client.watch(self._context, key, queue)
+        while True:
+            yield bool(self._client.read_queue(queue))
+
     def payload(self, entry: Entry) -> Optional[bytes]:
         """None where the entry has expired meanwhile, or was taken out."""
         with letting_pass(GONE):

@@ -3,6 +3,7 @@ the effective user. What it says of the uids of its clients it has from the kern
 from __future__ import annotations
 
 import os
+import select
 import socket
 import struct
 from contextlib import suppress
@@ -49,8 +50,12 @@ class Wire:
             read += piece
         return bytes(read)
 
-    def receive(self) -> Message:
-        return self._early.pop(0) if self._early else self._next(None)
+    def receive(self, seconds: Optional[float] = None) -> Optional[Message]:
+        """None where none comes in so many seconds."""
+        if self._early:
+            return self._early.pop(0)
+        comes = seconds is None or select.select([self._socket], [], [], seconds)[0]
+        return self._next(None) if comes else None
 
     def _next(self, patience: Optional[float]) -> Message:
         """The body is None where it is too long. What can't be read at all is a signal of no name."""

@@ -14,6 +14,26 @@ MOST = 1000  # items that are looked at: the newest
 FIELDS = ("label", "attributes", "content_type", "created", "modified")
 
 
+class Watch:
+    """A connection on which the items are watched, for as long as it isn't closed."""
+
+    def __init__(self) -> None:
+        self._locker = Locker(KEYRING)
+        self._news = self._locker.watched(MOST)
+        try:
+            next(self._news)
+        except BaseException:
+            self.close()
+            raise
+
+    def has_news(self) -> bool:
+        """Whether something has happened to them since."""
+        return next(self._news)
+
+    def close(self) -> None:
+        self._locker.__exit__()
+
+
 class Item(NamedTuple):
     """What one is, and its secret."""
 
@@ -62,15 +82,17 @@ def load() -> dict[str, Item]:
     return {item.name: item for item in read if item is not None}
 
 
-def keep(item: Item, seconds: int, is_new: bool) -> bool:
-    """For so many seconds, or without an end for 0. It is changed now. One that isn't new is in its place: False where
-    that is gone."""
-    head = json.dumps({**{field: getattr(item, field) for field in FIELDS}, "modified": int(time.time())})
+def keep(item: Item, seconds: int, is_new: bool) -> Optional[Item]:
+    """For so many seconds, or without an end for 0. It is changed now, and answered so. One that isn't new is in its
+    place: None where that is gone."""
+    kept = item._replace(modified=int(time.time()))
+    head = json.dumps({field: getattr(kept, field) for field in FIELDS})
     name, payload = f"{KIND} {item.name}", head.encode() + b"\n" + item.secret
     with Locker(KEYRING) as locker:
         if is_new:
             locker.put(name, payload, seconds)
-        return is_new or any(locker.update(entry, payload, seconds) for entry in locker.named(name))
+        is_kept = is_new or any(locker.update(entry, payload, seconds) for entry in locker.named(name))
+        return kept if is_kept else None
 
 
 def drop(name: str) -> None:

@@ -29,6 +29,7 @@ SESSIONS, NOTHING = f"{ROOT}/session", "/"  # NOTHING is also the prompt that no
 INTERFACES = ("Secret.Service", "Secret.Collection", "Secret.Item", "Secret.Session", "DBus.Properties",
               "DBus.Introspectable")
 SERVICE, COLLECTIONS, ITEM, SESSION, PROPERTIES, INTROSPECTABLE = (f"org.freedesktop.{it}" for it in INTERFACES)
+SHORTEST_PAUSE, LONGEST_PAUSE = 0.1, 1.0
 MOST_SESSIONS, MOST_OF_A_CLIENT, MOST_ATTRIBUTES, MOST_SECONDS = 1024, 64, 64, 0xffffffff
 SECRET = "(oayays)"
 
@@ -91,7 +92,11 @@ class Service:
         self._aliased = [f"{ALIASES}/{it}" for it in self._aliases]
         self._sessions: dict[str, Session] = {}
         self._opened, self._caller = 0, ""
-        self._seen: list[str] = []
+        self._seen: dict[str, int] = {}  # how each item was, by a number that tells no secret
+        self._has_looked = False
+        self._clients: set[str] = set()  # who has called, and is still there
+        self._watch: Optional[items.Watch] = None
+        self._last_news = time.monotonic()
 
     def answer(self, message: Message) -> None:
         """Carries a call out, and says what came of it. No other exception's text is told, as it may have a secret."""
@@ -113,6 +118,7 @@ class Service:
         self._caller = field(message, HeaderFields.sender)
         if not self._bus.is_own(self._caller):
             raise Failure("DBus.Error.AccessDenied", "another user's")
+        self._clients.add(self._caller)
         if message.body is None:
             raise Failure("DBus.Error.LimitsExceeded", "a message that is too long, or cannot be read")
         path, asked = field(message, HeaderFields.path), field(message, HeaderFields.interface)
@@ -132,6 +138,9 @@ class Service:
     def left(self, client: str) -> None:
         """What a client leaves behind that has gone."""
         self._sessions = {path: session for path, session in self._sessions.items() if session.owner != client}
+        self._clients.discard(client)
+        if not self._clients:
+            self._end_watch()
 
     def _kind_of(self, path: str) -> str:
         """The interface of an object. Whether an item is there is seen when it is read."""
@@ -152,16 +161,48 @@ class Service:
             raise Failure("Secret.Error.NoSession", "the caller has no such session")
         return session
 
+    def patience(self) -> Optional[float]:
+        """How many seconds to wait for a call before looking what others have changed; None while nobody listens. A
+        tenth of the time since they have."""
+        quiet = time.monotonic() - self._last_news
+        return min(max(SHORTEST_PAUSE, quiet / 10), LONGEST_PAUSE) if self._clients else None
+
+    def look(self) -> None:
+        """Tells what others have changed. What can't be had now is looked for again later."""
+        try:
+            if self._watch is None or self._watch.has_news():
+                watch = items.Watch()  # before the look, so that nothing is missed between them
+                self._end_watch()
+                self._watch, self._last_news = watch, time.monotonic()
+                self._load()
+        except OSError:
+            self._end_watch()
+
+    def _end_watch(self) -> None:
+        if self._watch is not None:
+            self._watch.close()
+        self._watch = None
+
     def _load(self) -> dict[str, items.Item]:
-        """Those that are there now, by their paths. What has gone since the last look is told."""
+        """Those that are there now, by their paths. What others have changed since the last look is told."""
         now = {f"{COLLECTION}/{name}": item for name, item in items.load().items()}
-        before, self._seen = self._seen, list(now)
-        gone = [path for path in before if path not in now]
-        for path in gone:
-            self._tell(COLLECTION, COLLECTIONS, "ItemDeleted", "o", (path,))
-        if gone:
-            self._tell_items()
+        before, self._seen = self._seen, {path: hash(repr(item)) for path, item in now.items()}
+        if self._has_looked:
+            self._tell_changes(before)
+        self._has_looked = True
         return now
+
+    def _tell_changes(self, before: dict[str, int]) -> None:
+        gone, new = ([path for path in one if path not in other]
+                     for one, other in ((before, self._seen), (self._seen, before)))
+        changed = [path for path, mark in before.items() if self._seen.get(path, mark) != mark]
+        for member, paths in (("ItemDeleted", gone), ("ItemCreated", new), ("ItemChanged", changed)):
+            for path in paths:
+                self._tell(COLLECTION, COLLECTIONS, member, "o", (path,))
+        for path in changed:
+            self._tell_properties(path, *SETTABLE)
+        if gone or new:
+            self._tell_items()
 
     def _item(self, path: str) -> items.Item:
         item = self._load().get(path)
@@ -173,14 +214,15 @@ class Service:
         """Answers the path. The names are those of the properties that have changed."""
         path = f"{COLLECTION}/{item.name}"
         is_new = path not in self._seen
-        if not items.keep(item, self._seconds, is_new):
+        kept = items.keep(item, self._seconds, is_new)
+        if kept is None:
             raise Failure("Secret.Error.NoSuchObject", "no such item")
+        self._seen[path] = hash(repr(kept))
         self._tell(COLLECTION, COLLECTIONS, "ItemCreated" if is_new else "ItemChanged", "o", (path,))
         if is_new:
-            self._seen.append(path)
             self._tell_items()
         else:
-            self._tell(path, PROPERTIES, "PropertiesChanged", "sa{sv}as", (ITEM, {}, [*names, "Modified"]))
+            self._tell_properties(path, *names)
         return path
 
     def _taken(self, secret: tuple[str, bytes, bytes, str]) -> bytes:
@@ -198,8 +240,11 @@ class Service:
         """A signal. No labels, attributes or secrets are in it, as who hears the bus isn't known."""
         self._bus.send(new_signal(DBusAddress(path, interface=interface), member, signature, body))
 
+    def _tell_properties(self, path: str, *names: str) -> None:
+        self._tell(path, PROPERTIES, "PropertiesChanged", "sa{sv}as", (ITEM, {}, [*names, "Modified"]))
+
     def _tell_items(self) -> None:
-        values = {"Items": ("ao", self._seen)}
+        values = {"Items": ("ao", list(self._seen))}
         self._tell(COLLECTION, PROPERTIES, "PropertiesChanged", "sa{sv}as", (COLLECTIONS, values, ["Modified"]))
         self._tell(ROOT, SERVICE, "CollectionChanged", "o", (COLLECTION,))
 
@@ -293,7 +338,7 @@ class Service:
             raise Failure("DBus.Error.UnknownInterface", "the object has no properties of this interface")
         there = [self._item(path)] if kind == ITEM else list(self._load().values())
         values: dict[str, Any] = {
-            "Collections": [COLLECTION], "Items": self._seen, "Label": ALIAS, "Locked": False,
+            "Collections": [COLLECTION], "Items": list(self._seen), "Label": ALIAS, "Locked": False,
             "Created": self._began, "Modified": max((it.modified for it in there), default=self._began)}
         if kind == ITEM:
             values.update(Label=there[0].label, Attributes=there[0].attributes, Created=there[0].created)
@@ -348,7 +393,10 @@ def main(words: Optional[Sequence[str]] = None) -> int:
         bus = Bus(NAME)
         service = Service(bus, seconds, given.default)
         while True:
-            message = bus.receive()
+            message = bus.receive(service.patience())
+            if message is None:
+                service.look()
+                continue
             gone = bus.gone(message)
             if gone is not None:
                 service.left(gone)
