@@ -36,7 +36,8 @@ static int32_t find_ring(void) {
     return all >= 0 || kr_found_none() ? 0 : -1;
 }
 
-int open_ring(void) {
+/* Connects, and enters the session. */
+static bool open_context(void) {
     struct kr_identity identity;
     close_ring();
     kr_own_identity(&identity);
@@ -44,11 +45,14 @@ int open_ring(void) {
     int64_t made = connection ? kr_hello_as(connection, &identity) : -1;
     context = (uint32_t)made;
     int entered = made < 0 ? -1 : kr_enter_session(connection, context, NULL);
-    if (entered < 0) return -1;
-    head = entered ? KEY_SPEC_SESSION_KEYRING : KEY_SPEC_USER_KEYRING;
-    keyring = find_ring();
-    return keyring < 0 ? -1 : kr_descriptor(connection);
+    head = entered > 0 ? KEY_SPEC_SESSION_KEYRING : KEY_SPEC_USER_KEYRING;
+    return entered >= 0;
 }
+
+/* False where the daemon doesn't tell. */
+static bool has_looked(void) { return (keyring = find_ring()) >= 0; }
+
+int open_ring(void) { return open_context() && has_looked() ? kr_descriptor(connection) : -1; }
 
 /* What was read stays. */
 static void close_connection(void) {
@@ -170,6 +174,18 @@ static bool find_key(struct bytes public_key, struct key *key) {
     return read_added(read_entry(find_entry(name_of(public_key))), key);
 }
 
+/* The same by few asks: what the user keyring reaches has no lock, and the user's own key of this name. A session
+ * reaches the user keyring's keys beside its own. Where it is otherwise the keyring is looked for first. */
+static bool find_at_once(struct bytes public_key, struct key *key) {
+    if (head != KEY_SPEC_USER_KEYRING) return false;
+    if (kr_search(connection, context, head, "user", lock_name, 0) >= 0 || errno != ENOKEY) return false;
+    return read_added(read_entry(kr_find_own(connection, context, head, "user", name_of(public_key))), key);
+}
+
+static bool find_unlocked(struct bytes public_key, struct key *key) {
+    return find_at_once(public_key, key) || (has_looked() && !is_locked() && find_key(public_key, key));
+}
+
 /* Whether the program of SSH_ASKPASS says yes, or nothing. Meanwhile neither a key nor a connection is held. */
 static bool is_allowed(struct bytes public_key, struct bytes comment) {
     char question[QUESTION_ROOM], said[ANSWER_ROOM] = "";
@@ -190,7 +206,7 @@ static bool sign(struct bytes asked, struct writer *reply) {
     struct bytes public_key = take_string(&asked), data = take_string(&asked);
     uint32_t flags = take_number(&asked, NUMBER);
     struct key key;
-    if (!asked.at || !find_key(public_key, &key)) return false;
+    if (!asked.at || !find_unlocked(public_key, &key)) return false;
     if (key.is_confirmed && !(is_allowed(public_key, key.comment) && find_key(public_key, &key))) return false;
     close_connection(); /* a heavy key holds up nobody but who uses it */
     put_number(reply, SIGN_RESPONSE, BYTE);
@@ -230,10 +246,11 @@ static bool turn_lock(bool unlocks, struct bytes passphrase) {
 static bool carry_out(struct bytes message, uint32_t lifetime, struct writer *reply) {
     struct bytes asked = message;
     uint32_t kind = take_number(&asked, BYTE);
+    if (kind == SIGN_REQUEST) return sign(asked, reply);
+    if (!has_looked()) return false;
     if (kind == UNLOCK) return turn_lock(true, take_string(&asked));
     if (kind == REQUEST_IDENTITIES) return put_identities(reply), true;
     if (is_locked()) return false;
-    if (kind == SIGN_REQUEST) return sign(asked, reply);
     if (kind == ADD_IDENTITY || kind == ADD_ID_CONSTRAINED) return add(message, lifetime, reply);
     if (kind == REMOVE_IDENTITY) return drop_entry(find_entry(name_of(take_string(&asked))));
     if (kind == REMOVE_ALL_IDENTITIES) return keyring <= 0 || kr_clear(connection, context, keyring) == 0;
@@ -244,7 +261,7 @@ bool is_guess(struct bytes message) { return take_number(&message, BYTE) == UNLO
 
 bool answer(struct bytes message, uint32_t lifetime, struct writer *reply) {
     put_number(reply, 0, NUMBER);
-    bool is_done = open_ring() >= 0 && carry_out(message, lifetime, reply) && !reply->is_bad;
+    bool is_done = open_context() && carry_out(message, lifetime, reply) && !reply->is_bad;
     close_ring();
     if (!is_done) *reply = (struct writer){ .at = reply->at, .length = NUMBER, .room = reply->room };
     if (reply->length == NUMBER) put_number(reply, is_done ? SUCCESS : FAILURE, BYTE);

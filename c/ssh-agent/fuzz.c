@@ -63,7 +63,8 @@ static void let_go(struct entry *entry) {
 int32_t kr_search(struct kr *connection, uint32_t context, int32_t ring, const char *type, const char *name,
                   int32_t destination) {
     check(connection, context);
-    if (destination || strcmp(type, "user") != 0 || ring != RING) abort();
+    bool is_head = ring == KEY_SPEC_USER_KEYRING;
+    if (destination || strcmp(type, "user") != 0 || (ring != RING && !is_head)) abort();
     for (int i = 0; i < ENTRIES; i++)
         if (entries[i].payload && strcmp(entries[i].name, name) == 0) return FIRST + i;
     errno = ENOKEY;
@@ -72,6 +73,7 @@ int32_t kr_search(struct kr *connection, uint32_t context, int32_t ring, const c
 
 int32_t kr_find_own(struct kr *connection, uint32_t context, int32_t ring, const char *type, const char *name) {
     check(connection, context);
+    if (strcmp(type, "user") == 0) return kr_search(connection, context, ring, type, name, 0);
     if (ring == RING || strcmp(type, "keyring") != 0 || strcmp(name, "ssh-agent") != 0) abort();
     errno = ENOKEY;
     return has_ring ? RING : -1;

@@ -17,10 +17,12 @@ enum { CLIENTS_MOST = 256, IDLE_SECONDS = 120, STALL_SECONDS = 10, SWEEP_SECONDS
 enum { USAGE = 2, DECIMAL = 10 };
 enum { NOT_HELD = -1, NEVER_HELD = -2 };
 
-static const char usage[] = "usage: keyretain-ssh-agent [-Ds] [-a SOCKET] [-t LIFETIME]\n"
-                            "       keyretain-ssh-agent [-s] -k\n";
+static const char usage[] = "usage: keyretain-ssh-agent [-c | -s] [-D] [-a SOCKET] [-t LIFETIME]\n"
+                            "       keyretain-ssh-agent [-a SOCKET] [-t LIFETIME] COMMAND [ARG ..]\n"
+                            "       keyretain-ssh-agent [-c | -s] -k\n";
 static char *path, folder[] = "/tmp/ssh-XXXXXX";
-static bool stays, has_folder;
+static bool stays, has_folder, is_csh; /* the last: commands are for csh(1) */
+static char **command; /* NULL for none */
 static uint32_t lifetime;
 static pid_t listening;
 static int turns; /* a file, locked by the client whose turn it is */
@@ -128,40 +130,73 @@ static uint32_t seconds_of(const char *words) {
 static _Noreturn void kill_agent(void) {
     const char *pid = getenv("SSH_AGENT_PID");
     if (!pid || atoi(pid) <= 1 || kill(atoi(pid), SIGTERM) < 0) errx(1, "SSH_AGENT_PID names no agent");
-    printf("unset SSH_AUTH_SOCK;\nunset SSH_AGENT_PID;\necho Agent pid %d killed;\n", atoi(pid));
+    const char *unset = is_csh ? "unsetenv" : "unset";
+    printf("%1$s SSH_AUTH_SOCK;\n%1$s SSH_AGENT_PID;\necho Agent pid %2$d killed;\n", unset, atoi(pid));
     exit(0);
 }
 
 static void read_options(int count, char **words) {
     static const struct option none[1]; /* getopt() would name one letter of a long option */
+    const char *shell = getenv("SHELL");
+    size_t length = shell ? strlen(shell) : 0;
+    bool kills = false;
     int option;
-    while ((option = getopt_long(count, words, "+a:DdE:kP:st:", none, NULL)) != -1) {
+    is_csh = length >= 3 && strcmp(shell + length - 3, "csh") == 0;
+    while ((option = getopt_long(count, words, "+a:cDdE:kP:st:", none, NULL)) != -1) {
         if (option == 'a') path = optarg;
+        if (option == 'c' || option == 's') is_csh = option == 'c';
         if (option == 'D' || option == 'd') stays = true;
-        if (option == 'k') kill_agent();
+        if (option == 'k') kills = true;
         if (option == '?' || (option == 't' && !(lifetime = seconds_of(optarg)))) break;
     }
-    if (option == -1 && !words[optind]) return;
+    command = words[optind] ? words + optind : NULL;
+    bool is_well = option == -1 && !(command && (stays || kills));
+    if (is_well && kills) kill_agent();
+    if (is_well) return;
     fputs(usage, stderr);
     exit(USAGE);
+}
+
+/* Runs the command with the agent in its environment, or has a shell set that. */
+static _Noreturn void hand_over(pid_t agent) {
+    char pid[16];
+    snprintf(pid, sizeof pid, "%d", (int)agent);
+    if (!command) exit(0);
+    if (setenv("SSH_AUTH_SOCK", path, 1) < 0 || setenv("SSH_AGENT_PID", pid, 1) < 0) err(1, "the environment");
+    execvp(*command, command);
+    warn("%s", *command);
+    kill(agent, SIGTERM);
+    exit(errno == ENOENT ? 127 : 126);
+}
+
+static void tell_shell(pid_t agent) {
+    const char *form = is_csh ? "setenv SSH_AUTH_SOCK %1$s;\nsetenv SSH_AGENT_PID %2$d;\necho Agent pid %2$d;\n"
+                              : "SSH_AUTH_SOCK=%1$s; export SSH_AUTH_SOCK;\nSSH_AGENT_PID=%2$d; export SSH_AGENT_PID;\n"
+                                "echo Agent pid %2$d;\n";
+    dprintf(STDOUT_FILENO, form, path, (int)agent);
+}
+
+/* In the background. With a command it ends when that does. */
+static void leave(pid_t starter) {
+    int nothing = open("/dev/null", O_RDWR | O_CLOEXEC);
+    for (int standard = 0; standard <= STDERR_FILENO; standard++) dup2(nothing, standard);
+    setsid();
+    if (command && (prctl(PR_SET_PDEATHSIG, SIGTERM) < 0 || getppid() != starter)) end(SIGTERM);
 }
 
 /* At the path that is named, or a new one. Says where, and goes into the background unless it is to stay. */
 static int begin_listening(void) {
     if (!path && (!(has_folder = mkdtemp(folder)) || asprintf(&path, "%s/agent.%d", folder, (int)getpid()) < 0))
         err(1, "%s", folder);
-    int listener = open_listener(path, 0600, DESCRIPTORS_REFUSED), nothing = open("/dev/null", O_RDWR | O_CLOEXEC);
+    int listener = open_listener(path, 0600, DESCRIPTORS_REFUSED);
     if (listener < 0 && has_folder) rmdir(folder);
     if (listener < 0) err(1, "%s", path);
     look_for_daemon();
-    pid_t agent = stays ? getpid() : fork();
+    pid_t starter = getpid(), agent = stays ? starter : fork();
     if (agent < 0) err(1, "fork");
-    if (agent) dprintf(STDOUT_FILENO, "SSH_AUTH_SOCK=%s; export SSH_AUTH_SOCK;\n", path);
-    if (agent) dprintf(STDOUT_FILENO, "SSH_AGENT_PID=%1$d; export SSH_AGENT_PID;\necho Agent pid %1$d;\n", (int)agent);
-    if (stays) return listener;
-    if (agent) exit(0);
-    for (int standard = 0; standard <= STDERR_FILENO; standard++) dup2(nothing, standard);
-    setsid();
+    if (agent && !command) tell_shell(agent);
+    if (agent && !stays) hand_over(agent);
+    if (!stays) listening = getpid(), leave(starter);
     return listener;
 }
 
