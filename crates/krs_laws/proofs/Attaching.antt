@@ -24,12 +24,13 @@ use Rattle.krs_model.proofs.Asks.{Joins.{found_least, passed_may}, Laws.law_of}
 use Rattle.krs_model.proofs.{History.Belongings.own_client, Lookups.Serials.{found_serial, own_there}}
 use Rattle.krs_model.proofs.Sound.Changes.{at_change, at_put, IsChanged, IsPut, not_there}
 use Rattle.krs_model.proofs.Sound.{Contexts.owner_there, NewContexts.own_process_there}
-use Rattle.krs_model.proofs.Sound.{Steps.{raised_sound, step_sound}}
+use Rattle.krs_model.proofs.Sound.{Steps.{legal_sound, raised_sound, step_sound}}
 use Rattle.krs_model.proofs.Tables.Changes.{at_alter_none, at_filter_none, at_kept, at_map, at_or_apart}
 use Rattle.krs_model.proofs.Tables.Changes.{at_without_other}
 use Rattle.krs_model.proofs.Tables.{Distinct.{alter_distinct, at_filter_some, at_without_same}}
 use Rattle.krs_model.proofs.Tables.{Entries.{filter_still, rises_distinct}}
-use Rattle.krs_laws.specs.Going.{AttachesByRight, ContextBegins, ContextEnds, ContextStays, Entered, Execed, Exited}
+use Rattle.krs_laws.specs.Going.{AllAttachesByRight, AttachesByRight, ContextBegins, ContextEnds, ContextStays, Entered}
+use Rattle.krs_laws.specs.Going.{Execed, Exited}
 use Rattle.krs_laws.specs.Going.{Greeted, IsNew}
 use Rattle.krs_laws.specs.Going.{Left, Stays, ThreadChanges}
 use Rattle.krs_laws.proofs.Rightly.{right_found}
@@ -497,10 +498,14 @@ ended_attaches s new event (Err e) sound after ends =
     attaches s event new s sound after Same (ap (λ (t : State). t.contexts) ends.1)
     (ap (λ (t : State). t.processes) ends.1) (ap (λ (t : State). t.uids) ends.1)
 
-pub step_attaches :
+step_attaches :
     (old new : State) (event : Event) → IsSound old → Step old event new
     → AttachesByRight (raised old event.moment) event new
 unfolding Step
 step_attaches old new event sound step =
     ended_attaches (raised old event.moment) new event event.reply (raised_sound old event.moment sound)
     (step_sound old new event sound step) step
+
+pub all_attach : (start : State) → IsSound start → AllAttachesByRight start
+all_attach start sound before old legal event new step =
+    step_attaches old new event (legal_sound start before old sound legal) step

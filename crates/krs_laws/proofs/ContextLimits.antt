@@ -1,15 +1,20 @@
 -- A client has at most 64 contexts.
 use Rattle.std.proofs.Common.{[], ◌+◌, ◌<◌, ◌==◌, ◌||◌, ◌∙◌, ◌∷◌, ◌≡◌, ◌≤◌, arith, Bool, cond, false, filter}
-use Rattle.std.proofs.Common.{nat_cmp, nat_le, not, Ok, Option, refl, subst, sym, true, ℕ}
+use Rattle.std.proofs.Common.{length, nat_cmp, nat_le, nat_lt, not, Ok, Option, refl, Some, subst, sym, true, ℕ}
 use Rattle.std.proofs.lemmas.{Bool.Decides.nat_tests, List.Sums.sum_by-cons}
 use Rattle.std.specs.{declared.cmp.Ordering.TheVariants.{Equal, Greater, Less}, Map.values_of}
 use Rattle.std.specs.Ordering.{match_ordering}
-use Rattle.krs_types.specs.declared.{ask.Op.Op, context.{Context.Context, UidRings.UidRings}}
-use Rattle.krs_model.specs.Asks.{Entering.without_thread, Hello.{context_count, has_context_left}}
+use Rattle.krs_types.specs.{Caller.caller_check, declared.ask.{Answer.Answer, Op.{Op, TheVariants.Hello}}}
+use Rattle.krs_types.specs.declared.{caller.Caller.Caller, context.{Context.Context, UidRings.UidRings}}
+use Rattle.krs_model.specs.Asks.{Entering.without_thread, Hello.{context_count, has_context_left, hello}}
 use Rattle.krs_model.specs.{Asks.{Invalidating.context_without, Leaving.left}, State.State, Table.{alter, map_values}}
-use Rattle.krs_model.specs.Table.{put, Table, without}
-use Rattle.krs_model.proofs.Asks.Houses.{Alters, Begins, Departs, Detaches, entering, Enters, Execs, Exits, Houses}
-use Rattle.krs_model.proofs.{Asks.Houses.{Rings, Same, Threads}, History.Belongings.own_client}
+use Rattle.krs_model.specs.{Step.outcome_of, Table.{at, IsDistinct, put, Table, without}}
+use Rattle.krs_model.proofs.Asks.Houses.{Alters, Begins, Departs, Detaches, entering, Enters, Execs, Exits, Forked}
+use Rattle.krs_model.proofs.Asks.Houses.{Houses}
+use Rattle.krs_model.proofs.Asks.{Houses.{Named, Rings, Same, Threads}, Later.bind_ok}
+use Rattle.krs_model.proofs.{History.Belongings.own_client, Lookups.Serials.own_there}
+use Rattle.krs_model.proofs.Tables.{Distinct.{alter_distinct, at_filter_some}, Each.{every_alter, every_map, every_put}}
+use Rattle.krs_model.proofs.Tables.Entries.{without_was}
 use Rattle.std.proofs.lemmas.Grind.{common_steps}
 
 -- 1 where the context is the client's
@@ -103,3 +108,51 @@ houses_few s client context op _ _ _ (Exits d is own) other few =
     omega (arith, without_count other s.contexts context)
 houses_few s client context op _ _ _ (Departs is) other few =
     omega (arith, filter_count other (λ e. not (e.1.client == client)) s.contexts)
+
+-- ---- groups
+abbrev HasFewGroups : Context → Type 0
+HasFewGroups c = length c.caller.groups ≤ 32
+
+abbrev pub AllGrouped : Table Context → Type 0
+AllGrouped contexts = (number : ℕ) (c : Context) → at contexts number ≡ Some c → HasFewGroups c
+
+checked_few : (c : Caller) (x : Unit {0}) → caller_check c ≡ Ok x → length c.groups ≤ 32
+checked_few c x h = grind (arith, common_steps, nat_lt, nat_tests)
+
+pub hello_few :
+    (s : State) (client context : ℕ) (caller : Caller) (end : State × Answer)
+    → outcome_of s client context (Hello caller) ≡ Ok end → length caller.groups ≤ 32
+unfolding hello
+hello_few s client context caller end h = grind (arith, common_steps, bind_ok, checked_few)
+
+pub houses_grouped :
+    (s : State) (client context : ℕ) (op : Op) (contexts : Table Context) (processes : Table (Option ℕ))
+    (uids : Table UidRings) → IsDistinct s.contexts → Houses s client context op contexts processes uids
+    → ((caller : Caller) → op ≡ Hello caller → length caller.groups ≤ 32) → AllGrouped s.contexts → AllGrouped contexts
+unfolding left
+houses_grouped s client context op _ _ _ distinct Same greets few = few
+houses_grouped s client context op _ _ _ distinct (Begins caller session rings room is none left begun) greets few =
+    every_put HasFewGroups s.contexts s.next_context (entering s client caller session) (greets caller is) few
+houses_grouped s client context op _ _ _ distinct (Enters _ _ room (Named caller rings is known) left) greets few =
+    every_put HasFewGroups s.contexts s.next_context (entering s client caller rings.session) (greets caller is) few
+houses_grouped s client context op _ _ _ distinct (Enters _ _ room (Forked d is own) left) greets few =
+    every_put HasFewGroups s.contexts s.next_context (entering s client d.caller d.session)
+    (few context d (own_there s client context d own)) few
+houses_grouped s client context op _ _ _ distinct (Threads d room is own left) greets few =
+    every_put HasFewGroups s.contexts s.next_context (without_thread d)
+    (few context d (own_there s client context d own)) few
+houses_grouped s client context op _ _ _ distinct (Alters d f own stays how) greets few =
+    every_alter HasFewGroups s.contexts context f
+    (λ c there. subst (λ (caller : Caller). length caller.groups ≤ 32) (sym (stays.caller c))) few
+houses_grouped s client context op _ _ _ distinct (Rings d n own begun) greets few = few
+houses_grouped s client context op _ _ _ distinct (Execs d is own) greets few = λ number c there.
+    every_alter HasFewGroups s.contexts context without_thread (λ v here short. short) few number c
+    (at_filter_some (λ e. not (e.1.process == d.process) || (e.0 == context))
+    (alter s.contexts context without_thread) number c
+    (alter_distinct s.contexts context without_thread distinct) there)
+houses_grouped s client context op _ _ _ distinct (Detaches d id gone is own found) greets few =
+    every_map HasFewGroups s.contexts (context_without gone.0) (λ v short. short) few
+houses_grouped s client context op _ _ _ distinct (Exits d is own) greets few = λ number c there.
+    few number c (without_was s.contexts context number c distinct there)
+houses_grouped s client context op _ _ _ distinct (Departs is) greets few = λ number c there.
+    few number c (at_filter_some (λ e. not (e.1.client == client)) s.contexts number c distinct there)

@@ -22,9 +22,10 @@ use Rattle.krs_model.specs.{Sweep.live_watches, Table.{at, Table, without}}
 use Rattle.krs_model.proofs.Asks.Effects.{Closes, Effect, effect_of, Filters, Leaves, OfKeys, Opens, Reads, Unwatches}
 use Rattle.krs_model.proofs.Asks.Effects.{Watches}
 use Rattle.krs_model.proofs.Asks.{Done.unwatched_is, Later.{bind_ok, same_ok}, Outcomes.{Meets, meets_after, meets_ok}}
-use Rattle.krs_model.proofs.{Lookups.Serials.found_serial, Notes.Called.served_at, Sound.Steps.raised_sound}
+use Rattle.krs_model.proofs.{Lookups.Serials.found_serial, Notes.Called.served_at}
+use Rattle.krs_model.proofs.{Sound.Steps.{legal_sound, raised_sound}}
 use Rattle.krs_model.proofs.{Tables.Distinct.{at_without_same, has_entry}}
-use Rattle.krs_laws.specs.Going.{QueuesByRight}
+use Rattle.krs_laws.specs.Going.{AllQueuesAreByRight, QueuesByRight}
 use Rattle.krs_laws.specs.Noting.{IsWatched, OwnsQueue, queue_asked}
 use Rattle.krs_laws.proofs.Attaching.{Begun, Ended, ends_now, NeverThere, not_other, Now, now_alter, now_filter}
 use Rattle.krs_laws.proofs.Attaching.{now_put, now_same, now_without, Stayed, stays_now}
@@ -258,7 +259,7 @@ ended_queues :
 ended_queues s new event (Ok answer) sound owns ends = served_queues s new event answer sound (owns refl) ends
 ended_queues s new event (Err e) sound owns ends = refused_queues s new event ends.1
 
-pub step_queues :
+step_queues :
     (old new : State) (event : Event) → IsSound old → Step old event new
     → QueuesByRight (raised old event.moment) event new
 unfolding Step
@@ -266,3 +267,7 @@ step_queues old new event sound step =
     ended_queues (raised old event.moment) new event event.reply (raised_sound old event.moment sound)
     (λ accepted number is. let own = owners_ask old new event number step accepted is in
     record { queue = own.queue; there = own.there; own = own.own }) step
+
+pub all_end : (start : State) → IsSound start → AllQueuesAreByRight start
+all_end start sound before old legal event new step =
+    step_queues old new event (legal_sound start before old sound legal) step

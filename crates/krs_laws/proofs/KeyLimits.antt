@@ -1,5 +1,6 @@
 -- Payloads and links stay within their limits.
-use Rattle.std.proofs.Common.{[], ap, arith, Bool, codes, cond, Err, false, find, length, List, nat_le, None, Ok}
+use Rattle.std.proofs.Common.{[], ap, arith, Bool, codes, cond, Err, false, find, length, List, nat_le, nat_lt, None}
+use Rattle.std.proofs.Common.{Ok}
 use Rattle.std.proofs.Common.{Option, refl, Result, Some, subst, sym, true, true≢false, ℕ, ℤ, ⊎_elim, ◌&&◌, ◌+◌, ◌<◌}
 use Rattle.std.proofs.{Common.{◌==◌, ◌∙◌, ◌∷◌, ◌≡◌, ◌≤◌}, lemmas.{Bool.Decides.nat_tests, Option.none-some}}
 use Rattle.std.proofs.lemmas.Option.{same_Some}
@@ -8,7 +9,7 @@ use Rattle.krs_types.specs.declared.{errno.Errno.TheVariants.{ENOKEY}, key_id.Ke
 use Rattle.krs_types.specs.declared.kind.{Kind.TheVariants.Keyring, PayloadRule.{PayloadRule, TheVariants.NoBytes}}
 use Rattle.krs_types.specs.declared.{kind.PayloadRule.TheVariants.SomeBytes, name.Name.Name}
 use Rattle.krs_types.specs.{declared.rights.Want.TheVariants.Granted, KeyId.key_id_of}
-use Rattle.krs_types.specs.{Kind.{paid_by, same_kind}, Refusing.{or_refuse}}
+use Rattle.krs_types.specs.{Kind.{described, paid_by, same_kind}, Refusing.{or_refuse}}
 use Rattle.krs_types.specs.Rights.{has_all, WRITE}
 use Rattle.krs_model.specs.{Access.{is_alive, rights_on}, Asks.Adding.{added, admitted, by_match, if_room, Made}}
 use Rattle.krs_model.specs.Asks.{Adding.{new_key, over_match, Place, place_of, Updated}, Changing.{emptied}}
@@ -28,23 +29,45 @@ use Rattle.std.proofs.lemmas.Grind.{common_steps}
 
 pub record AllShort (keys : Table Key) : Type 0 where
   pub each : (k : ℕ) (key : Key) → at keys k ≡ Some key → IsShort key.content
+  pub descs : (k : ℕ) (key : Key) → at keys k ≡ Some key → length key.desc ≤ 4095
 
 abbrev IsShortKey : Key → Type 0
 IsShortKey key = IsShort key.content
 
-pub short_put : (keys : Table Key) (n : ℕ) (v : Key) → IsShort v.content → AllShort keys → AllShort (put keys n v)
-short_put keys n v short all = record { each = every_put IsShortKey keys n v short all.each }
+abbrev HasShortDesc : Key → Type 0
+HasShortDesc key = length key.desc ≤ 4095
+
+-- a change that leaves the description
+abbrev pub LeavesDesc : (Key → Key) → Type 0
+LeavesDesc f = (v : Key) → (f v).desc ≡ v.desc
+
+left_short : (f : Key → Key) (v : Key) → LeavesDesc f → HasShortDesc v → HasShortDesc (f v)
+left_short f v same short = subst (λ (desc : List ℕ). length desc ≤ 4095) (sym (same v)) short
+
+pub short_put :
+    (keys : Table Key) (n : ℕ) (v : Key) → IsShort v.content → length v.desc ≤ 4095 → AllShort keys
+    → AllShort (put keys n v)
+short_put keys n v short named all = record {
+  each = every_put IsShortKey keys n v short all.each;
+  descs = every_put HasShortDesc keys n v named all.descs;
+}
 
 pub short_alter :
     (keys : Table Key) (n : ℕ) (f : Key → Key)
-    → ((v : Key) → at keys n ≡ Some v → IsShort v.content → IsShort (f v).content) → AllShort keys
+    → ((v : Key) → at keys n ≡ Some v → IsShort v.content → IsShort (f v).content) → LeavesDesc f → AllShort keys
     → AllShort (alter keys n f)
-short_alter keys n f stays all = record { each = every_alter IsShortKey keys n f stays all.each }
+short_alter keys n f stays same all = record {
+  each = every_alter IsShortKey keys n f stays all.each;
+  descs = every_alter HasShortDesc keys n f (λ v there. left_short f v same) all.descs;
+}
 
 pub short_map :
-    (keys : Table Key) (f : Key → Key) → ((v : Key) → IsShort v.content → IsShort (f v).content) → AllShort keys
-    → AllShort (map_values f keys)
-short_map keys f stays all = record { each = every_map IsShortKey keys f stays all.each }
+    (keys : Table Key) (f : Key → Key) → ((v : Key) → IsShort v.content → IsShort (f v).content) → LeavesDesc f
+    → AllShort keys → AllShort (map_values f keys)
+short_map keys f stays same all = record {
+  each = every_map IsShortKey keys f stays all.each;
+  descs = every_map HasShortDesc keys f (λ v. left_short f v same) all.descs;
+}
 
 pub unlinked_short : (serial : ℕ) (content : Content) → IsShort content → IsShort (unlinked_content serial content)
 unlinked_short serial (Payload bytes) short = short
@@ -163,6 +186,16 @@ pub admitted_short :
 unfolding admitted
 admitted_short type_name desc payload name h = grind (arith, common_steps, bind_ok, paid_short)
 
+-- and its description
+bad_text : (desc : List ℕ) (x : Unit {0}) → described desc ≡ Ok x → length desc ≤ 4095
+bad_text desc x h = grind (arith, common_steps, nat_lt, nat_tests)
+
+pub admitted_named :
+    (type_name desc payload : List ℕ) (name : Name) → admitted type_name desc payload ≡ Ok name
+    → length name.desc ≤ 4095
+unfolding admitted
+admitted_named type_name desc payload name h = grind (arith, common_steps, bind_ok, bad_text)
+
 -- a further link fits into the keyring
 abbrev Takes : State → Name → List ℕ → Type 0
 Takes s name links =
@@ -239,12 +272,13 @@ links_short p serial content links is takes short = grind (arith, common_steps)
 pub added_short :
     (s : State) (c : Context) (name : Name) (payload : List ℕ) (id : ℤ) (place : Place)
     → place_of s c name id ≡ Ok place
-    → at s.keys s.next_serial ≡ None → length payload ≤ 32767 → AllShort s.keys
+    → at s.keys s.next_serial ≡ None → length payload ≤ 32767 → length name.desc ≤ 4095 → AllShort s.keys
     → AllShort (added s c name payload place).keys
 unfolding place_of
-added_short s c name payload id (Updated serial) h none fits all =
-    short_alter s.keys serial (updated payload) (λ v _ short. updated_short payload v.content fits short) all
-added_short s c name payload id (Made r) h none fits all =
+added_short s c name payload id (Updated serial) h none fits named all =
+    short_alter s.keys serial (updated payload) (λ v _ short. updated_short payload v.content fits short) (λ v. refl)
+    all
+added_short s c name payload id (Made r) h none fits named all =
     let n = s.next_serial in
     let key = new_key name payload c.caller.uid c.caller.gid in
     let a = bind_ok (look_up s c id (Granted WRITE)) _ (Made r) h in
@@ -262,4 +296,4 @@ added_short s c name payload id (Made r) h none fits all =
     let same : a.0.1 ≡ v = same_Some a.0.1 v (sym there ∙ was) in
     links_short (λ k. is_named name (at s.keys k)) n v.content b.0
     (ap (λ (z : Key). z.content) (sym same) ∙ links_are a.0.1.content b.0 b.1) (takes n) short)
-    (short_put s.keys n key (first_short (same_kind name.kind Keyring) payload fits) all)
+    (λ v. refl) (short_put s.keys n key (first_short (same_kind name.kind Keyring) payload fits) named all)

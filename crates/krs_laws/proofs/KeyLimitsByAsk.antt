@@ -1,6 +1,8 @@
 -- Payloads and links stay within their limits, ask by ask.
-use Rattle.std.proofs.Common.{◌==◌, arith, Bool, codes, false, List, nat_lt, None, Ok, Option}
-use Rattle.std.proofs.Common.{Some, true, ℕ, ℤ, ◌≡◌}
+use Rattle.std.proofs.Common.{[], ◌%◌, ◌+◌, ◌/◌, ◌==◌, ◌∷◌, ◌≤◌, arith, Bool, codes, cond, decimal, false, length, List}
+use Rattle.std.proofs.Common.{length-append, nat_lt, None, Ok, Option, Some, suc, true, zero, ℕ, ℤ, ◌≡◌}
+use Rattle.std.proofs.lemmas.Bool.Decides.{nat_tests}
+use Rattle.std.specs.Fmt.{digit_glyph, digits, digits_onto}
 use Rattle.krs_types.specs.Rights.{LINK, WRITE}
 use Rattle.krs_types.specs.declared.ask.Op.{Op}
 use Rattle.krs_types.specs.declared.ask.Op.TheVariants.{Add, Link, Move, Request, Search, Update}
@@ -13,8 +15,8 @@ use Rattle.krs_types.specs.declared.rights.Want.TheVariants.{Granted}
 use Rattle.krs_model.specs.Asks.Adding.{add, admitted, place_of}
 use Rattle.krs_model.specs.Asks.Changing.{update}
 use Rattle.krs_model.specs.Asks.Finding.{made_where}
-use Rattle.krs_model.specs.Asks.Hello.{with_uid}
-use Rattle.krs_model.specs.Asks.Joining.{session_joined, session_ring}
+use Rattle.krs_model.specs.Asks.Hello.{uid_ring, with_uid}
+use Rattle.krs_model.specs.Asks.Joining.{session_joined, session_named, session_ring}
 use Rattle.krs_model.specs.Asks.Linked.{unless}
 use Rattle.krs_model.specs.Asks.Moving.{move_link, moved}
 use Rattle.krs_model.specs.Lookup.{context_of, look_up}
@@ -22,7 +24,7 @@ use Rattle.krs_model.specs.Making.{made_for}
 use Rattle.krs_model.specs.Search.{found}
 use Rattle.krs_model.specs.State.{Key, State}
 use Rattle.krs_model.specs.Step.{each_ask, outcome_of}
-use Rattle.krs_model.specs.Table.{at}
+use Rattle.krs_model.specs.Table.{at, put}
 use Rattle.krs_model.proofs.Asks.Fares.{meets_by}
 use Rattle.krs_model.proofs.Asks.LaterByAsk.{moved_is}
 use Rattle.krs_model.proofs.Asks.Outcomes.{Meets, meets_after, meets_ok, meets_within}
@@ -30,7 +32,8 @@ use Rattle.krs_model.proofs.Lookups.Laws.{look_up_usable}
 use Rattle.krs_model.proofs.Sound.Changes.{Stands}
 use Rattle.krs_model.proofs.Sound.NewContexts.{made_for_stands}
 use Rattle.krs_laws.specs.Limits.{IsShort}
-use Rattle.krs_laws.proofs.KeyLimits.{added_short, admitted_short, AllShort, cleared_short, emptied_short, found_short}
+use Rattle.krs_laws.proofs.KeyLimits.{added_short, admitted_named, admitted_short, AllShort, cleared_short}
+use Rattle.krs_laws.proofs.KeyLimits.{emptied_short, found_short}
 use Rattle.krs_laws.proofs.KeyLimits.{linked_short, made_short, moved_short, paid_short, short_alter, short_map}
 use Rattle.krs_laws.proofs.KeyLimits.{short_put, unlinked_short, updated_short}
 use Rattle.std.proofs.lemmas.Grind.{common_steps}
@@ -55,7 +58,7 @@ add_short s client context type_name desc payload ring stands all =
     (made_for_stands s context c ring stands).unused made.0.next_serial (omega arith) in
     meets_after (place_of made.0 made.1 name ring) _ (λ place is.
     meets_ok (added_short made.0 made.1 name payload ring place is none
-    (admitted_short type_name desc payload name fits)
+    (admitted_short type_name desc payload name fits) (admitted_named type_name desc payload name fits)
     (made_short s context c ring all)))))
 
 where_short : (create : Bool) (s : State) (context : ℕ) (c : Context) (id : ℤ) → AllShort s.keys
@@ -66,15 +69,48 @@ where_short false s context c id all = all
 session_short : (name : List ℕ) (c : Caller) → IsShort (session_ring name c).content
 session_short name c = grind (arith, common_steps, codes)
 
-joined_short : (s : State) (context : ℕ) (c : Context) (name : List ℕ) (answer : Option (ℕ × Key)) → AllShort s.keys
+session_named_short : (name : List ℕ) (c : Caller) (x : Unit {0}) → session_named name ≡ Ok x
+    → length (session_ring name c).desc ≤ 4095
+session_named_short name c x h = grind (arith, common_steps, codes, nat_lt, nat_tests)
+
+joined_short :
+    (s : State) (context : ℕ) (c : Context) (name : List ℕ) (answer : Option (ℕ × Key)) (x : Unit {0})
+    → session_named name ≡ Ok x → AllShort s.keys
     → Meets (λ (new : State). AllShort new.keys) (session_joined s context c name answer)
-joined_short s context c name (Some there) all = meets_ok all
-joined_short s context c name None all = grind (arith, common_steps, meets_ok, short_put, session_short)
+joined_short s context c name (Some there) x fits all = meets_ok all
+joined_short s context c name None x fits all =
+    meets_ok (short_put s.keys s.next_serial (session_ring name c.caller) (session_short name c.caller)
+    (session_named_short name c.caller x fits) all)
+
+-- decimals of a number are 64 at most
+digits_length : (k base n : ℕ) (upper : Bool) (acc : List ℕ)
+    → length (digits_onto k base upper n acc) ≤ k + length acc
+digits_length zero base n upper acc = omega arith
+digits_length (suc k) base n upper acc =
+    let more = digits_length k base (n / base) upper (digit_glyph upper (n % base) ∷ acc) in
+    elim (n / base == 0) as (λ b. length (cond b (digit_glyph upper (n % base) ∷ acc)
+    (digits_onto k base upper (n / base) (digit_glyph upper (n % base) ∷ acc))) ≤ suc k + length acc) [
+      | true ↦ omega arith
+      | false ↦ omega arith
+    ]
+
+decimal_short : (n : ℕ) → length (decimal n) ≤ 64
+unfolding digits
+decimal_short n = let most = digits_length 64 10 n false [] in omega arith
+
+uid_named : (prefix links : List ℕ) (c : Caller) → length prefix ≤ 9 → length (uid_ring prefix links c).desc ≤ 4095
+uid_named prefix links c short =
+    let most = decimal_short c.uid in let all = length-append prefix (decimal c.uid) in omega arith
 
 uid_short : (s : State) (caller : Caller) (rings : Option UidRings) → AllShort s.keys
     → AllShort (with_uid s caller rings).keys
 uid_short s caller (Some rings) all = all
-uid_short s caller None all = grind (arith, common_steps, codes, short_put)
+uid_short s caller None all =
+    let first = uid_ring (codes "_uid.") [] caller in
+    let second = uid_ring (codes "_uid_ses.") (s.next_serial ∷ []) caller in
+    short_put (put s.keys s.next_serial first) (s.next_serial + 1) second (omega arith)
+    (uid_named (codes "_uid_ses.") (s.next_serial ∷ []) caller (omega arith))
+    (short_put s.keys s.next_serial first (omega arith) (uid_named (codes "_uid.") [] caller (omega arith)) all)
 
 move_short : (s : State) (client context : ℕ) (key from to : ℤ) (flags : ℕ) → AllShort s.keys
     → Shortly s client context (Move key from to flags)

@@ -1,11 +1,12 @@
 -- Queues and what waits in them stay within their limits.
 use Rattle.std.proofs.Common.{[], ap, arith, Bool, filter, length, List, nat_cmp, nat_le, nat_lt, not}
 use Rattle.std.proofs.Common.{Ok, refl, Some, subst, sym, ℕ, ◌++◌, ◌+◌, ◌-◌, ◌<◌, ◌==◌, ◌∙◌, ◌∷◌, ◌≡◌, ◌≤◌}
-use Rattle.std.proofs.lemmas.Bool.Decides.{nat_tests}
-use Rattle.krs_types.specs.declared.ask.{Answer.Answer, Op.{Op, TheVariants.OpenQueue}}
-use Rattle.krs_types.specs.declared.{errno.Errno.TheVariants.{ENFILE}, note.Record.Record}
+use Rattle.std.proofs.lemmas.{Bool.Decides.nat_tests, Option.{none-some, same_Some}}
+use Rattle.krs_types.specs.declared.ask.{Answer.Answer, Op.{Op, TheVariants.{OpenQueue, SetFilter}}}
+use Rattle.krs_types.specs.declared.{errno.Errno.TheVariants.{ENFILE}, note.{FilterEntry.FilterEntry, Record.Record}}
 use Rattle.krs_model.specs.Asks.{Leaving.left, Linked.unless, Watching.{after_read, new_queue, open_queue, opened}}
-use Rattle.krs_model.specs.{Asks.Watching.with_filter, Notes.{Bytes.{bytes_of}, Front.behind}}
+use Rattle.krs_model.specs.Asks.Watching.{filtered, set_filter, with_filter}
+use Rattle.krs_model.specs.Notes.{Bytes.{bytes_of}, Filter.filter_of, Front.behind}
 use Rattle.krs_model.specs.Notes.{Posting.{after_note, after_notes, Post, post_all, records_for}, Stream.room_of}
 use Rattle.krs_model.specs.{Notes.Waiting.{after_post, total_room}, Orderly.AreOrderly}
 use Rattle.krs_model.specs.{Queues.{Queues, queues_of}, State.{Queue, State}, Step.{outcome_of, posts_by, Serves}}
@@ -80,10 +81,27 @@ opened_few : (s : State) (client context capacity : ℕ) (end : State × Answer)
 unfolding open_queue opened
 opened_few s client context capacity end h = grind (arith, common_steps, bind_ok, nat_le, few_open)
 
+-- ---- filters
+abbrev HasShortFilter : Queue → Type 0
+HasShortFilter queue = (entries : List FilterEntry) → queue.filter ≡ Some entries → length entries ≤ 16
+
+good_short : (entries good : List FilterEntry) → filter_of entries ≡ Ok good → length entries ≤ 16
+good_short entries good h = grind (arith, common_steps, nat_le, nat_tests)
+
+filtered_short : (s : State) (client context number : ℕ) (entries : List FilterEntry) (end : State × Answer)
+    → outcome_of s client context (SetFilter number entries) ≡ Ok end → length entries ≤ 16
+unfolding set_filter filtered
+filtered_short s client context number entries end h = grind (arith, common_steps, bind_ok, good_short)
+
+notes_filter : (notes : List Record) (queue : Queue) → HasShortFilter queue → HasShortFilter (after_notes notes queue)
+notes_filter [] queue short = short
+notes_filter (note ∷ notes) queue short = notes_filter notes (after_note note queue) short
+
 -- what an accepted ask leaves of queues
 pub record QueuesWithin (queues : Table Queue) : Type 0 where
   pub few : length queues ≤ 256
   pub wait : AllWait queues
+  pub filters : (number : ℕ) (queue : Queue) → at queues number ≡ Some queue → HasShortFilter queue
 
 effect_within :
     (s : State) (client context : ℕ) (op : Op) (mid : State) (answer : Answer)
@@ -98,19 +116,26 @@ effect_within s client context _ _ _ h orderly (Opens capacity held) was =
     record {
       few = omega arith;
       wait = every_put Fits s.queues s.next_queue (new_queue client capacity) (omega arith) was.wait;
+      filters = every_put HasShortFilter s.queues s.next_queue (new_queue client capacity)
+          (λ entries none. absurd (none-some entries none)) was.filters;
     }
 effect_within s client context _ _ _ h orderly (Filters number entries queue there) was = record {
   few = let same = alter_length s.queues number (with_filter entries) in let few = was.few in omega arith;
   wait = every_alter Fits s.queues number (with_filter entries) (λ q _ fits. fits) was.wait;
+  filters = every_alter HasShortFilter s.queues number (with_filter entries) (λ q _ short es is.
+      subst (λ (fs : List FilterEntry). length fs ≤ 16) (same_Some entries es is)
+      (filtered_short s client context number entries _ h)) was.filters;
 }
 effect_within s client context _ _ _ h orderly (Reads number room queue there) was = record {
   few = let same = alter_length s.queues number (after_read room) in let few = was.few in omega arith;
   wait = every_alter Fits s.queues number (after_read room)
       (λ q _ fits. let less = behind_room room q.waiting in omega arith) was.wait;
+  filters = every_alter HasShortFilter s.queues number (after_read room) (λ q _ short. short) was.filters;
 }
 effect_within s client context _ _ _ h orderly (Closes number queue there) was = record {
   few = let less = without_length s.queues number in let few = was.few in omega arith;
   wait = λ k q here. was.wait k q (without_was s.queues number k q orderly.distinct here);
+  filters = λ k q here. was.filters k q (without_was s.queues number k q orderly.distinct here);
 }
 effect_within s client context _ _ _ h orderly (Watches id watch_id number key n queue known there asked fits) was = was
 effect_within s client context _ _ _ h orderly (Unwatches id watch_id number key n queue known named
@@ -120,6 +145,8 @@ effect_within s client context _ _ _ h orderly Leaves was = record {
   few = let less = filter_length (λ e. not (e.1.client == client)) s.queues in let few = was.few in omega arith;
   wait = λ k q here.
       was.wait k q (at_filter_some (λ e. not (e.1.client == client)) s.queues k q orderly.distinct here);
+  filters = λ k q here.
+      was.filters k q (at_filter_some (λ e. not (e.1.client == client)) s.queues k q orderly.distinct here);
 }
 
 pub served_within :
@@ -137,4 +164,8 @@ served_within s new client context op answer serves orderly effect was =
       wait = λ number queue there.
           let old = mapped_is _ (at serves.mid.queues number) queue (sym (served_at serves number) ∙ there) in
           subst Fits old.2 (notes_fit (records_for number _) old.0 (mid.wait number old.0 old.1));
+      filters = λ number queue there.
+          let old = mapped_is _ (at serves.mid.queues number) queue (sym (served_at serves number) ∙ there) in
+          subst HasShortFilter old.2
+          (notes_filter (records_for number _) old.0 (mid.filters number old.0 old.1));
     }
