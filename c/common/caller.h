@@ -81,10 +81,15 @@ struct serials {
     int32_t highest; /* that this daemon told, or was asked about and knew */
     int32_t stale;   /* those up to this one are an earlier daemon's, but for what `again` has */
     uint8_t *again;  /* a bit for each stale one that this daemon has told since */
+    int32_t plain[64]; /* keys that are no keyrings, each at its number modulo 64: a serial keeps its type */
 };
 
 /* This daemon has told a serial. What isn't above 0 is no serial. */
 void serials_add(struct serials *serials, int32_t serial);
+
+/* Says of a key that it is no keyring; and whether that was said, of whatever else not. */
+void serials_add_plain(struct serials *serials, int32_t serial);
+bool serials_is_plain(const struct serials *serials, int32_t serial);
 
 /* Whether a serial is an earlier daemon's alone. */
 bool serials_is_stale(const struct serials *serials, int32_t serial);

@@ -15,6 +15,16 @@ bool serials_is_stale(const struct serials *serials, int32_t serial) {
     return serial > told_apart(serials->stale) || !(serials->again[serial / 8] >> serial % 8 & 1);
 }
 
+static unsigned place_of(int32_t serial) { return (unsigned)serial % 64; }
+
+void serials_add_plain(struct serials *serials, int32_t serial) {
+    if (serial > 0) serials->plain[place_of(serial)] = serial;
+}
+
+bool serials_is_plain(const struct serials *serials, int32_t serial) {
+    return serial > 0 && serials->plain[place_of(serial)] == serial;
+}
+
 int serials_begin_anew(struct serials *serials, int32_t told) {
     int32_t known = serials->highest > told ? serials->highest : told;
     int32_t stale = known > serials->stale ? known : serials->stale;

@@ -167,13 +167,18 @@ static bool tells_new(const struct serials *serials, const uint8_t *links, long 
     return false;
 }
 
-/* The serials of a keyring that was read. That it is one takes an ask. */
+/* The serials of a keyring that was read. That it is one takes an ask, for a key that is none the first time alone. */
 static void know_links(struct caller *caller, values at, long length) {
     const uint8_t *links = (const uint8_t *)at[1];
     struct kr_attributes ring;
+    int32_t id = id_of(at[0]);
     if (!links || length % SERIAL_WIDTH != 0 || (unsigned long)length > at[2]) return;
     if (!tells_new(caller->serials, links, length)) return;
-    if (kr_read_attributes(caller->connection, caller->context, id_of(at[0]), &ring) != 0) return;
+    if (serials_is_plain(caller->serials, id)) return;
+    errno = 0;
+    int unknown = kr_read_attributes(caller->connection, caller->context, id, &ring);
+    if (unknown == 1 && errno == 0) serials_add_plain(caller->serials, id);
+    if (unknown) return;
     for (long i = 0; i < length; i += SERIAL_WIDTH) serials_add(caller->serials, link_at(links, i));
 }
 

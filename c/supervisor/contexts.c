@@ -102,10 +102,12 @@ int contexts_begin(const char *path, const struct kr_identity *identity, bool (*
 void contexts_set_deadline(void) {
     for (struct line *line = all.lines, *next; line; line = next) {
         next = line->next;
-        if (kr_is_broken(line->connection))
+        if (kr_is_broken(line->connection)) {
             close_line(line);
-        else
-            line->connection->until = kr_now() + CALL_MILLISECONDS;
+            continue;
+        }
+        line->connection->until = kr_now() + CALL_MILLISECONDS;
+        line->connection->was_seen = true; /* nobody else here closes its socket */
     }
 }
 

@@ -90,7 +90,7 @@ static enum answer is_writable_in(int maps, unsigned long at, unsigned long end)
 
 /* Before, it is told in lines, in the order of addresses. */
 static bool is_writable_in_lines(int file, unsigned long at, unsigned long end) {
-    int other = dup(file);
+    int other = lseek(file, 0, SEEK_SET) < 0 ? -1 : dup(file);
     FILE *maps = other < 0 ? NULL : fdopen(other, "r");
     unsigned long start, stop;
     char *line = NULL, writable;

@@ -1,6 +1,7 @@
 """Where the daemon is looked for, and who has to listen there before anything is told to it."""
 from __future__ import annotations
 
+import ctypes
 import enum
 import errno
 import os
@@ -11,6 +12,7 @@ from typing import NamedTuple, Optional, Union
 SYSTEM_PATH = "/run/keyretain/keyretain.sock"
 AT_SECURE = 23  # getauxval(3)
 OVERFLOW_UID, ALL_UIDS = 65534, 0xFFFFFFFF  # user_namespaces(7)
+PROC_SUPER_MAGIC, STATFS_ROOM = 0x9FA0, 256  # statfs(2), whose structure is smaller
 
 Path = Union[str, bytes, "os.PathLike[str]"]
 
@@ -124,10 +126,18 @@ def place_of(path: Optional[Path], trust: Optional[str]) -> Place:
     return place._replace(trust=Trust.ANY) if trust and place.trust is Trust.NAMED else place
 
 
+def _has_proc() -> bool:
+    """Whether /proc is proc(5): below another user's root directory any file may stand there. statfs(2) tells the type
+    first, which nothing in Python's library does."""
+    status = ctypes.create_string_buffer(STATFS_ROOM)
+    is_told = ctypes.CDLL(None).statfs(b"/proc", status) == 0
+    return is_told and ctypes.c_long.from_buffer(status).value == PROC_SUPER_MAGIC
+
+
 def _is_one_user(uid: int) -> bool:
     """Whether it is the number of one user, and not of all who have none: in a user namespace that hasn't all uids."""
     try:
-        if os.statvfs("/proc").f_blocks:  # not proc(5), as below another user's root directory
+        if not _has_proc():
             return uid != OVERFLOW_UID
         with open("/proc/sys/kernel/overflowuid", "rb") as unknown, open("/proc/self/uid_map", "rb") as numbers:
             return uid != int(unknown.read()) or int(numbers.readline().split()[2]) == ALL_UIDS

@@ -274,12 +274,14 @@ static void join_when_full(void) {
     puts(word_of(keyctl_join_session_keyring(NULL) > 0));
 }
 
-/* read RING COUNT: so many calls, for whoever counts what they take. */
+/* read RING COUNT: so many calls, for whoever counts what they take: what is read could be the links of a keyring. */
 static void read_often(void) {
-    char room[8];
-    key_serial_t key = add_key("user", "read", "s3", 2, atoi(words[0]));
+    static const char payload[] = "a secret as long as eight links.";
+    char room[sizeof payload];
+    const long length = sizeof payload - 1;
+    key_serial_t key = add_key("user", "read", payload, (size_t)length, atoi(words[0]));
     int count = atoi(words[1]), fine = 0;
-    for (int i = 0; i < count; i++) fine += keyctl_read(key, room, sizeof room) == 2;
+    for (int i = 0; i < count; i++) fine += keyctl_read(key, room, sizeof room) == length;
     puts(fine == count ? "read" : "not read");
 }
 

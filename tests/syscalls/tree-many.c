@@ -120,6 +120,15 @@ static int ask_beside(int count, bool joins) {
     return 0;
 }
 
+static int read_often(int count) {
+    static const char payload[] = "a secret as long as eight links.";
+    char room[sizeof payload];
+    int fine = 0;
+    long key = add_key("user", "read", payload, sizeof payload - 1, KEY_SPEC_SESSION_KEYRING);
+    for (int i = 0; i < count; i++) fine += read_key(key, room, sizeof room) == sizeof payload - 1;
+    return puts(fine == count ? "read" : "not read") < 0;
+}
+
 /* ---- Threads ---- */
 
 static pthread_barrier_t barrier;
@@ -277,6 +286,7 @@ int many_modes(const char *mode, int many, int count, char **words) {
     if (strcmp(mode, "processes") == 0) return ask_in_processes(many, KEY_SPEC_SESSION_KEYRING);
     if (strcmp(mode, "keyrings") == 0) return ask_in_processes(many, KEY_SPEC_PROCESS_KEYRING);
     if (strcmp(mode, "threads") == 0) return ask_in_threads(many, KEY_SPEC_SESSION_KEYRING);
+    if (strcmp(mode, "reads") == 0) return read_often(many);
     if (strcmp(mode, "beside") == 0) return ask_beside(many, count > 3);
     if (strcmp(mode, "thread-keyrings") == 0) return ask_in_threads(many, KEY_SPEC_THREAD_KEYRING);
     if (strcmp(mode, "sequence") == 0) return ask_in_sequence(many);

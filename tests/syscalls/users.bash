@@ -323,7 +323,25 @@ try_turns() {
   prints "400 processes of another user that ask: their calls within one" few "$dir/tree" beside 400
   prints "200 that join a session each time" few "$dir/tree" beside 200 join
   try_asks
+  try_calls_of_reads
   try_page
+}
+
+# calls_of_reads COUNT: the system calls of a supervisor and of a program that reads a key so often
+calls_of_reads() {
+  timeout "$limit" strace -f -qq -c -o "$dir/counted" "$dir/now/keyretain-session" --syscalls -- "$dir/tree" reads "$1" \
+    >/dev/null 2>&1
+  awk '$NF == "total" { print $4 }' "$dir/counted"
+}
+
+# Three looks guard a race: whether the call still waits, before something is changed and before it is written to; and
+# whether the process is the one that has asked before.
+try_calls_of_reads() {
+  local calls
+  command -v strace >/dev/null || { skipped 'the system calls of a call: no strace'; return; }
+  calls=$(($(calls_of_reads 900) - $(calls_of_reads 100)))
+  is 'the system calls of 800 reads of 32 bytes, and the supervisor'\''s' '26 for each' \
+    "$([ "$calls" -gt 16000 ] && [ "$calls" -le 20900 ] && echo '26 for each' || echo "$calls")"
 }
 
 # What no room is found for costs no asks of whom it might be taken from.

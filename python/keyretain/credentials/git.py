@@ -68,10 +68,12 @@ def lines_of(attributes: Attributes) -> bytes:
 
 
 def matching(locker: Locker, given: Attributes) -> list[tuple[Entry, Attributes]]:
-    """Those that have each name as given, where it is given, and what each is of. The newest comes first."""
+    """Those that have each name as given, where it is given, and what each is of. The newest comes first. What has a
+    host is never meant without one: the same path may be another host's."""
     parsed = ((entry, parse_description(entry.description)) for entry in locker.entries())
     return [(entry, names) for entry, names in parsed if names is not None
-            and all(name not in given or given[name] == names.get(name) for name in NAMES)]
+            and all(name not in given or given[name] == names.get(name) for name in NAMES)
+            and (b"host" in given or not names.get(b"host"))]
 
 
 def names_a_place(given: Attributes) -> bool:
