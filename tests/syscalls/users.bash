@@ -329,8 +329,8 @@ try_turns() {
 
 # calls_of_reads COUNT: the system calls of a supervisor and of a program that reads a key so often
 calls_of_reads() {
-  timeout "$limit" strace -f -qq -c -o "$dir/counted" "$dir/now/keyretain-session" --syscalls -- "$dir/tree" reads "$1" \
-    >/dev/null 2>&1
+  timeout "$limit" strace -f -qq -c -o "$dir/counted" "$dir/now/keyretain-session" --syscalls -- \
+    "$dir/tree" reads "$1" >/dev/null 2>&1
   awk '$NF == "total" { print $4 }' "$dir/counted"
 }
 
