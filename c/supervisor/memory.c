@@ -88,7 +88,7 @@ static enum answer is_writable_in(int maps, unsigned long at, unsigned long end)
     return YES;
 }
 
-/* Before, it is told in lines, in the order of addresses. */
+/* Before, it is told in lines, in the order of addresses; from the first on, also where they were read before. */
 static bool is_writable_in_lines(int file, unsigned long at, unsigned long end) {
     int other = lseek(file, 0, SEEK_SET) < 0 ? -1 : dup(file);
     FILE *maps = other < 0 ? NULL : fdopen(other, "r");

@@ -19,9 +19,11 @@ static struct {
 int pipes_begin(void) { return all.epoll = epoll_create1(EPOLL_CLOEXEC); }
 struct pipe *pipes_first(void) { return all.pipes; }
 
+/* A worker that begins has its sockets for a moment longer: until then epoll(7) wouldn't forget it by itself. */
 void pipe_end(struct pipe *pipe) {
     TAKE_OUT(all.pipes, pipe);
     queue_close(pipe);
+    epoll_ctl(all.epoll, EPOLL_CTL_DEL, pipe->writer, NULL);
     close_one(&pipe->writer);
     free(pipe);
 }
