@@ -10,7 +10,7 @@
 #include "calls.h"
 
 enum { NOTES = O_EXCL, SET_SIZE = 0x5760, SET_FILTER, ROOM = 433, PATIENCE = 20000, UID = 20000, HAS_NOTES = 0x04 };
-enum { OPEN_TO_USER = 0x3f3f0000, OTHERS_MAY_VIEW = 1, POSSESSOR_MAY_READ = 0x02000000 };
+enum { OPEN_TO_USER = 0x3f3f0000, OTHERS_MAY_VIEW = 1, POSSESSOR_MAY_READ = 0x02000000, ALL_OF_POSSESSOR = 0x3f000000 };
 enum { UPDATED = 1, LINKED, UNLINKED, CLEARED, REVOKED, INVALIDATED, SETATTR };
 
 /* ---- Calls ---- */
@@ -138,12 +138,15 @@ static void try_size_and_filter(int null) {
 
 static void try_watching(int null) {
     int end = make_pipe(8);
-    long key = add("watched"), unseen = add("unseen");
+    long key = add("watched"), unseen = add("unseen"), alone = add("of its possessor alone");
     keyctl(KEYCTL_SETPERM, (unsigned long)unseen, POSSESSOR_MAY_READ, 0, 0);
     check("an id above", refused(watch(key, end, 256), EINVAL) && refused(watch(key, end, -2), EINVAL));
     check("no key", refused(watch(99999, end, 7), ENOKEY) && refused(watch(99999, null, 7), ENOKEY));
     check("one that may not be viewed", refused(watch(unseen, end, 7), EACCES));
     check("the same before a file", refused(watch(unseen, null, 7), EACCES));
+    check("one that only its possessor may view, which the kernel has watched",
+          keyctl(KEYCTL_SETPERM, (unsigned long)alone, ALL_OF_POSSESSOR, 0, 0) == 0 &&
+              refused(watch(alone, end, 7), EACCES));
     check("by a file, and by none", refused(watch(key, null, 7), EINVAL) && refused(watch(key, 999, 7), EINVAL));
     check("what isn't watched", refused(watch(key, end, -1), EBADSLT));
     check("it is set", watch(key, end, 7) == 0);
