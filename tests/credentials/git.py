@@ -278,6 +278,8 @@ def try_keeper():
                 compare("its environment", b"", environment.read().rstrip(b"\0"))
             compare("its descriptors", {"/dev/null", "socket"}, {
                 os.readlink(f"/proc/{pid}/fd/{one}").split(":")[0] for one in os.listdir(f"/proc/{pid}/fd")})
+        else:
+            skipped("the environment and the descriptors of a keeper: not root")
         git("erase", "protocol=https host=a")
         compare("while there is another key", 1, len(keepers()))
         git("store", "protocol=https host=b username=u password=p", "--timeout=2")

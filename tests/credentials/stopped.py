@@ -7,7 +7,7 @@ import tempfile
 import time
 from contextlib import nullcontext
 
-from helpers import compare, conclude, write
+from helpers import compare, conclude, skipped, write
 from servers import plain, reply, served
 from keyretain.credentials import keeper, locker
 
@@ -83,6 +83,8 @@ def try_managed(folder):
         os.chmod(folder, 0o777)
         os.rename(own, f"{folder}/4001")
         compare("another user's", [words], begun_by(folder, f'{scope}\nshift 5\nexec "$@"', 4001))
+    else:
+        skipped("another user's manager: not root")
 
 
 def asks_of_put():
