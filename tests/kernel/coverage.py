@@ -37,10 +37,12 @@ def tell(pairs):
             seen[ASKS[word], outcome] += count
     wanted = {(ask, outcome) for ask, outcomes in possible().items() for outcome in outcomes}
     for ask in sorted({ask for ask, _ in wanted}):
-        print(f"{ask}: " + ", ".join(f"{outcome} {count}" for (it, outcome), count in seen.most_common() if it == ask))
+        shown = [f"{outcome} {count}" for (it, outcome), count in seen.most_common() if it == ask]
+        print(f"{ask}: {', '.join(shown)}")
     print(f"pairs of FORMAT.md that Linux has shown: {len(wanted & set(seen))} of {len(wanted)}")
     never = collections.defaultdict(list)
     for ask, outcome in sorted(wanted - set(seen)):
         never[ask].append(outcome)
     print("never: " + "; ".join(f"{ask} {' '.join(outcomes)}" for ask, outcomes in never.items()))
-    print("others: " + ", ".join(f"{ask} {outcome} {seen[ask, outcome]}" for ask, outcome in sorted(set(seen) - wanted)))
+    others = [f"{ask} {outcome} {seen[ask, outcome]}" for ask, outcome in sorted(set(seen) - wanted)]
+    print(f"others: {', '.join(others)}")

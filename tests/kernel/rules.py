@@ -1,7 +1,7 @@
 """Where Linux answers otherwise: one row for each rule, and nothing else is let pass."""
 from typing import Callable, NamedTuple
 
-from scripts import OF_SESSION
+from scripts import EMPTY, OF_SESSION
 from world import SEARCH, TYPES, Key
 
 FAULTS = {"ENOKEY", "EKEYREVOKED", "EKEYEXPIRED", "EACCES"}
@@ -204,8 +204,10 @@ def same_session(it):
 
 
 def two_matches(it):
-    """Several keys could be the answer, below the keyring that has one first."""
+    """Several keys could be the answer, below the keyring that has one first; a link of either may be refused."""
     world = it.world
+    if (isinstance(it.linux, str) or isinstance(it.here, str)) and not it.places(MAKING):
+        return False
     for head in it.heads:
         found = {key for key in world.below(head) if key.match == it.match and world.is_alive(key)}
         if found:
@@ -327,7 +329,9 @@ def big_ids(it):
 
 def follows_first(it):
     """A thread whose session is that of its process's first, which joined another later or wasn't its maker."""
-    return it.world.of_calls and it.world.context.strays
+    world = it.world
+    return world.of_calls and (world.context.strays or it.here == "ENOKEY" and any(
+        other.strays for other in world.contexts.values()))  # what only that thread's own session keeps in Linux
 
 
 def unnamed_session(it):
@@ -335,12 +339,20 @@ def unnamed_session(it):
         key.of_join and key.name == "_ses" for key in it.named))
 
 
+def restricts_by_type(it):
+    return it.word == "restrict" and len(it.words) > 1
+
+
+def no_name(it):
+    return it.word in ("add", "search", "request", "newring") and it.match[-1] == EMPTY
+
+
 def session_left(it):
     return it.world.of_calls and any(key.gone for key in it.reached)
 
 
 def first_ended(it):
-    return it.world.of_calls and it.world.left and "@s" in it.words + ["@s"] * (it.word == "request")
+    return it.world.of_calls and it.world.left
 
 
 class Rule(NamedTuple):
@@ -380,12 +392,21 @@ RULES = {
         "names of sessions", unnamed_session, "*", "*", "`_ses`", "`_ses.` and 32 digits",
         "process_keys.c, install_session_keyring_to_cred", "open", C + "rdescribe @s", of_calls=True),
     "S4": Rule(
-        "threads of a supervisor", first_ended, "*", "EKEYREVOKED",
+        "threads of a supervisor", first_ended, "*", "EKEYREVOKED EACCES ENOKEY",
         "has its session also where its maker's first thread ends", "EKEYREVOKED, where it hasn't asked before",
         "cred.c, copy_creds", "open", C + "join a; thread; fork; exit; context 3; update @s x", of_calls=True),
     "S3": Rule(
         "sessions that are left", session_left, "*", "*", "gone at once", "gone some seconds later", "key.c, key_put",
         "open", C + "join a; join b; rdescribe $2", of_calls=True),
+    "S5": Rule(
+        "closed keyrings", restricts_by_type, "error", "error",
+        "RESTRICT_KEYRING with a type: EINVAL after the look-up", "before it", "keyctl.c, keyctl_restrict_keyring",
+        "open", C + "restrict 999 keyring", of_calls=True),
+    "S6": Rule(
+        "empty description", no_name, "error", "error",
+        "ADD: EINVAL after the look-up of the ring; SEARCH and REQUEST: nothing is found, after all look-ups",
+        "EINVAL, or by a client ENOKEY, first", "key.c, key_create_or_update", "open", C + "add user '' x 999",
+        of_calls=True),
     "U3": Rule(
         "first session keyring", has_no_session, "*", "*",
         "where none was joined, the first ask on -3 that may make something makes a new session keyring, also if it"
@@ -511,7 +532,8 @@ RULES = {
         "nesting depth", nested, "*", "*", "ELOOP from 7 nested links on, and for deep cycles",
         "from 6 on, and EDEADLK", "keyring.c, keyring_detect_cycle", "open", H + NESTED),
     "K32": Rule(
-        "order of a search", two_matches, "ok", "ok", "one keyring, then depth-first by hash",
+        "order of a search", two_matches, "ok EDEADLK ELOOP EACCES", "ok EDEADLK ELOOP EACCES",
+        "one keyring, then depth-first by hash",
         "breadth-first by link order", "keyring.c, search_nested_keyrings", "Linux: keyrings(7)",
         H + "join" + BOTH_WAYS),
     "P1": Rule(
@@ -536,9 +558,9 @@ RULES = {
 
 
 def table():
-    """The lines of PROFILE.md's table, by its sections' order of rules."""
-    rows = [f"| {it.page} | {it.here} | {it.there} | {it.whose} | {it.code} |" for it in RULES.values()]
-    return ["| Rule | Here | Linux | Whose | In the kernel's code |", "|---|---|---|---|---|", *sorted(rows)]
+    """The lines of PROFILE.md's table, by the names of the rules."""
+    rows = [f"| {it.page} | {it.there} | {it.here} | {it.whose} | {it.code} |" for it in RULES.values()]
+    return ["| Rule | Linux | Here | Whose | In the kernel's code |", "|---|---|---|---|---|", *sorted(rows)]
 
 
 def fits(pattern, answer):

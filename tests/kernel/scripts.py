@@ -5,6 +5,7 @@ import random
 USERS = [("1000", "1000"), ("1001", "1000"), ("1002", "1002"), ("1000", "7"), ("3000000005", "3000000007")]
 OUTSIDE = 1_900_000_000  # the uids and gids outside which those of a namespace are: nobody's
 OF_SESSION = "1900200000"  # a user that isn't mapped to another, for calls under keyretain-session
+EMPTY = "''"  # no bytes: only calls can say that
 GROUPS = ["", "", " 7", " 1001", " 1000 1002", " 7 8 9 1001"]
 RINGS = ["ring", "r2", "r3", "r4", "r5", "r6", "r7", "r8"]
 NAMES = ["a", "b", "c", "k:1", "k:2"]
@@ -34,7 +35,9 @@ class Drawer:
             first = OUTSIDE + 4 * (int(seed) % 1000)
             self.users = [("0", "0"), (str(first), str(first)), (str(first + 1), str(first))]
             self.sessions = [f"keyretain-{seed}-{it}" for it in SESSIONS]
+        self.odd_types, self.odd_names = ODD_TYPES, ODD_NAMES[:4] + ODD_NAMES[7:] if root else ODD_NAMES
         if calls:
+            self.odd_types, self.odd_names = [*ODD_TYPES, EMPTY, EMPTY], [*ODD_NAMES, EMPTY, EMPTY, EMPTY]
             self.users = [(OF_SESSION, OF_SESSION)]
         self.calls = calls
         self.names = chance.sample(NAMES, chance.choice([2, 3, 5]))
@@ -71,7 +74,7 @@ class Drawer:
             "print": key, "rdescribe": key, "revoke": self.victim, "invalidate": self.victim,
             "update": lambda: f"{self.payload_key()} {self.data()}",
             "link": lambda: f"{self.ring() if self.deep or self.likely(0.4) else key()} {ring()}",
-            "unlink": self.linked, "move": lambda: f"{self.linked()} {ring()}{self.either('', ' excl')}",
+            "unlink": self.linked, "move": lambda: f"{self.linked()} {ring()}{self.flag()}",
             "search": lambda: f"{ring()} {self.match()}{self.destination()}",
             "request": lambda: f"{self.match()}{self.destination()}",
             "setperm": lambda: f"{self.victim()} {self.mask()}",
@@ -79,7 +82,7 @@ class Drawer:
             "chgrp": lambda: f"{self.victim()} {self.either(*[it[1] for it in self.users], '1001', '7')}",
             "timeout": lambda: f"{self.victim()} {self.seconds()}",
             "clear": lambda: self.victim() if self.likely(0.5) else ring(),
-            "restrict": self.victim,
+            "restrict": lambda: f"{self.victim()}{self.restriction()}",
             "id": lambda: f"{self.either(self.attached(), self.attached(), key())}{self.either('', ' create')}",
         }[word]()
 
@@ -184,6 +187,12 @@ class Drawer:
             return self.key()
         return self.named(lambda key: not key.of_user) or "@t"
 
+    def flag(self):
+        return self.one(["", " excl"] + [" 2", " 3"] * (self.calls and self.strange()))
+
+    def restriction(self):
+        return f" {self.either('keyring', 'user', 'trusted', EMPTY)}" if self.calls and self.likely(0.2) else ""
+
     def linked(self):
         """A key, and a keyring that may link it."""
         rings = [key for key in self.world.numbered.values() if key.links and not key.gone]
@@ -197,7 +206,7 @@ class Drawer:
     def match(self, new=False):
         """A type and a name."""
         if self.strange():
-            return f"{self.type()} {self.one(ODD_NAMES[:4] + ODD_NAMES[7:] if self.root else ODD_NAMES)}"
+            return f"{self.type()} {self.one(self.odd_names)}"
         keys = [key for key in self.world.numbered.values() if not key.gone or self.likely(0.2)]
         if keys and self.likely(0.3 if new else 0.75):
             key = self.one(keys)
@@ -206,12 +215,12 @@ class Drawer:
 
     def type(self):
         if self.strange():
-            return self.one(ODD_TYPES)
+            return self.one(self.odd_types)
         return self.either("user", "user", "user", "logon", "keyring")
 
     def ring_name(self):
         if self.strange():
-            return self.one(ODD_NAMES[:4] + ODD_NAMES[7:] if self.root else ODD_NAMES)
+            return self.one(self.odd_names)
         return self.one(RINGS if self.deep else RINGS[:3])
 
     def data(self):

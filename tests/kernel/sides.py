@@ -16,7 +16,7 @@ import time
 import compare  # noqa: F401 - it has the path of the client
 import daemons
 from lines import RINGS
-from scripts import OF_SESSION, OUTSIDE
+from scripts import EMPTY, OF_SESSION, OUTSIDE
 
 FIRST, CONTEXTS, ABOVE = 3, 24, 100  # the sockets of contexts.c; how many; where they stand here
 PATIENCE = 30
@@ -30,7 +30,7 @@ class Lost(Exception):
 
 
 def text(word):
-    return f"s{word.encode().hex()}"
+    return f"s{word.encode().hex() if word != EMPTY else ''}"
 
 
 def payload(word):
@@ -48,7 +48,7 @@ CALLS = {
     "link": ("keyctl n8", "id", "id"), "unlink": ("keyctl n9", "id", "id"),
     "search": ("keyctl n10", "id", text, text, "to"), "print": ("keyctl n11", "id", "o"),
     "timeout": ("keyctl n15", "id", "number"), "invalidate": ("keyctl n21", "id"),
-    "restrict": ("keyctl n29", "id", "z", "z"), "move": ("keyctl n30", "id", "id", "id", "flag"),
+    "restrict": ("keyctl n29", "id", "name", "z"), "move": ("keyctl n30", "id", "id", "id", "flag"),
 }
 NUMBERED = {"add", "newring", "request", "id", "join", "search", "hello", "thread", "fork"}
 BYTES = {"print", "rdescribe"}
@@ -73,7 +73,8 @@ def call_of(word, words, serial):
         elif part == "name":
             said.append(text(rest.pop(0)) if rest else "z")
         elif part == "flag":
-            said.append(f"n{1 if rest and rest.pop(0) else 0}")
+            flag = rest.pop(0) if rest else "0"
+            said.append(f"n{flag if flag.isdigit() else 1}")
         else:
             said.append(part)
     return " ".join(said)
@@ -295,6 +296,11 @@ class Session(Calls):
 
     def hello(self, words):
         return 0
+
+    def control(self, context, word):
+        super().control(context, word)
+        if word == "exit":
+            time.sleep(0.05)  # who asks first while its maker is still ending may be in no session
 
     def end(self):
         self.close()  # so all contexts end, and with them the session
