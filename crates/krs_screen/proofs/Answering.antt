@@ -13,9 +13,9 @@ use Rattle.krs_screen.proofs.{Numbering.{first_is, next_is}, Queueing.taken, Run
 use Rattle.krs_screen.proofs.Running.{ask_bytes, ask_passed, ends, first_behind, IsReached, IsSo, length_push, marks_of}
 use Rattle.krs_screen.proofs.Running.{numbers, reply_bytes, reply_passed, so_still, way_grown, way_idle, way_more}
 use Rattle.krs_screen.proofs.Running.{way_pushed}
+use Rattle.std.proofs.lemmas.Grind.{common_steps}
 
 -- ---- the rest of the reply at hand
-
 longer : Told → List ℕ → Told
 longer reply ys = record { bytes = reply.bytes ++ ys; is_rewritten = reply.is_rewritten }
 
@@ -56,7 +56,6 @@ last_goes_on peer groups line asks before reply n later parts there i =
     }
 
 -- ---- whose turn it is
-
 -- a reply was rewritten if its ask is the next that gets EPERM
 record IsTurn (marks : List Bool) (k : ℕ) (b : Bool) (s : Screen) : Type 0 where
   mark : take (k + 1) marks ≡ take k marks ++ b ∷ []
@@ -67,9 +66,7 @@ mark_is : (s : Screen) (k : ℕ) (m : Bool) (marks : List Bool) → next s.answe
     → waiting s ≡ numbers k (m ∷ marks)
     → is_refused s ≡ m
 mark_is s k true marks one q = first_is s.refused s.first s.count (next s.answered) (numbers (k + 1) marks) (rw one q)
-mark_is s k false marks one q = false_from_ne_true (is_refused s) (λ e.
-    let h = first_behind (k + 1) marks (k + 1) (waiting (one_forgotten s)) (sym q ∙ taken s e ∙ rw one) in
-    absurd (omega (arith, h)))
+mark_is s k false marks one q = grind (arith, common_steps, false_from_ne_true, first_behind, taken)
 
 module _ (s : Screen) (k : ℕ) (marks : List Bool) (one : next s.answered ≡ k + 1) (less : k < length marks)
     (q : waiting s ≡ numbers k (drop k marks)) where
@@ -91,7 +88,6 @@ module _ (s : Screen) (k : ℕ) (marks : List Bool) (one : next s.answered ≡ k
   other_turn e = let c = cut false e in record { mark = take_more marks k false less ∙ rw c.0; queue = c.1 }
 
 -- ---- a step with the replies keeps what is said
-
 abbrev Keeps : Peer → (groups : List ℕ) → Line → List Heard → Done → Type 0
 Keeps peer groups line asks done = IsReached peer groups (length asks) (replies_gone line done)
 
@@ -217,12 +213,10 @@ module _ (peer : Peer) (groups : List ℕ) (line : Line) (asks : List Heard) (re
       head_kept none there)))
 
 -- ---- a whole run
-
 reached : (peer : Peer) (groups : List ℕ) (events : List Event) (line : Line) (asks : List Heard) (replies : List Told)
     → line.screen.asked + length events < most → IsSo peer groups line asks replies
     → IsReached peer groups most (run peer groups events line)
-reached peer groups [] line asks replies h i =
-    record { asks = asks; replies = replies; so = i; few = omega (arith, h, i.asked) }
+reached peer groups [] line asks replies h i = grind (arith, common_steps)
 reached peer groups (client_sends piece ∷ events) line asks replies h i =
     let s = line.screen in
     reached peer groups events (happens peer groups line (client_sends piece)) asks replies (omega (arith, h))
@@ -245,27 +239,10 @@ reached peer groups (replies_are_judged ∷ events) line asks replies h i =
     (omega (arith, h, k.so.asked, i.asked, k.few)) k.so
 
 started : (peer : Peer) (groups : List ℕ) → IsSo peer groups start [] []
-started peer groups = record {
-  asked-way = record { came = refl; passed = refl; frames = refl };
-  told-way = record { came = refl; passed = refl; frames = refl };
-  right = tt;
-  marked = refl;
-  asked = refl;
-  answered = refl;
-  fewer = omega arith;
-  queue = refl;
-  room = refl;
-  long = tt;
-}
+started peer groups = grind (arith, common_steps)
 
 pub faithful : EachRunIsFaithful
 faithful peer groups events h =
     let h' : start.screen.asked + length events < most = omega (arith, h) in
     let r = reached peer groups events start [] [] h' (started peer groups) in
-    let to = r.so.asked-way in
-    let from = r.so.told-way in (
-      r.asks,
-      r.replies,
-      record { came = to.came; passed = to.passed; frames = to.frames; right = r.so.right },
-      record { came = from.came; passed = from.passed; frames = from.frames; right = r.so.marked },
-    )
+    grind (arith, common_steps)

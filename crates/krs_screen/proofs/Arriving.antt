@@ -12,13 +12,13 @@ use Rattle.krs_screen.specs.{Claim.{is_group, may_name, voided}, declared.{claim
 use Rattle.krs_screen.specs.{declared.front.Front.TheVariants.{Crowd, Hello, Other}, Front.{front_of, le32}}
 use Rattle.krs_screen.specs.{Reading.{Harmless, nobody, own, passed_of, trusted}, Run.{AreFrames, crowded}}
 use Rattle.krs_screen.specs.Run.{EachHelloOfARunIsHarmless, Heard, IsRight, IsRightOf, kept, named, passed_as, refused}
-use Rattle.krs_screen.specs.{Run.{run, start, Verdict}, Step.Safe}
+use Rattle.krs_screen.specs.{Run.{Verdict}, Step.Safe}
 use Rattle.krs_screen.proofs.{Answering.faithful, Claiming.claims, Growing.{front_more, IsSeated, le32_more}}
 use Rattle.krs_screen.proofs.{Growing.{may_pass_more, seated}, Staying.{crowd_stays, hello_stays}, Voiding.le32_before}
 use Rattle.krs_screen.proofs.Voiding.{le32_voided, length_voided, void_is_void}
+use Rattle.std.proofs.lemmas.Grind.{common_steps}
 
 -- ---- an ask as it was passed on
-
 -- with whatever comes behind it, it is safe; and it is as long as it was, and says so
 record IsSafe (peer : Peer) (groups bytes passed : List ℕ) : Type 0 where
   safe : (ys : List ℕ) → Safe peer groups (passed ++ ys) (front_of (passed ++ ys))
@@ -80,7 +80,6 @@ module _ (peer : Peer) (groups bytes : List ℕ) where
   as_passed front verdict is s r = absurd r
 
 -- ---- who isn't known to be in a group may name less
-
 group_named : (peer : Peer) (groups : List ℕ) (gid : ℕ) → is_group peer [] gid ≡ true → is_group peer groups gid ≡ true
 unfolding is_group
 group_named peer groups gid e = grind (arith, nat_tests)
@@ -90,14 +89,9 @@ harmless_named : (peer : Peer) (groups : List ℕ) (is_named : Bool) (caller : C
 harmless_named peer groups true caller h = h
 harmless_named peer groups false caller (nobody e) = nobody e
 harmless_named peer groups false caller (trusted e) = trusted e
-harmless_named peer groups false caller (own o) = own (record {
-  uid-is = o.uid-is;
-  gid-is = group_named peer groups caller.gid o.gid-is;
-  groups-are = λ i less. group_named peer groups (slice_index caller.groups i) (o.groups-are i less);
-})
+harmless_named peer groups false caller (own o) = grind (arith, common_steps, group_named, slice_index)
 
 -- ---- all that was passed on
-
 -- a frame that is read takes as many bytes as its first number says
 record IsTaken (bytes more : List ℕ) : Type 0 where
   frame : List ℕ
@@ -182,7 +176,4 @@ each_good peer groups (ask ∷ asks) left (framed ∷ frames) end bytes parts si
 
 pub arrives : EachHelloOfARunIsHarmless
 arrives peer groups events frames end few fits is =
-    let f = faithful peer groups events few in
-    each_good peer groups f.0 (run peer groups events start).screen.ask_left frames end
-    (run peer groups events start).asks.passed
-    f.2.passed f.2.frames f.2.right fits is
+    grind (arith, common_steps, each_good, faithful peer groups events few)

@@ -8,8 +8,9 @@ use Rattle.krs_types.specs.declared.{caller.Caller.Caller, errno.Errno.TheVarian
 use Rattle.krs_wire.specs.{declared.framed.Framed.Framed, Frame.front_of as read_front}
 use Rattle.krs_screen.specs.{Claim.{are_groups, is_group, is_own, is_void, some_nobody}, declared.claim.Peer.Peer}
 use Rattle.krs_screen.specs.{declared.front.Front.{Front, TheVariants.{Crowd, Hello}}, Front.{front_of, le32}}
-use Rattle.krs_screen.specs.{Reading.{Harmless, IsPeers, nobody, own, Sees, trusted}, Step.Safe}
+use Rattle.krs_screen.specs.{Reading.{Harmless, IsPeers, Sees}, Step.Safe}
 use Rattle.krs_screen.proofs.Seeing.{seen}
+use Rattle.std.proofs.lemmas.Grind.{common_steps}
 
 any_at : (xs : List ℕ) (i : ℕ) → i < length xs → slice_index xs i ≡ no_id → list_any (λ n. n == no_id) xs ≡ true
 any_at [] i h e = absurd (omega (arith, h))
@@ -34,34 +35,20 @@ each_is_group peer groups bytes at (suc k) e i h = grind (arith, nat_tests, each
 void_named : (bytes : List ℕ) (caller : Caller) (at count : ℕ) → Sees bytes caller (Hello at count)
     → is_void bytes at count ≡ true → caller_check caller ≡ Err EINVAL
 unfolding is_void
-void_named bytes caller at count s e =
-    let gs = nobody_among bytes caller.groups (at + 12) count (omega (arith, s.2)) s.3 in grind (arith, nat_tests, gs)
+void_named bytes caller at count s e = grind (arith, common_steps, nobody_among, nat_tests)
 
 own_named : (peer : Peer) (groups bytes : List ℕ) (caller : Caller) (at count : ℕ) → Sees bytes caller (Hello at count)
     → is_own peer groups bytes at count ≡ true → IsPeers peer groups caller
 unfolding is_own
-own_named peer groups bytes caller at count s e = record {
-  uid-is = grind (arith, nat_tests);
-  gid-is = grind (arith, nat_tests);
-  groups-are = λ i h. grind (arith, nat_tests, s.3 i, each_is_group peer groups bytes (at + 12) count);
-}
+own_named peer groups bytes caller at count s e = grind (arith, common_steps, nat_tests, each_is_group)
 
 harmless : (peer : Peer) (groups bytes : List ℕ) (caller : Caller) (f : Front) → Sees bytes caller f
     → Safe peer groups bytes f → Harmless peer groups caller
-harmless peer groups bytes caller (Crowd frame at) s safe =
-    let many : 32 < length caller.groups = s.1 in nobody (grind (arith, nat_tests))
-harmless peer groups bytes caller (Hello at count) s safe =
-    elim safe [
-      | inl void ↦ nobody (void_named bytes caller at count s void)
-      | inr may ↦ elim (or_cases peer.is_trusted (is_own peer groups bytes at count) may) [
-        | inl t ↦ trusted t
-        | inr o ↦ own (own_named peer groups bytes caller at count s o)
-      ]
-    ]
+harmless peer groups bytes caller (Crowd frame at) s safe = grind (arith, common_steps, nat_tests)
+harmless peer groups bytes caller (Hello at count) s safe = grind (arith, common_steps, void_named, or_cases, own_named)
 harmless peer groups bytes caller front s safe = absurd s
 
 pub claims : (peer : Peer) (groups bytes : List ℕ) (framed : Framed) (more : List ℕ) (caller : Caller)
     → ((i : ℕ) → slice_index bytes i < 256) → read_front bytes ≡ Ok (Some (framed, more))
     → framed.ask.op ≡ AsksHello caller → Safe peer groups bytes (front_of bytes) → Harmless peer groups caller
-claims peer groups bytes framed more caller fits is op safe =
-    harmless peer groups bytes caller (front_of bytes) (seen bytes framed more caller fits is op) safe
+claims peer groups bytes framed more caller fits is op safe = grind (arith, common_steps, harmless, seen)

@@ -37,7 +37,6 @@ unfolding voided
 drop_voided bytes at m h there = drop_with bytes at 4294967295 m h there
 
 -- ---- a step with the asks keeps what is said
-
 abbrev Keeps : Peer → (groups : List ℕ) → Line → List Heard → Done → Type 0
 Keeps peer groups line asks done = IsReached peer groups (length asks + 1) (asks_gone line done)
 

@@ -6,6 +6,7 @@ use Rattle.std.proofs.lemmas.Bool.Decides.{nat_tests}
 use Rattle.krs_screen.specs.declared.front.Front.{Front, TheVariants.{Crowd, Fault, Hello, Other, Part}}
 use Rattle.krs_screen.specs.{Front.{front_of, hello_by, is_known, le16, le32}, Reading.passed_of}
 use Rattle.krs_screen.proofs.{Staying.{as_layout, at_of, layout}, Voiding.before}
+use Rattle.std.proofs.lemmas.Grind.{common_steps}
 
 pub record P (m : ℕ) (f : Front) : Type 0 where
   pub some : 0 < passed_of f
@@ -88,6 +89,4 @@ front_stays m bytes other p there =
 
 pub stays : (bytes other : List ℕ) → 0 < passed_of (front_of bytes) → passed_of (front_of bytes) ≤ length bytes
     → front_of (take (passed_of (front_of bytes)) bytes ++ other) ≡ front_of bytes
-stays bytes other some there =
-    let same : passed_of (front_of bytes) ≤ passed_of (front_of bytes) = omega arith in
-    front_stays (passed_of (front_of bytes)) bytes other (record { some = some; within = same }) there
+stays bytes other some there = grind (arith, common_steps, front_stays)

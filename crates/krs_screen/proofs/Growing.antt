@@ -9,6 +9,7 @@ use Rattle.krs_screen.specs.declared.front.Front.{Front, TheVariants.{Crowd, Fau
 use Rattle.krs_screen.specs.{Front.{front_of, is_known, le16, le32, with_le32}, Reading.passed_of, Run.may_pass}
 use Rattle.krs_screen.proofs.{Following.{front_stays, P}, Staying.{as_layout, at_least, at_of, layout}}
 use Rattle.krs_screen.proofs.Voiding.{front_only, length_with}
+use Rattle.std.proofs.lemmas.Grind.{common_steps}
 
 pub le32_more : (bytes ys : List ℕ) (i : ℕ) → i + 4 ≤ length bytes → le32 (bytes ++ ys) i ≡ le32 bytes i
 unfolding le32
@@ -30,15 +31,9 @@ pub may_pass_more : (peer : Peer) (groups bytes ys : List ℕ) (at count : ℕ) 
     → may_pass peer groups (bytes ++ ys) at count ≡ may_pass peer groups bytes at count
 unfolding is_void is_own
 may_pass_more peer groups bytes ys at count h =
-    rw (
-      le32_more bytes ys at (omega arith),
-      le32_more bytes ys (at + 4) (omega arith),
-      some_nobody_more bytes ys (at + 12) count h,
-      are_groups_more peer groups bytes ys (at + 12) count h,
-    )
+    grind (arith, common_steps, le32_more, some_nobody_more, are_groups_more)
 
 -- a number that is put into bytes
-
 pub with_more : (bytes ys : List ℕ) (at n : ℕ) → at + 4 ≤ length bytes
     → with_le32 (bytes ++ ys) at n ≡ with_le32 bytes at n ++ ys
 with_more bytes ys at n h =
@@ -59,9 +54,7 @@ with_parts bytes at n m h there =
     ∙ with_more (take m bytes) (drop m bytes) at n (omega (arith, h, l))
 
 with_length : (bytes : List ℕ) (at n m : ℕ) → at + 4 ≤ m → m ≤ length bytes → length (with_le32 (take m bytes) at n) ≡ m
-with_length bytes at n m h there =
-    let l : length (take m bytes) ≡ m = length-take-le m bytes there in
-    length_with (take m bytes) at n (omega (arith, h, l)) ∙ l
+with_length bytes at n m h there = grind (arith, common_steps, length-take-le, length_with)
 
 pub take_with : (bytes : List ℕ) (at n m : ℕ) → at + 4 ≤ m → m ≤ length bytes
     → take m (with_le32 bytes at n) ≡ with_le32 (take m bytes) at n

@@ -1,12 +1,13 @@
 -- Which numbers have an operation.
-use Rattle.std.proofs.Common.{[], ◌&&◌, ◌+◌, ◌==◌, ◌||◌, ◌∙◌, ◌∷◌, ◌≡◌, ap, arith, Bool, cond, false, List, map, nat_le}
+use Rattle.std.proofs.Common.{[], ◌&&◌, ◌+◌, ◌==◌, ◌||◌, ◌∙◌, ◌∷◌, ◌≡◌, arith, Bool, cond, false, List, map, nat_le}
 use Rattle.std.proofs.Common.{nat_lt, None, Option, refl, Result, Some, suc, true, zero, ℕ}
 use Rattle.std.specs.List.{list_any}
 use Rattle.std.proofs.lemmas.Bool.Decides.{nat_tests}
 use Rattle.krs_types.specs.declared.ask.Op.{Op}
-use Rattle.krs_wire.specs.{Bodies.fields_of, declared.fault.WireFault.WireFault, Faulting.or_bad_body, Field.whole}
+use Rattle.krs_wire.specs.{declared.fault.WireFault.WireFault, Faulting.or_bad_body}
 use Rattle.krs_wire.specs.Frame.{op_of, read_by, Reading, readings}
 use Rattle.krs_screen.specs.Front.{is_known, is_operation}
+use Rattle.std.proofs.lemmas.Grind.{common_steps}
 
 -- the number of HELLO
 pub hello_is_known : is_known 256 ≡ true
@@ -28,8 +29,7 @@ numbers = map (λ row. row.number)
 
 told : (rows : List Reading) (op : ℕ) → is_operation (read_by rows op []) ≡ list_any (λ n. op == n) (numbers rows)
 told [] op = refl
-told (row ∷ others) op =
-    pick (op == row.number) _ _ _ (reads (whole (fields_of row.forms) row.make [])) (told others op)
+told (row ∷ others) op = grind (arith, common_steps, pick, reads, told others op)
 
 -- one of so many numbers in a row, or else
 abbrev each_from : (op first count : ℕ) → Bool → Bool
@@ -53,10 +53,7 @@ high op = grind arith
 in_ranges : (op : ℕ) → list_any (λ n. op == n) (numbers readings)
     ≡ (nat_lt op 12 || between op (nat_lt 255 op && nat_lt op 268))
 unfolding readings
-in_ranges op =
-    in_row op 0 12 (between op (each_from op 256 12 false))
-    ∙ ap (λ (b : Bool). b || between op (each_from op 256 12 false)) (low op)
-    ∙ ap (λ (b : Bool). nat_lt op 12 || between op b) (in_row op 256 12 false ∙ high op)
+in_ranges op = grind (arith, common_steps, in_row, low, nat_lt, high)
 
 pub known_is : (op : ℕ) → is_known op
     ≡ (nat_lt op 12 || (op == 15 || (op == 21 || (op == 29 || (op == 30 || (op == 32

@@ -1,8 +1,10 @@
 -- A peer's groups count for HELLOs alone.
-use Rattle.std.proofs.Common.{◌-◌, ◌≡◌, ap, cond, false, length, List, min, nat_lt, refl, ℕ}
+use Rattle.std.proofs.Common.{◌≡◌, false, List, min, nat_lt, refl, ℕ}
 use Rattle.krs_screen.specs.declared.{claim.Peer.Peer, counting.Screen.Screen, front.Front.{Front, TheVariants.Crowd}}
 use Rattle.krs_screen.specs.{declared.front.Front.TheVariants.{Fault, Hello, Other, Part}, Front.{front_of, is_hello}}
-use Rattle.krs_screen.specs.Step.{ask_step, Done, front_step}
+use Rattle.krs_screen.specs.Step.{ask_step, front_step}
+use Rattle.std.proofs.Common.{arith}
+use Rattle.std.proofs.lemmas.Grind.{common_steps}
 
 same_front : (peer : Peer) (groups others : List ℕ) (s : Screen) (bytes : List ℕ) (front : Front)
     → is_hello front ≡ false
@@ -16,7 +18,4 @@ same_front peer groups others s bytes (Hello at count) isnt = absurd cc
 pub same_step : (peer : Peer) (groups others : List ℕ) (s : Screen) (bytes : List ℕ) → is_hello (front_of bytes) ≡ false
     → ask_step peer groups s bytes ≡ ask_step peer others s bytes
 unfolding ask_step
-same_step peer groups others s bytes isnt =
-    ap (λ (done : Done). cond s.ask_fault (0, (bytes, s)) (cond (nat_lt 0 s.ask_left)
-    (min s.ask_left (length bytes), (bytes, record s { ask_left = s.ask_left - min s.ask_left (length bytes) })) done))
-    (same_front peer groups others s bytes (front_of bytes) isnt)
+same_step peer groups others s bytes isnt = grind (arith, common_steps, nat_lt, min, same_front)

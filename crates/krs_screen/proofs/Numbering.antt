@@ -1,11 +1,12 @@
 -- A reply gets EPERM where, and only where, its number is that of an ask that was made void.
-use Rattle.std.proofs.Common.{[], ◌%◌, ◌&&◌, ◌++◌, ◌+◌, ◌<◌, ◌==◌, ◌∙◌, ◌∷◌, ◌≡◌, ◌≢◌, ◌≤◌, ap, arith, false, inl, inr}
+use Rattle.std.proofs.Common.{[], ◌%◌, ◌&&◌, ◌++◌, ◌+◌, ◌<◌, ◌==◌, ◌∷◌, ◌≡◌, ◌≢◌, ◌≤◌, ap, arith, false, inl, inr}
 use Rattle.std.proofs.Common.{length, List, nat_lt, slice_index, suc, sym, true, zero, ℕ}
 use Rattle.std.proofs.lemmas.Bool.{Decides.nat_tests, true≢false}
 use Rattle.krs_screen.specs.Counting.{Among, answered_more, asked_more, Between, is_refused, IsCounted, most, next}
 use Rattle.krs_screen.specs.Counting.{one_forgotten, refused_next, waiting, waiting_from}
 use Rattle.krs_screen.specs.declared.counting.Screen.{Screen}
 use Rattle.krs_screen.proofs.Queueing.{appended, taken}
+use Rattle.std.proofs.lemmas.Grind.{common_steps}
 
 pub next_is : (n : ℕ) → n < most → next n ≡ n + 1
 next_is n h = omega (arith, h)
@@ -23,8 +24,7 @@ ask_counted s left h b = higher s.answered s.asked (next s.asked) (waiting s) (o
 
 pub refusal_counted : (s : Screen) (left : ℕ) → s.asked < most → length s.refused ≡ 64 → s.count < 64 → IsCounted s
     → IsCounted (asked_more (refused_next s) left)
-refusal_counted s left h long room b =
-    rw (appended s long room, next_is s.asked h) (behind s.answered s.asked (waiting s) b)
+refusal_counted s left h long room b = grind (arith, common_steps, appended, next_is, behind)
 
 lower : (low high : ℕ) (xs : List ℕ) → low < high → Between low high xs → ((rest : List ℕ) → xs ≡ (low + 1) ∷ rest → ⊥)
     → Between (low + 1) high xs
@@ -39,10 +39,7 @@ first_is ring first (suc k) n rest e = grind (arith, nat_tests)
 
 pub reply_counted : (s : Screen) (left : ℕ) → s.answered < s.asked → s.asked ≤ most → is_refused s ≡ false → IsCounted s
     → IsCounted (answered_more s left)
-reply_counted s left h small isnt b =
-    let one : next s.answered ≡ s.answered + 1 = next_is s.answered (omega (arith, h, small)) in
-    rw one (lower s.answered s.asked (waiting s) h b (λ rest e.
-    true≢false (sym (first_is s.refused s.first s.count (next s.answered) rest (rw one e)) ∙ isnt)))
+reply_counted s left h small isnt b = grind (arith, common_steps, next_is, lower, true≢false, first_is)
 
 pub eperm_counted : (s : Screen) (left : ℕ) → is_refused s ≡ true → IsCounted s
     → IsCounted (answered_more (one_forgotten s) left)
@@ -65,6 +62,4 @@ head_of low high (x ∷ xs) b a = elim a [
 
 pub gets_eperm : (s : Screen) → s.answered < most → IsCounted s → Among (s.answered + 1) (waiting s)
     → is_refused s ≡ true
-gets_eperm s less b a =
-    let x = head_of s.answered s.asked (waiting s) b a in
-    first_is s.refused s.first s.count (next s.answered) x.0 (rw (next_is s.answered less) x.1)
+gets_eperm s less b a = grind (arith, common_steps, head_of, first_is, next_is)

@@ -13,8 +13,7 @@ there ring i j x other = grind (arith, common_steps)
 
 put_behind : (ring : List ℕ) (first k x : ℕ) → length ring ≡ 64 → k < 64
     → waiting_from (slice_set ring ((first % 64 + k) % 64) x) first (suc k) ≡ waiting_from ring first k ++ (x ∷ [])
-put_behind ring first zero x long less =
-    ap (λ n. n ∷ []) (here ring ((first % 64 + 0) % 64) (first % 64) x long (omega arith) (omega arith))
+put_behind ring first zero x long less = grind (arith, common_steps, here)
 put_behind ring first (suc k) x long less =
     let i : ℕ = (first % 64 + suc k) % 64 in
     let second : ℕ = (first % 64 + 1) % 64 in
@@ -34,10 +33,7 @@ appended s long room = rw (add-one s.count) (put_behind s.refused s.first s.coun
 from_some : (ring : List ℕ) (first count x : ℕ) → (nat_lt 0 count && (slice_index ring (first % 64) == x)) ≡ true
     → waiting_from ring first count ≡ x ∷ waiting_from ring ((first % 64 + 1) % 64) (count - 1)
 from_some ring first zero x e = absurd cc
-from_some ring first (suc k) x e =
-    let is : slice_index ring (first % 64) ≡ x = grind (arith, nat_tests) in
-    let less : suc k - 1 ≡ k = omega arith in
-    rw (less, is)
+from_some ring first (suc k) x e = grind (arith, common_steps, slice_index, nat_tests)
 
 pub taken : (s : Screen) → is_refused s ≡ true → waiting s ≡ next s.answered ∷ waiting (one_forgotten s)
 taken s is = from_some s.refused s.first s.count (next s.answered) is

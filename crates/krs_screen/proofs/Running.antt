@@ -9,9 +9,9 @@ use Rattle.krs_screen.specs.{declared.front.Front.TheVariants.{Crowd, Hello, Oth
 use Rattle.krs_screen.specs.{Reading.passed_of, Run.{AreFrames, asks_gone, crowded, gets_eperm, gone, Heard, IsRight}}
 use Rattle.krs_screen.specs.Run.{IsRightOf, kept, Line, more, named, passed_as, refused, Told, told_as, Verdict, Way}
 use Rattle.krs_screen.proofs.Growing.{front_more, IsSeated, le32_more, may_pass_more, seated, with_more}
+use Rattle.std.proofs.lemmas.Grind.{common_steps}
 
 -- ---- lists that grow at their end
-
 pub ends : {X : Type 0} (xs : List X) → (xs ≡ []) ⊎ ((before : List X) × (x : X) × (xs ≡ before ++ x ∷ []))
 ends [] = inl refl
 ends (x ∷ xs) = elim (ends xs) [
@@ -44,7 +44,6 @@ pub length_push : {X : Type 0} (xs : List X) (x : X) → length (xs ++ x ∷ [])
 length_push xs x = length-append xs (x ∷ [])
 
 -- ---- frames
-
 frames_pushed : (fs : List (List ℕ)) (f : List ℕ) (left : ℕ) → AreFrames fs 0 → length f + left ≡ 4 + le32 f 0
     → AreFrames (fs ++ f ∷ []) left
 frames_pushed [] f left h e = e
@@ -59,7 +58,6 @@ frames_grown (x ∷ []) f ys left later long parts h = (h.0, frames_grown [] f y
 frames_grown (x ∷ y ∷ fs) f ys left later long parts h = (h.0, frames_grown (y ∷ fs) f ys left later long parts h.1)
 
 -- ---- one way, and what went there: as it came, as it was passed on, and what of the last is still to come
-
 pub record IsWay {X : Type 0} (sent told : X → List ℕ) (way : Way) (left : ℕ) (xs : List X) : Type 0 where
   pub came : way.came ≡ flat_map sent xs ++ way.waits
   pub passed : way.passed ≡ flat_map told xs
@@ -105,7 +103,6 @@ module _ {X : Type 0} (sent told : X → List ℕ) (way : Way) where
       }
 
 -- ---- which asks get EPERM, by their numbers, behind the first so many
-
 abbrev pub numbers : ℕ → List Bool → List ℕ
 numbers n [] = []
 numbers n (true ∷ marks) = (n + 1) ∷ numbers (n + 1) marks
@@ -129,7 +126,6 @@ first_behind n (true ∷ marks) k rest e = let h : n + 1 ≡ k = cc in omega (ar
 first_behind n (false ∷ marks) k rest e = let h = first_behind (n + 1) marks k rest e in omega (arith, h)
 
 -- ---- what stays so of a line, by the asks that were heard and the replies that were told
-
 abbrev pub ask_bytes : Heard → List ℕ
 ask_bytes ask = ask.bytes
 
@@ -174,18 +170,7 @@ pub so_still : (peer : Peer) (groups : List ℕ) (line : Line) (asks : List Hear
       asks = to;
       replies = from;
     }) asks replies
-so_still peer groups line asks replies g a r to from i asked told = record {
-  asked-way = asked;
-  told-way = told;
-  right = i.right;
-  marked = i.marked;
-  asked = i.asked;
-  answered = i.answered;
-  fewer = i.fewer;
-  queue = i.queue;
-  room = i.room;
-  long = i.long;
-}
+so_still peer groups line asks replies g a r to from i asked told = grind (arith, common_steps)
 
 -- what is known of an ask that has a right verdict
 record IsHeard (peer : Peer) (groups bytes : List ℕ) (front : Front) (verdict : Verdict) : Type 0 where
@@ -200,26 +185,10 @@ voided_more bytes ys at h = with_more bytes ys at 4294967295 h
 
 heard : (peer : Peer) (groups bytes : List ℕ) (front : Front) (verdict : Verdict) → IsSeated bytes front
     → IsRight peer groups bytes front verdict → IsHeard peer groups bytes front verdict
-heard peer groups bytes (Other frame) kept s r =
-    record { some = omega arith; long = s.sits.0; as_more = λ ys. refl; right_more = λ ys. tt }
-heard peer groups bytes (Crowd frame at) (crowded place) s r = record {
-  some = omega arith;
-  long = omega (arith, s.sits.0, s.sits.1);
-  as_more = λ ys. voided_more bytes ys place (omega (arith, r, s.sits.1));
-  right_more = λ ys. r;
-}
-heard peer groups bytes (Hello at count) kept s r = record {
-  some = omega arith;
-  long = omega (arith, s.sits.0, s.sits.1);
-  as_more = λ ys. refl;
-  right_more = λ ys. may_pass_more peer groups bytes ys at count s.sits.1 ∙ r;
-}
-heard peer groups bytes (Hello at count) (refused place) s r = record {
-  some = omega arith;
-  long = omega (arith, s.sits.0, s.sits.1);
-  as_more = λ ys. voided_more bytes ys place (omega (arith, r.0, s.sits.1));
-  right_more = λ ys. (r.0, may_pass_more peer groups bytes ys at count s.sits.1 ∙ r.1);
-}
+heard peer groups bytes (Other frame) kept s r = grind (arith, common_steps)
+heard peer groups bytes (Crowd frame at) (crowded place) s r = grind (arith, common_steps, voided_more)
+heard peer groups bytes (Hello at count) kept s r = grind (arith, common_steps, may_pass_more)
+heard peer groups bytes (Hello at count) (refused place) s r = grind (arith, common_steps, voided_more, may_pass_more)
 heard peer groups bytes front verdict s r = absurd r
 
 longer : Heard → List ℕ → Heard
@@ -268,8 +237,7 @@ pub asks_go_on : (peer : Peer) (groups : List ℕ) (line : Line) (asks : List He
 asks_go_on peer groups line asks replies n later parts there some i =
     elim (ends asks) [
       | inl none ↦
-          let e : AreFrames [] line.screen.ask_left = rw none at i.asked-way.frames in
-          absurd (omega (arith, e, some))
+          grind (arith, common_steps)
       | inr last ↦
           let asks' : List Heard = last.0 ++ longer last.1 (take n line.asks.waits) ∷ [] in
           let i' : IsSo peer groups line (last.0 ++ last.1 ∷ []) replies = rw last.2 at i in

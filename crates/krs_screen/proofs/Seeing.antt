@@ -9,7 +9,7 @@ use Rattle.krs_wire.specs.{declared.framed.Framed.Framed, Encoding.{ask_frame, a
 use Rattle.krs_wire.specs.Frame.{front_of as read_front}
 use Rattle.krs_wire.proofs.{AskLemmas.front_takes, CountLemmas.length_numbers}
 use Rattle.krs_screen.specs.{declared.front.Front.{Front, TheVariants.{Crowd, Hello}}, Front.{front_by, front_of}}
-use Rattle.krs_screen.specs.{Front.{hello_front, is_known, le16, le32}, Reading.Sees}
+use Rattle.krs_screen.specs.{Front.{hello_front, le16, le32}, Reading.Sees}
 use Rattle.krs_screen.proofs.{Knowing.hello_is_known, Staying.at_of}
 
 abbrev choice : (b : Bool) (frame at count : ℕ) → Front
@@ -44,9 +44,7 @@ front_seen : (bytes : List ℕ) (v n count : ℕ) → (v ≡ 1) ⊎ (v ≡ 2) �
     → le16 bytes 6 ≡ 256 → le32 bytes (at_of v + 8) ≡ count → n ≡ at_of v + 8 + 4 * count → n ≤ 65536
     → 4 + n ≤ length bytes → front_of bytes ≡ choice (nat_lt 32 count) (4 + n) (at_of v) count
 unfolding front_of front_by hello_front
-front_seen bytes v n count either l w o k e most there =
-    let known : is_known (le16 bytes 6) ≡ true = ap is_known o ∙ hello_is_known in
-    grind (arith, common_steps)
+front_seen bytes v n count either l w o k e most there = grind (arith, common_steps, hello_is_known)
 
 abbrev hello : ℕ → Caller → Ask
 hello context caller = record { context = context; op = AsksHello caller }

@@ -1,11 +1,12 @@
 -- A HELLO that was made void is the same HELLO but for its uid.
-use Rattle.std.proofs.Common.{◌&&◌, ◌*◌, ◌+◌, ◌==◌, ◌||◌, ◌∙◌, ◌≡◌, ◌≤◌, ap, arith, drop, drop-drop, if◌then◌else◌}
-use Rattle.std.proofs.Common.{length, List, nat_lt, refl, subst, take, w32, ℕ}
+use Rattle.std.proofs.Common.{◌&&◌, ◌+◌, ◌==◌, ◌||◌, ◌∙◌, ◌≡◌, ◌≤◌, ap, arith, drop, drop-drop, if◌then◌else◌}
+use Rattle.std.proofs.Common.{length, List, nat_lt, refl, take, w32, ℕ}
 use Rattle.std.specs.Int.{from_le_bytes}
 use Rattle.std.proofs.lemmas.Bool.{cond_both}
 use Rattle.krs_screen.specs.{Claim.voided, declared.front.Front.{Front, TheVariants.{Crowd, Fault, Hello, Other, Part}}}
 use Rattle.krs_screen.specs.Front.{front_by, front_of, hello_by, hello_front, is_known, le16, le32}
 use Rattle.krs_screen.proofs.Voiding.{drop_behind, le16_before, le32_before, length_voided}
+use Rattle.std.proofs.lemmas.Grind.{common_steps}
 
 pub le32_behind : (bytes : List ℕ) (at : ℕ) → at ≤ length bytes → le32 (voided bytes at) (at + 8) ≡ le32 bytes (at + 8)
 unfolding le32
@@ -49,22 +50,7 @@ record IsPlaced (at : ℕ) (f : Front) : Type 0 where
 
 all_placed : (there n version op at k : ℕ) → IsPlaced at (layout there n version op at k)
 unfolding layout
-all_placed there n version op at k =
-    let is : Front → Type 0 = IsPlaced at in
-    let no : IsPlaced at Part = record { placed = tt } in
-    let bad : IsPlaced at Fault = record { placed = tt } in
-    cond_both (nat_lt there 4) _ _ is (λ e. no) (λ e.
-    cond_both (nat_lt n 8 || nat_lt 65536 n) _ _ is (λ e. bad) (λ e.
-    cond_both (nat_lt there 12) _ _ is (λ e. no) (λ e.
-    cond_both (version == 1 || (version == 2 && nat_lt 15 n)) _ _ is (λ e.
-    cond_both (is_known op) _ _ is (λ e.
-    cond_both (op == 256) _ _ is (λ e.
-    cond_both (nat_lt (4 + n) (at + 12)) _ _ is (λ e. bad) (λ e.
-    cond_both (nat_lt there (at + 12)) _ _ is (λ e. no) (λ e.
-    cond_both (4 + n == at + 12 + 4 * k) _ _ is (λ e.
-    cond_both (nat_lt 32 k) _ _ is (λ e. record { placed = refl }) (λ e.
-    cond_both (nat_lt there (4 + n)) _ _ is (λ e. no) (λ e. record { placed = refl }))) (λ e. bad))))
-    (λ e. record { placed = tt })) (λ e. bad)) (λ e. bad))))
+all_placed there n version op at k = grind (arith, common_steps, cond_both, nat_lt)
 
 front_placed : (bytes : List ℕ) → IsPlaced (at_of (le16 bytes 4)) (front_of bytes)
 front_placed bytes = rw (as_layout bytes) (all_placed _ _ _ _ (at_of (le16 bytes 4)) _)
@@ -76,27 +62,12 @@ at_least v = grind arith
 stays : (bytes : List ℕ) → at_of (le16 bytes 4) + 12 ≤ length bytes
     → front_of (voided bytes (at_of (le16 bytes 4))) ≡ front_of bytes
 stays bytes there =
-    let at : ℕ = at_of (le16 bytes 4) in
-    let least : 12 ≤ at = at_least (le16 bytes 4) in
-    let within : at ≤ length bytes = omega (arith, there) in
-    rw (
-      as_layout (voided bytes at),
-      as_layout bytes,
-      length_voided bytes at (omega (arith, there)),
-      le32_before bytes at 0 (omega (arith, least)) within,
-      le16_before bytes at 4 (omega (arith, least)) within,
-      le16_before bytes at 6 (omega (arith, least)) within,
-      le32_behind bytes at within,
-    )
+    grind (arith, common_steps, at_least, as_layout, length_voided, le32_before, le16_before, le32_behind)
 
 pub hello_stays : (bytes : List ℕ) (at count : ℕ) → front_of bytes ≡ Hello at count → at + 12 ≤ length bytes
     → front_of (voided bytes at) ≡ front_of bytes
-hello_stays bytes at count h there =
-    let is : at_of (le16 bytes 4) ≡ at = rw h at (front_placed bytes).placed in
-    subst (λ a. a + 12 ≤ length bytes → front_of (voided bytes a) ≡ front_of bytes) is (stays bytes) there
+hello_stays bytes at count h there = grind (arith, common_steps, front_placed, stays)
 
 pub crowd_stays : (bytes : List ℕ) (frame at : ℕ) → front_of bytes ≡ Crowd frame at → at + 12 ≤ length bytes
     → front_of (voided bytes at) ≡ front_of bytes
-crowd_stays bytes frame at h there =
-    let is : at_of (le16 bytes 4) ≡ at = rw h at (front_placed bytes).placed in
-    subst (λ a. a + 12 ≤ length bytes → front_of (voided bytes a) ≡ front_of bytes) is (stays bytes) there
+crowd_stays bytes frame at h there = grind (arith, common_steps, front_placed, stays)

@@ -1,18 +1,16 @@
 -- What a HELLO says that was made void: its uid is 4294967295, and nothing else has changed.
 use Rattle.std.proofs.Common.{[], ◌++◌, ◌+◌, ◌∙◌, ◌∷◌, ◌≡◌, ◌≤◌, ap, arith, drop, length, length-append, length-drop}
-use Rattle.std.proofs.Common.{length-take-le, List, subst, sym, take, take-append-drop, true, w16, w32, ℕ}
-use Rattle.std.specs.Int.{from_le_bytes, to_le_bytes}
+use Rattle.std.proofs.Common.{length-take-le, List, take, take-append-drop, true, w16, w32, ℕ}
+use Rattle.std.specs.Int.{from_le_bytes}
 use Rattle.std.proofs.{lemmas.List.{drop-append-le, take-append-le}, Math.Seq.drop-append-add}
 use Rattle.krs_screen.specs.{Claim.{is_void, voided}, Front.{le16, le32, with_le32}}
+use Rattle.std.proofs.lemmas.Grind.{common_steps}
 
 abbrev nobody : List ℕ
 nobody = 255 ∷ 255 ∷ 255 ∷ 255 ∷ []
 
 pub front_only : (xs ys : List ℕ) (i n : ℕ) → i + n ≤ length xs → take n (drop i (xs ++ ys)) ≡ take n (drop i xs)
-front_only xs ys i n h =
-    let e : drop i (xs ++ ys) ≡ drop i xs ++ ys = drop-append-le i xs ys (omega arith) in
-    let l : n ≤ length (drop i xs) = grind (arith, length-drop) in
-    ap (λ zs. take n zs) e ∙ take-append-le n (drop i xs) ys l
+front_only xs ys i n h = grind (arith, common_steps, drop-append-le, length-drop, take-append-le)
 
 pub before : (bytes ys : List ℕ) (at i n : ℕ) → i + n ≤ at → at ≤ length bytes
     → take n (drop i (take at bytes ++ ys)) ≡ take n (drop i bytes)
@@ -21,20 +19,15 @@ before bytes ys at i n h k =
     let b : i + n ≤ length (take at bytes) = omega (arith, l, h) in
     let whole : take n (drop i (take at bytes ++ drop at bytes)) ≡ take n (drop i bytes) =
     ap (λ zs. take n (drop i zs)) (take-append-drop at bytes) in
-    front_only (take at bytes) ys i n b ∙ sym (front_only (take at bytes) (drop at bytes) i n b) ∙ whole
+    grind (arith, common_steps, front_only)
 
 pub behind : (bytes ys : List ℕ) (at n : ℕ) → at ≤ length bytes → drop (at + n) (take at bytes ++ ys) ≡ drop n ys
-behind bytes ys at n k =
-    subst (λ m. drop (m + n) (take at bytes ++ ys)
-    ≡ drop n ys) (length-take-le at bytes k) (drop-append-add (take at bytes) ys n)
+behind bytes ys at n k = grind (arith, common_steps, length-take-le, drop-append-add)
 
 pub drop_voided : (bytes : List ℕ) (at : ℕ) → at ≤ length bytes
     → drop at (voided bytes at) ≡ nobody ++ drop 4 (drop at bytes)
 unfolding voided
-drop_voided bytes at h =
-    let zero : at + 0 ≡ at = omega arith in
-    subst (λ m. drop m (take at bytes ++ (nobody ++ drop 4 (drop at bytes))) ≡ nobody ++ drop 4 (drop at bytes)) zero
-    (behind bytes (nobody ++ drop 4 (drop at bytes)) at 0 h)
+drop_voided bytes at h = grind (arith, common_steps, behind)
 
 pub le32_voided : (bytes : List ℕ) (at : ℕ) → at ≤ length bytes → le32 (voided bytes at) at ≡ 4294967295
 unfolding le32
@@ -42,11 +35,7 @@ le32_voided bytes at h = rw (drop_voided bytes at h)
 
 pub length_with : (bytes : List ℕ) (at n : ℕ) → at + 4 ≤ length bytes → length (with_le32 bytes at n) ≡ length bytes
 length_with bytes at n h =
-    let rest : List ℕ = drop 4 (drop at bytes) in
-    let m : length (to_le_bytes w32 n ++ rest) ≡ 4 + length rest = length-append (to_le_bytes w32 n) rest in
-    let l = length-take-le at bytes (omega (arith, h)) in
-    let d = length-drop at bytes in
-    omega (arith, length-append (take at bytes) (to_le_bytes w32 n ++ rest), l, d, length-drop 4 (drop at bytes), m)
+    grind (arith, common_steps, w32, length-append, length-take-le at bytes (omega (arith, h)), length-drop at bytes)
 
 pub length_voided : (bytes : List ℕ) (at : ℕ) → at + 4 ≤ length bytes → length (voided bytes at) ≡ length bytes
 unfolding voided

@@ -1,6 +1,7 @@
 use Rattle.krs_screen.proofs.Claiming.{claims}
 use Rattle.krs_screen.proofs.laws.one_claim.Goals as goal
+use Rattle.std.proofs.Common.{arith}
+use Rattle.std.proofs.lemmas.Grind.{common_steps}
 
 pub returns : goal.returns
-returns c =
-    λ peer groups bytes framed more caller fits is op safe. claims peer groups bytes framed more caller fits is op safe
+returns c = grind (arith, common_steps, claims)
