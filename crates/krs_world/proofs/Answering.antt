@@ -2,7 +2,6 @@
 -- is refused.
 use Rattle.std.proofs.Common.{◌+◌, ◌<◌, ◌∙◌, ◌≡◌, ◌≤◌, ap, arith, false, get_or, length, List, ltb, None, Option, refl}
 use Rattle.std.proofs.Common.{Some, subst, sym, take, true, ℕ}
-use borrow.Author.Tests.{true-ltb}
 use lib.ListN.{get_elem?}
 use mathlib.Core.Option.{some, some-injective}
 use Rattle.krs_types.specs.declared.{ask.Ask.Ask, errno.Errno.{Errno, TheVariants.ENOMEM}, event.Event.Event}
@@ -15,12 +14,12 @@ use Rattle.krs_world.proofs.{KeptHistory.{at_in, in_bounds, out_within, seats_by
 use Rattle.krs_world.proofs.{Slots.{cell_idle, cond_none, slot_empty}, Worlds.{get_map, of_map}}
 use Rattle.krs_world.specs.declared.lane.Slot.TheVariants as slots
 use Rattle.krs_world.specs.declared.view.Cell.TheVariants as cells
+use Rattle.std.proofs.lemmas.Grind.{common_steps}
 
 -- a lane that is there, by its look-up
 pub lane_at : (lanes seen : List Lane) (i : ℕ) (x : Lane) → seen ≡ lanes → true ≡ ltb i (length seen)
     → x ≡ get_or seen i x → get_elem? lanes i ≡ some x
-lane_at lanes seen i x same within is = subst (λ (z : List Lane). get_elem? z i ≡ some x) same
-    (at_in seen i x (true-ltb _ _ within) ∙ ap (λ (z : Lane). some z) (sym is))
+lane_at lanes seen i x same within is = grind (arith, common_steps, at_in)
 
 -- a lane at its place
 pub lane_here : (lanes : List Lane) (i : ℕ) (x : Lane) → i < length lanes → x ≡ get_or lanes i x
@@ -30,10 +29,7 @@ lane_here lanes i x within is = at_in lanes i x within ∙ ap (λ (z : Lane). so
 -- the same lane, looked up twice
 pub lanes_same : (lanes seen : List Lane) (i : ℕ) (y x : Lane) → seen ≡ lanes → true ≡ ltb i (length seen)
     → y ≡ get_or seen i y → x ≡ get_or lanes i x → (get_elem? lanes i ≡ some x) × (y ≡ x)
-lanes_same lanes seen i y x same within is also =
-    let one : get_elem? lanes i ≡ some y = lane_at lanes seen i y same within is in
-    let two : get_elem? lanes i ≡ some x = lane_here lanes i x (in_bounds lanes i y one) also in
-    (two, some-injective y x (sym one ∙ two))
+lanes_same lanes seen i y x same within is also = grind (arith, common_steps, lane_at, lane_here, in_bounds)
 
 -- a lane at its place, which has nothing in its cell
 pub idle_here : (lanes : List Lane) (i : ℕ) (x : Lane) → IsIdle lanes i → x ≡ get_or lanes i x

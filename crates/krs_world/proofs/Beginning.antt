@@ -1,18 +1,18 @@
 -- A machine that begins has one history, and so has it after every list of steps.
-use Rattle.std.proofs.Common.{[], ⊎_elim, ◌++◌, ◌+◌, ◌<◌, ◌∙◌, ◌∷◌, ◌≡◌, ap, arith, Bool, cond, false, inl, inr, length}
-use Rattle.std.proofs.Common.{length-append, List, map, None, Option, refl, Some, subst, suc, sym, take, true, zero, ℕ}
+use Rattle.std.proofs.Common.{[], ⊎_elim, ◌++◌, ◌+◌, ◌<◌, ◌∙◌, ◌∷◌, ◌≡◌, ap, arith, false, inl, inr, length}
+use Rattle.std.proofs.Common.{length-append, List, map, None, refl, subst, suc, sym, true, zero, ℕ}
 use lib.ListN.{get_elem?}
-use mathlib.Core.Option.{some, some-injective, some-ne-none}
-use Rattle.krs_types.specs.declared.event.Event.{Event}
+use mathlib.Core.Option.{some, some-ne-none}
 use Rattle.krs_model.specs.State.{starting_at, State}
 use Rattle.krs_model.proofs.History.Legal.{legal_none}
-use Rattle.krs_world.specs.{History.{Fits, Known, Shared, Stands}, Kept.AreFreshLanes}
-use Rattle.krs_world.specs.Kept.{cell_by, flight_by, IsFresh, IsKept, IsSlotOf, known_by, lane_cell, part_by, world_of}
-use Rattle.krs_world.specs.{Knowing.{events_of, fresh, one}, World.{begun, cell_of, empty_cells, Free, fresh_lanes}}
-use Rattle.krs_world.specs.{World.{IsOneHistory, new_world, StaysOne, World}, declared.lane.{Lane.Lane, Slot.Slot}}
-use Rattle.krs_world.specs.declared.view.{Cell.TheVariants.Empty, Part.Part, Service.Service, View.View}
+use Rattle.krs_world.specs.{History.{Known, Shared, Stands}, Kept.AreFreshLanes}
+use Rattle.krs_world.specs.Kept.{cell_by, IsFresh, IsKept, IsSlotOf, lane_cell, part_by, world_of}
+use Rattle.krs_world.specs.{Knowing.{fresh, one}, World.{begun, cell_of, empty_cells, Free, fresh_lanes}}
+use Rattle.krs_world.specs.{World.{IsOneHistory, new_world, StaysOne, World}, declared.lane.{Lane.Lane}}
+use Rattle.krs_world.specs.declared.view.{Cell.TheVariants.Empty, Part.Part, View.View}
 use Rattle.krs_world.proofs.{Lanes.{at_snoc, known_is, one_history}, Worlds.{get_map, of_map, prefix_none, runs_keep}}
 use Rattle.krs_world.specs.declared.lane.Slot.TheVariants as slots
+use Rattle.std.proofs.lemmas.Grind.{common_steps}
 
 cells_empty : (k l : ℕ) → cell_of (empty_cells k) l ≡ Empty
 cells_empty zero l = refl
@@ -21,24 +21,19 @@ cells_empty (suc k) (suc l) = cells_empty k l
 
 fresh_at : (n k j : ℕ) (p : Part) → get_elem? (fresh_lanes n k) j ≡ some p → (fresh (n + j) ≡ p) × (j < k)
 fresh_at n zero j p e = absurd (some-ne-none p (sym e))
-fresh_at n (suc k) zero p e = let same : n + 0 ≡ n = omega arith in
-    (ap fresh same ∙ some-injective (fresh n) p e, omega arith)
-fresh_at n (suc k) (suc j) p e = let t = fresh_at (n + 1) k j p e in
-    let same : n + suc j ≡ (n + 1) + j = omega arith in let lt = t.1 in (ap fresh same ∙ t.0, omega arith)
+fresh_at n (suc k) zero p e = grind (arith, common_steps)
+fresh_at n (suc k) (suc j) p e = grind (arith, common_steps, fresh_at (n + 1) k j p e)
 
 pub fresh_here : (lanes j : ℕ) (p : Part) → get_elem? (fresh_lanes 0 lanes) j ≡ some p → (fresh j ≡ p) × (j < lanes)
-fresh_here lanes j p e = let t = fresh_at 0 lanes j p e in let same : j ≡ 0 + j = omega arith in
-    (ap fresh same ∙ t.0, t.1)
+fresh_here lanes j p e = grind (arith, common_steps, fresh_at)
 
 fresh_in : (n k j : ℕ) → j < k → get_elem? (fresh_lanes n k) j ≡ some (fresh (n + j))
 fresh_in n zero j lt = absurd (omega arith)
 fresh_in n (suc k) zero lt = let same : n ≡ n + 0 = omega arith in ap (λ (m : ℕ). some (fresh m)) same
-fresh_in n (suc k) (suc j) lt = let same : (n + 1) + j ≡ n + suc j = omega arith in
-    fresh_in (n + 1) k j (omega arith) ∙ ap (λ (m : ℕ). some (fresh m)) same
+fresh_in n (suc k) (suc j) lt = grind (arith, common_steps, fresh_in (n + 1) k j (omega arith))
 
 pub fresh_there : (lanes j : ℕ) → j < lanes → get_elem? (fresh_lanes 0 lanes) j ≡ some (fresh j)
-fresh_there lanes j lt = let same : 0 + j ≡ j = omega arith in
-    fresh_in 0 lanes j lt ∙ ap (λ (m : ℕ). some (fresh m)) same
+fresh_there lanes j lt = grind (arith, common_steps, fresh_in)
 
 -- what the seats of fresh lanes share
 abbrev all_fresh : State → ℕ → Shared
@@ -49,8 +44,7 @@ all_fresh a lanes = record {
 }
 
 known : (a : State) (lanes j : ℕ) → j < lanes → Known (all_fresh a lanes) j (fresh j)
-known a lanes j lt = known_is refl lt ([], refl) ([], refl) ([], refl)
-    (subst (Fits [] (fresh j)) (sym (cells_empty lanes j)) (refl, refl, refl)) (λ l is. absurd cc) (λ _. refl)
+known a lanes j lt = grind (arith, common_steps, known_is, cells_empty)
 
 pub begins_world : (a : State) (lanes : ℕ) → IsOneHistory (begun a lanes)
 begins_world a lanes = record {
@@ -95,30 +89,7 @@ begins_whole lanes = (begins_world (starting_at 3) lanes, refl)
 
 -- what the seat of a lane that nothing was done for knows
 fresh_part : (j : ℕ) (l : Lane) → IsFresh j l → part_by [] None l ≡ fresh j
-fresh_part j l f =
-    let seen : take l.seen [] ≡ [] = ap (λ (n : ℕ). take n []) f.seen in
-    let base : take l.base [] ≡ [] = ap (λ (n : ℕ). take n []) f.base in
-    let mine : events_of l.lane (known_by [] l.slot) ≡ [] = ap (λ (s : Slot). events_of l.lane (known_by [] s)) f.slot
-    in
-    let nothing : Option (List Event) = None in
-    let held : cond l.holding (Some []) nothing ≡ nothing = ap (λ (b : Bool). cond b (Some []) nothing) f.holding in
-    let unserved : Option Service = None in
-    let served : cond l.holding unserved unserved ≡ unserved = ap (λ (b : Bool). cond b unserved unserved) f.holding in
-    let flying : flight_by (take l.after []) (lane_cell [] None l) ≡ None =
-    ap (λ (s : Slot). flight_by (take l.after []) (cell_by [] None s)) f.slot in
-    λ i. record {
-      lane = f.lane i;
-      seen = seen i;
-      mine = mine i;
-      holding = held i;
-      serving = served i;
-      flight = flying i;
-      base = base i;
-      taken = f.taken i;
-      found = f.found i;
-      checked = f.checked i;
-      done = f.done i;
-    }
+fresh_part j l f = grind (arith, common_steps)
 
 fresh_parts : (n : ℕ) (lanes : List Lane) → ((j : ℕ) (l : Lane) → get_elem? lanes j ≡ some l → IsFresh (n + j) l)
     → map (part_by [] None) lanes ≡ fresh_lanes n (length lanes)
@@ -174,8 +145,4 @@ new_kept lanes n f = let b : (o : IsOneHistory (world_of (starting_at 3) None No
 -- one lane more
 pub fresh_more : (lanes : List Lane) (n : ℕ) (l : Lane) → AreFreshLanes n lanes → IsFresh n l
     → AreFreshLanes (n + 1) (lanes ++ l ∷ [])
-fresh_more lanes n l f is = (
-  length-append lanes (l ∷ []) ∙ ap (λ (k : ℕ). k + 1) f.0,
-  λ j z e. ⊎_elim (λ (t : get_elem? lanes j ≡ some z). f.1 j z t) (λ (t : (l ≡ z) × (j ≡ length lanes)).
-      subst (λ (m : ℕ). IsFresh m z) (sym (t.1 ∙ f.0)) (subst (IsFresh n) t.0 is)) (at_snoc lanes l z j e),
-)
+fresh_more lanes n l f is = grind (arith, common_steps, length-append, ⊎_elim, at_snoc)

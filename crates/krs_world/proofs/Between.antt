@@ -1,6 +1,6 @@
 -- Of two moments, what a call stands behind at the second that wasn't answered yet at the first.
-use Rattle.std.proofs.Common.{[], ⊎_elim, ◌++◌, ◌==◌, ◌∙◌, ◌∷◌, ◌≡◌, ◌≢◌, ap, append-nil, append_assoc, cond, eq-eqb}
-use Rattle.std.proofs.Common.{List, ne_eqb, Option, refl, subst, sym, ℕ}
+use Rattle.std.proofs.Common.{[], ⊎_elim, ◌++◌, ◌∙◌, ◌∷◌, ◌≡◌, ◌≢◌, ap, append-nil, append_assoc, cond, eq-eqb}
+use Rattle.std.proofs.Common.{arith, List, ne_eqb, Option, refl, subst, sym, ℕ}
 use Rattle.std.proofs.lemmas.List.{append_cancel_left, Elements.filter-append}
 use mathlib.Core.Logic.{dite}
 use native.Mathlib.Decide.{ℕ_discrete}
@@ -12,9 +12,9 @@ use Rattle.krs_world.specs.{Knowing.{events_of, one}, World.IsUnanswered, declar
 use Rattle.krs_world.specs.declared.view.{Cell.TheVariants.{Answered, Empty, Posted, Serving}, Part.Part}
 use Rattle.krs_world.specs.declared.view.{Standing.{Standing, TheVariants.{One, Opening, Spent, Two}}, View.View}
 use Rattle.krs_world.proofs.{Keeping.{empty_if_idle, events_prefix, prefix_trans, shares}, Orders.either_begins}
+use Rattle.std.proofs.lemmas.Grind.{common_steps}
 
 -- Lists.
-
 no_room : (x : List Event) (e : Event) (z : List Event) → ◌≡◌ {A = List Event} [] (x ++ e ∷ z) → ⊥
 no_room [] e z is = absurd cc
 no_room (w ∷ ws) e z is = absurd cc
@@ -56,22 +56,9 @@ pub stands_next : (lane : ℕ) (front mine : List Event) (e : Event) (more log :
     → Begins (events_of lane front) mine → Begins front log → Begins (mine ++ e ∷ more) (events_of lane log)
     → StandsNext lane front mine e log
 stands_next lane front mine e more log had begun has =
-    let own : List Event = events_of lane front in
-    let parts : own ++ events_of lane begun.0 ≡ events_of lane log =
-    sym (filter-append (λ (x : Event). x.lane == lane) front begun.0) ∙ ap (events_of lane) begun.1 in
-    let whole : events_of lane log ≡ own ++ (had.0 ++ e ∷ (more ++ has.0)) = sym has.1
-    ∙ (append_assoc mine (e ∷ more) has.0
-    ∙ (ap (λ l. l ++ e ∷ (more ++ has.0)) (sym had.1) ∙ append_assoc own had.0 (e ∷ (more ++ has.0)))) in
-    let t = falls lane begun.0 had.0 e (more ++ has.0)
-    (append_cancel_left own (events_of lane begun.0) (had.0 ++ e ∷ (more ++ has.0)) (parts ∙ whole)) in (
-      t.0,
-      t.1,
-      sym begun.1 ∙ (ap (λ l. front ++ l) t.2 ∙ sym (append_assoc front t.0 (e ∷ t.1))),
-      filter-append (λ (x : Event). x.lane == lane) front t.0 ∙ (ap (λ l. own ++ l) t.3 ∙ had.1),
-    )
+    grind (arith, common_steps, filter-append, append_assoc, falls, append_cancel_left)
 
 -- What is known at a moment.
-
 seen_of : (s : Shared) (j : ℕ) (seen : List Event) (st : Standing) → HasSeen seen st → Stands s j st → Begins seen s.log
 seen_of s j seen Spent h k = absurd h
 seen_of s j seen (One p) h k = subst (λ l. Begins l s.log) h k.seen
@@ -95,8 +82,7 @@ mine_is p log (Answered m a r) u f = absurd u
 
 front_had : (q : Part) (front log : List Event) (c : Cell) → Begins front log → IsUnanswered c → Fits log q c
     → Begins (events_of q.lane front) q.mine
-front_had q front log c begun u f =
-    subst (Begins (events_of q.lane front)) (mine_is q log c u f) (events_prefix q.lane front log begun)
+front_had q front log c begun u f = grind (arith, common_steps, mine_is, events_prefix)
 
 pub collected_between : KeepsCollectedBetween
 collected_between a t t' home home' cell cell' views views' front j j' q q' e more o later was is at

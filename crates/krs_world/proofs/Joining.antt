@@ -1,6 +1,6 @@
 -- Joining two seats and splitting them again keeps the one history.
 use Rattle.std.proofs.Common.{[], ⊎_elim, ◌++◌, ◌∙◌, ◌∷◌, ◌≡◌, ◌≢◌, ◌⊎◌, ap, inl, inr, length, length-set, List, None}
-use Rattle.std.proofs.Common.{Option, refl, set, Some, subst, sym, ℕ}
+use Rattle.std.proofs.Common.{arith, Option, refl, set, Some, subst, sym, ℕ}
 use lib.ListN.{get_elem?}
 use mathlib.Core.{Logic.dite, Option.{some, some-injective}}
 use native.Mathlib.Decide.{ℕ_discrete}
@@ -14,20 +14,18 @@ use Rattle.krs_world.proofs.Keeping.{holds_is, known_is, prefix_self, prefix_tra
 use Rattle.krs_world.proofs.Keeping.{one_history, snoc_end}
 use Rattle.krs_world.proofs.Places.{dealing_set, dealing_snoc, seated, seated_else, seated_here, seated_set}
 use Rattle.krs_world.proofs.Places.{seated_snoc, seats_again}
+use Rattle.std.proofs.lemmas.Grind.{common_steps}
 
 pub each_snoc : (S : ℕ → View → Type 0) (views : List View) (n : ℕ) (w : View) → length views ≡ n → S n w
     → ((j : ℕ) (v : View) → get_elem? views j ≡ some v → S j v)
     → (j : ℕ) (v : View) → get_elem? (views ++ w ∷ []) j ≡ some v → S j v
-each_snoc S views n w len last others j v e = ⊎_elim (others j v)
-    (λ (t : (w ≡ v) × (j ≡ length views)). subst (λ (x : ℕ × View). S x.0 x.1) (λ i. (sym (t.1 ∙ len) i, t.0 i)) last)
-    (at_snoc views w v j e)
+each_snoc S views n w len last others j v e = grind (arith, common_steps, ⊎_elim, at_snoc)
 
 -- another seat for a lane
 pub reseat : (s : Shared) (seat : ℕ → ℕ) (j j' : ℕ) (p : Part) → Known s j p → seat p.lane ≡ j'
     → ((l : List Event) → p.holding ≡ Some l → Holds s j' p l)
     → Known (record s { witness = record s.witness { seat = seat } }) j' p
-reseat s seat j j' p k at holds = known_is at k.given k.seen k.base k.calls k.fits
-    (λ l is. let h = holds l is in holds_is h.out h.here h.whole h.same_service) k.unheld
+reseat s seat j j' p k at holds = grind (arith, common_steps, known_is, holds_is)
 
 -- the longest list that is seen, where one seat takes in the lane of another
 seen_join : (log : List Event) (a b : State) (views : List View) (id other : ℕ) (p q : Part)

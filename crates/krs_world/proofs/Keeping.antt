@@ -6,7 +6,7 @@ use mathlib.Core.Option.{some}
 use Rattle.krs_types.specs.declared.event.Event.{Event}
 use Rattle.krs_model.specs.{History.IsLegal, Lists.Begins, State.State, Step.Step}
 use Rattle.krs_model.proofs.History.Legal.{legal_more}
-use Rattle.krs_world.specs.History.{Fits, Known, OneHistory, Shared, Stands}
+use Rattle.krs_world.specs.History.{Fits, IsSeated, Known, OneHistory, Shared, Stands}
 use Rattle.krs_world.specs.Knowing.{events_of, kept, loaded, missed, one, put_none, put_own, taken, view}
 use Rattle.krs_world.specs.declared.view.Cell.{Cell, TheVariants.Empty}
 use Rattle.krs_world.specs.declared.view.{Part.Part, Standing.{Standing, TheVariants.{One, Spent}}, View.View}
@@ -15,7 +15,6 @@ pub use Rattle.krs_world.proofs.Lanes.{other_event, at_set, set_at, set_else, sn
 pub use Rattle.krs_world.proofs.Lanes.{held_set, seen_snoc, held_snoc, each_set, shares, others_stand, celled_here}
 pub use Rattle.krs_world.proofs.Lanes.{celled_else, fits_more, fits_same, empty_if_idle, idle_mine, holds_is, known_is}
 pub use Rattle.krs_world.proofs.Lanes.{known_of, one_history, sits_of}
-use Rattle.krs_world.specs.History.{IsSeated}
 use Rattle.krs_world.proofs.Places.{seated_set, dealing_set}
 
 -- Steps of one lane's seat.

@@ -11,6 +11,7 @@ use Rattle.krs_world.specs.Kept.{cell_by, IsKept, lane_cell, part_by, turn_by, w
 use Rattle.krs_world.specs.World.{cell_of, Free, IsHistory, IsOneHistory, recelled, reseated}
 use Rattle.krs_world.specs.declared.{lane.Lane.Lane, view.{Cell.Cell, Part.Part, Service.Service}}
 use Rattle.krs_world.proofs.{Lanes.at_set, Worlds.{get_map, history_is, of_map}}
+use Rattle.std.proofs.lemmas.Grind.{common_steps}
 
 -- what the seats know, by the list of all calls
 abbrev pub seats_by : List Event → Option Service → List Lane → List Part
@@ -21,7 +22,6 @@ abbrev pub cells_by : List Event → Option Service → List Lane → List Cell
 cells_by log serving lanes = map (lane_cell log serving) lanes
 
 -- Lists.
-
 pub begins_take : (n : ℕ) (log : List Event) → Begins (take n log) log
 begins_take n log = (drop n log, take-append-drop n log)
 
@@ -79,7 +79,6 @@ in_bounds (y ∷ ys) zero x e = omega arith
 in_bounds (y ∷ ys) (suc i) x e = let lt = in_bounds ys i x e in omega arith
 
 -- The history of the machine that is kept so.
-
 -- a list is the history of a machine that is kept so only where it is the list of all calls
 pub history_kept : {store : State} {out : Option ℕ} {serving : Option Service} {log : List Event} {lanes : List Lane}
     (k : IsKept store out serving log lanes)
@@ -92,8 +91,7 @@ history_kept {store} {out} {serving} {log} {lanes} k other h =
 pub kept_history : {store : State} {out : Option ℕ} {serving : Option Service} {log : List Event} {lanes : List Lane}
     → IsKept store out serving log lanes
     → IsHistory (world_of store out serving log lanes) log
-kept_history {store} {out} {serving} {log} {lanes} k = subst
-    (IsHistory (world_of store out serving log lanes)) k.whole k.one.whole
+kept_history {store} {out} {serving} {log} {lanes} k = grind (arith, common_steps)
 
 -- who holds a list holds the whole
 pub held_whole : (log l : List Event) (b : Bool) → cond b (Some log) None ≡ Some l → log ≡ l
@@ -121,10 +119,7 @@ whole_now store None serving log lanes now free =
       λ j p at. let m = of_map (part_by log serving) lanes j p at in
           subst (λ (q : Part). Begins q.seen log) m.2 (begins_take m.0.seen log),
     ))
-whole_now store (Some holder) serving log lanes now free = let t = now.whole in
-    let m = of_map (part_by log serving) lanes holder t.0 t.1 in
-    let holds : cond m.0.holding (Some log) None ≡ Some now.history.log = ap (λ (p : Part). p.holding) m.2 ∙ t.2 in
-    sym (held_whole log now.history.log m.0.holding holds)
+whole_now store (Some holder) serving log lanes now free = grind (arith, common_steps, of_map, held_whole)
 
 -- some lane has seen all calls, where the turn is free
 pub seen_whole : {store : State} {serving : Option Service} {log : List Event} {lanes : List Lane}
@@ -150,14 +145,11 @@ out_within {lanes = lanes} {i} k here =
     let t = out_at k here in in_bounds lanes i t.0 t.1
 
 -- The machine as it is kept, after a step.
-
 -- what is so of the lane at one place, and of all others, is so of each
 pub each_at : (P : ℕ → Lane → Type 0) (lanes : List Lane) (i : ℕ) (y : Lane) → P i y
     → ((j : ℕ) (l : Lane) → j ≢ i → get_elem? lanes j ≡ some l → P j l) → (j : ℕ) (l : Lane)
     → get_elem? (set lanes i y) j ≡ some l → P j l
-each_at P lanes i y mine others j l e = ⊎_elim
-    (λ (t : (j ≡ i) × (y ≡ l)). subst (λ (x : ℕ × Lane). P x.0 x.1) (λ k. (sym t.0 k, t.1 k)) mine)
-    (λ (t : (j ≢ i) × (get_elem? lanes j ≡ some l)). others j l t.0 t.1) (at_set lanes i j y l e)
+each_at P lanes i y mine others j l e = grind (arith, common_steps, ⊎_elim, at_set)
 
 -- another lane at its place, with the cell that it had
 pub reseats : (store : State) (out out' : Option ℕ) (serving : Option Service) (log : List Event) (lanes : List Lane)
@@ -185,9 +177,4 @@ pub recells : (store : State) (out : Option ℕ) (serving : Option Service) (log
     (i : ℕ) (y : Lane) (q : Part) (c : Cell) → part_by log serving y ≡ q → lane_cell log serving y ≡ c
     → world_of store out serving log (set lanes i y)
     ≡ recelled (reseated (world_of store out serving log lanes) i q) i c
-recells store out serving log lanes i y q c is cell = λ k. record {
-  opening = starting_at 3;
-  turn = turn_by store out;
-  cells = (map-set (lane_cell log serving) lanes i y ∙ ap (set (cells_by log serving lanes) i) cell) k;
-  seats = (map-set (part_by log serving) lanes i y ∙ ap (set (seats_by log serving lanes) i) is) k;
-}
+recells store out serving log lanes i y q c is cell = grind (arith, common_steps, map-set, set)

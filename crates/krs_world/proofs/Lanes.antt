@@ -12,9 +12,9 @@ use Rattle.krs_world.specs.History.{Linearizes, Sits, Stands, StandsFor}
 use Rattle.krs_world.specs.Knowing.{celled, events_of, flight}
 use Rattle.krs_world.specs.declared.view.{Cell.{Cell, TheVariants.{Answered, Empty, Posted, Serving}}, Part.Part}
 use Rattle.krs_world.specs.declared.view.{Standing.{Standing, TheVariants.{One, Opening, Spent, Two}}, View.View}
+use Rattle.std.proofs.lemmas.Grind.{common_steps}
 
 -- Lists.
-
 pub prefix_self : {A : Type 0} (xs : List A) → Begins xs xs
 prefix_self xs = ([], append-nil xs)
 
@@ -29,8 +29,7 @@ pub prefix_both : {A : Type 0} (xs ys : List A) → Begins xs ys → Begins ys x
 prefix_both [] [] p q = refl
 prefix_both [] (y ∷ ys) p q = absurd (let e = q.1 in cc)
 prefix_both (x ∷ xs) [] p q = absurd (let e = p.1 in cc)
-prefix_both (x ∷ xs) (y ∷ ys) p q = let e = p.1 in let f = q.1 in let one : x ≡ y = cc in
-    let more : xs ≡ ys = prefix_both xs ys (p.0, cc) (q.0, cc) in λ i. one i ∷ more i
+prefix_both (x ∷ xs) (y ∷ ys) p q = grind (arith, common_steps, prefix_both xs ys (p.0, cc) (q.0, cc))
 
 pub events_prefix : (lane : ℕ) (xs ys : List Event) → Begins xs ys → Begins (events_of lane xs) (events_of lane ys)
 events_prefix lane xs ys p = (
@@ -40,13 +39,11 @@ events_prefix lane xs ys p = (
 
 pub own_event : (lane : ℕ) (log : List Event) (e : Event) → e.lane ≡ lane → events_of lane (log ++ e ∷ [])
     ≡ events_of lane log ++ e ∷ []
-own_event lane log e is = filter-append (λ (x : Event). x.lane == lane) log (e ∷ [])
-    ∙ ap (λ b. events_of lane log ++ cond b (e ∷ []) []) (eq-eqb e.lane lane is)
+own_event lane log e is = grind (arith, common_steps, filter-append, eq-eqb)
 
 pub other_event : (lane : ℕ) (log : List Event) (e : Event) → e.lane ≢ lane → events_of lane (log ++ e ∷ [])
     ≡ events_of lane log
-other_event lane log e not = filter-append (λ (x : Event). x.lane == lane) log (e ∷ [])
-    ∙ (ap (λ b. events_of lane log ++ cond b (e ∷ []) []) (ne_eqb e.lane lane not) ∙ append-nil (events_of lane log))
+other_event lane log e not = grind (arith, common_steps, filter-append, ne_eqb, append-nil)
 
 pub at_set : {A : Type 0} (l : List A) (i j : ℕ) (a b : A) → get_elem? (set l i a) j ≡ some b → ((j ≡ i) × (a ≡ b))
     ⊎ ((j ≢ i) × (get_elem? l j ≡ some b))
@@ -54,8 +51,7 @@ at_set [] i j a b e = absurd (some-ne-none b (sym e))
 at_set (x ∷ xs) zero zero a b e = inl (refl, some-injective a b e)
 at_set (x ∷ xs) zero (suc j) a b e = inr ((λ h. omega arith), e)
 at_set (x ∷ xs) (suc i) zero a b e = inr ((λ h. omega arith), e)
-at_set (x ∷ xs) (suc i) (suc j) a b e = ⊎_elim (λ t. inl (ap suc t.0, t.1)) (λ t. let n = t.0 in
-    inr ((λ h. n (omega arith)), t.1)) (at_set xs i j a b e)
+at_set (x ∷ xs) (suc i) (suc j) a b e = grind (arith, common_steps, ⊎_elim, at_set xs i j a b e)
 
 pub set_at : {A : Type 0} (l : List A) (i : ℕ) (a b : A) → get_elem? l i ≡ some b → get_elem? (set l i a) i ≡ some a
 set_at [] i a b e = absurd (some-ne-none b (sym e))
@@ -86,7 +82,6 @@ at_snoc (x ∷ xs) a b zero e = inl e
 at_snoc (x ∷ xs) a b (suc j) e = ⊎_elim inl (λ t. inr (t.0, ap suc t.1)) (at_snoc xs a b j e)
 
 -- The longest list that is seen, and the list that is held.
-
 pub seen_set : (log : List Event) (views : List View) (id : ℕ) (v w : View) → get_elem? views id ≡ some v
     → (HasSeen log v.stands → HasSeen log w.stands) → IsSeen log views → IsSeen log (set views id w)
 seen_set log views id v w at go s = ⊎_elim inl (λ (t : (j : ℕ) × (x : View) × (get_elem? views j ≡ some x)
@@ -108,8 +103,7 @@ held_set log holder views id v w at go t = dite (ℕ_discrete holder id) (λ sam
 )) (λ not. (t.0, set_else views id holder w not ∙ t.1, t.2))
 
 pub seen_snoc : (log : List Event) (views : List View) (x : View) → IsSeen log views → IsSeen log (views ++ x ∷ [])
-seen_snoc log views x s = ⊎_elim inl (λ (t : (j : ℕ) × (v : View) × (get_elem? views j ≡ some v)
-    × HasSeen log v.stands). inr (t.0, t.1, snoc_at views t.0 x t.1 t.2, t.3)) s
+seen_snoc log views x s = grind (arith, common_steps, ⊎_elim, snoc_at)
 
 pub held_snoc : (log : List Event) (holder : ℕ) (views : List View) (x : View) → IsHeld log holder views
     → IsHeld log holder (views ++ x ∷ [])
@@ -118,9 +112,7 @@ held_snoc log holder views x t = (t.0, snoc_at views holder x t.0 t.1, t.2)
 -- what holds of the view that a step gives and of all others holds of each
 pub each_set : (S : ℕ → View → Type 0) (views : List View) (id : ℕ) (w : View) → S id w → ((j : ℕ) (v : View) → j ≢ id
     → get_elem? views j ≡ some v → S j v) → (j : ℕ) (v : View) → get_elem? (set views id w) j ≡ some v → S j v
-each_set S views id w mine others j v e = ⊎_elim (λ (t : (j ≡ id) × (w ≡ v)). subst (λ (x : ℕ × View). S x.0 x.1)
-    (λ i. (sym t.0 i, t.1 i)) mine)
-    (λ (t : (j ≢ id) × (get_elem? views j ≡ some v)). others j v t.0 t.1) (at_set views id j w v e)
+each_set S views id w mine others j v e = grind (arith, common_steps, ⊎_elim, at_set)
 
 -- what all seats share in a history
 abbrev pub shares : {a : State} {turn : ℕ} {home : Option State} {cell : ℕ → Cell} {views : List View}
@@ -131,15 +123,13 @@ shares {turn = turn} {cell = cell} o = record { witness = o.witness; turn = turn
 pub known_of : (s : Shared) (j : ℕ) (st : Standing) (p : Part) → Sits p st → Stands s j st → Known s j p
 known_of s j Spent p sits k = absurd sits
 known_of s j (One q) p sits k = subst (Known s j) sits k
-known_of s j (Two q r) p sits k =
-    ⊎_elim (λ (e : q ≡ p). subst (Known s j) e k.0) (λ (e : r ≡ p). subst (Known s j) e k.1) sits
+known_of s j (Two q r) p sits k = grind (arith, common_steps, ⊎_elim)
 known_of s j (Opening n) p sits k = absurd sits
 
 pub sits_of : (lane : ℕ) (st : Standing) → StandsFor lane st → (p : Part) × Sits p st × (p.lane ≡ lane)
 sits_of lane Spent is = absurd is
 sits_of lane (One p) is = (p, refl, is)
-sits_of lane (Two p q) is =
-    ⊎_elim (λ (e : p.lane ≡ lane). (p, inl refl, e)) (λ (e : q.lane ≡ lane). (q, inr refl, e)) is
+sits_of lane (Two p q) is = grind (arith, common_steps, ⊎_elim)
 sits_of lane (Opening n) is = absurd is
 
 -- the claim follows from what is kept
@@ -188,35 +178,14 @@ holds_is out here whole same = record { out = out; here = here; whole = whole; s
 pub known_is : {s : Shared} {j : ℕ} {p : Part} → s.seat p.lane ≡ j → p.lane < s.dealt → Begins p.seen s.log
     → Begins p.base s.log → Begins p.mine (events_of p.lane p.seen) → Fits s.log p (s.cell p.lane)
     → ((l : List Event) → p.holding ≡ Some l → Holds s j p l) → (p.holding ≡ None → p.serving ≡ None) → Known s j p
-known_is at given seen base calls fits holding unheld = record {
-  at = at;
-  given = given;
-  seen = seen;
-  base = base;
-  calls = calls;
-  fits = fits;
-  holding = holding;
-  unheld = unheld;
-}
+known_is at given seen base calls fits holding unheld = grind (arith, common_steps)
 
 -- a list that gains an event of another lane fits as before
 pub fits_more : (log : List Event) (e : Event) (p : Part) → e.lane ≢ p.lane → (c : Cell) → Fits log p c
     → Fits (log ++ e ∷ []) p c
 fits_more log e p other Empty f = (f.0, other_event p.lane log e other ∙ f.1, f.2)
-fits_more log e p other (Posted m a) f = (
-  f.0,
-  f.1,
-  other_event p.lane log e other ∙ f.2,
-  f.3,
-  prefix_more f.0 log (e ∷ []) f.4,
-)
-fits_more log e p other (Serving m a) f = (
-  f.0,
-  f.1,
-  other_event p.lane log e other ∙ f.2,
-  f.3,
-  prefix_more f.0 log (e ∷ []) f.4,
-)
+fits_more log e p other (Posted m a) f = grind (arith, common_steps, other_event, prefix_more)
+fits_more log e p other (Serving m a) f = grind (arith, common_steps, other_event, prefix_more)
 fits_more log e p other (Answered m a r) f = (
   f.0,
   f.1,
@@ -232,26 +201,9 @@ fits_more log e p other (Answered m a r) f = (
 pub fits_same : (log : List Event) (p q : Part) → q.lane ≡ p.lane → q.flight ≡ p.flight → q.mine ≡ p.mine
     → q.done ≡ p.done → (c : Cell) → Fits log p c → Fits log q c
 fits_same log p q el ef em ed Empty f = (ef ∙ f.0, ap (λ l. events_of l log) el ∙ (f.1 ∙ sym em), ed ∙ f.2)
-fits_same log p q el ef em ed (Posted m a) f = (
-  f.0,
-  ef ∙ f.1,
-  ap (λ l. events_of l log) el ∙ (f.2 ∙ sym em),
-  ed ∙ f.3,
-  f.4,
-)
-fits_same log p q el ef em ed (Serving m a) f = (
-  f.0,
-  ef ∙ f.1,
-  ap (λ l. events_of l log) el ∙ (f.2 ∙ sym em),
-  ed ∙ f.3,
-  f.4,
-)
-fits_same log p q el ef em ed (Answered m a r) f = (
-  f.0,
-  ef ∙ f.1,
-  ap (λ l. events_of l log) el ∙ (f.2 ∙ (λ i. sym em i ++ event_of (sym el i) m a r ∷ [])),
-  (f.3.0, f.3.1, f.3.2 ∙ (λ i. (f.0 ++ f.3.0) ++ event_of (sym el i) m a r ∷ f.3.1)),
-)
+fits_same log p q el ef em ed (Posted m a) f = grind (arith, common_steps)
+fits_same log p q el ef em ed (Serving m a) f = grind (arith, common_steps)
+fits_same log p q el ef em ed (Answered m a r) f = grind (arith, common_steps)
 
 pub empty_if_idle : (p : Part) (log : List Event) (c : Cell) → p.flight ≡ None → Fits log p c → c ≡ Empty
 empty_if_idle p log Empty n f = refl

@@ -1,6 +1,6 @@
 -- The history only grows, and so does what seats have seen, which begins it.
 use Rattle.std.proofs.Common.{[], ⊎_elim, ◌++◌, ◌==◌, ◌∙◌, ◌∷◌, ◌≡◌, ◌⊎◌, ap, append_assoc, cond, false, inl, inr, List}
-use Rattle.std.proofs.Common.{None, refl, set, Some, subst, sym, ℕ}
+use Rattle.std.proofs.Common.{arith, None, refl, set, Some, subst, sym, ℕ}
 use lib.ListN.{get_elem?}
 use mathlib.Core.{Logic.dite, Option.{some, some-injective}}
 use native.Mathlib.Decide.{ℕ_discrete}
@@ -16,6 +16,7 @@ use Rattle.krs_world.specs.declared.step.Kind.TheVariants.{Post, Put, Serve, Tak
 use Rattle.krs_world.specs.declared.{step.WorldStep.WorldStep, view.Part.Part}
 use Rattle.krs_world.proofs.{Beginning.begins_world, Keeping.{prefix_more, prefix_self, prefix_trans, set_at, set_else}}
 use Rattle.krs_world.proofs.Worlds.{get_map, history_is, history_is_one, prefix_none, runs_keep, step_as, steps_keep}
+use Rattle.std.proofs.lemmas.Grind.{common_steps}
 
 -- two lists that begin one
 pub either_begins : {A : Type 0} (xs ys zs : List A) → Begins xs zs → Begins ys zs → Begins xs ys ⊎ Begins ys xs
@@ -113,8 +114,7 @@ same_grows w new o n log h g = subst (λ (x : List Event × List Event). Begins 
 turn_grows : (w new : World) (lane : ℕ) (p q : Part) (o : IsOneHistory w) (n : IsOneHistory new)
     → get_elem? w.seats lane ≡ some p → q.holding ≡ p.holding → new.turn ≡ w.turn → new.seats ≡ set w.seats lane q
     → SeenGrows w new → (turn : Turn) → w.turn ≡ turn → Begins o.history.log n.history.log
-turn_grows w new lane p q o n at same turns seats grows (Free store) turn = free_grows w new o n grows
-    (subst (λ (x : Turn). IsHistoryBy x o.history.log w.seats) turn o.whole)
+turn_grows w new lane p q o n at same turns seats grows (Free store) turn = grind (arith, common_steps, free_grows)
 turn_grows w new lane p q o n at same turns seats grows (Out holder) turn = let log : List Event = o.history.log in
     let h : IsHistoryBy (Out holder) log w.seats = subst (λ (x : Turn). IsHistoryBy x log w.seats) turn o.whole in
     let g : IsHistoryBy (Out holder) log (set w.seats lane q) = dite (ℕ_discrete holder lane) (λ here. (
@@ -150,8 +150,7 @@ holder_grows w new o n lane p q log e at held holds turns seats =
 
 pub log_grows : (w : World) (lane : ℕ) (p : Part) (k : Kind) (new : World) (o : IsOneHistory w) (n : IsOneHistory new)
     → get_elem? w.seats lane ≡ some p → StepsAs w lane p k new → Begins o.history.log n.history.log
-log_grows w lane p Take new o n at t = same_grows w new o n t.1 t.3 (subst (λ (x : World). IsHistory x t.1) (sym t.4)
-    (taken p t.1, set_at w.seats lane (taken p t.1) p at, refl))
+log_grows w lane p Take new o n at t = grind (arith, common_steps, same_grows, set_at)
 log_grows w lane p TakeFound new o n at t = turn_grows w new lane p (missed p) o n at refl
     (ap (λ (x : World). x.turn) t.3)
     (ap (λ (x : World). x.seats) t.3) (step_sees w lane p TakeFound new o at t) (Out t.0) t.1

@@ -1,12 +1,13 @@
 -- The places of the seats: which lane has which, and what a step leaves at them.
 use Rattle.std.proofs.Common.{[], ◌++◌, ◌==◌, ◌∙◌, ◌∷◌, ◌≡◌, ◌≢◌, ap, cond, eq-eqb, List, ne_eqb, refl, set, subst, sym}
-use Rattle.std.proofs.Common.{ℕ}
+use Rattle.std.proofs.Common.{arith, ℕ}
 use lib.ListN.{get_elem?}
 use mathlib.Core.{Logic.dite, Option.{some, some-injective}}
 use native.Mathlib.Decide.{ℕ_discrete}
 use Rattle.krs_world.specs.History.{IsDealing, IsSeated, StandsFor}
 use Rattle.krs_world.specs.declared.view.{Standing.{Standing, TheVariants.Opening}, View.View}
 use Rattle.krs_world.proofs.Lanes.{set_at, set_else, snoc_at}
+use Rattle.std.proofs.lemmas.Grind.{common_steps}
 
 -- what holds of what the view at a place stands for holds after a step that keeps it
 pub place_set : (P : Standing → Type 0) (place : ℕ) (views : List View) (id : ℕ) (v w : View)
@@ -50,7 +51,4 @@ seated_else seat lane id l not = ap (λ b. cond b id (seat l)) (ne_eqb l lane no
 -- a lane has a seat again, where one gets another place and all others keep theirs
 pub seats_again : (seat : ℕ → ℕ) (lane place l : ℕ) (views : List View) → (l ≡ lane → IsSeated lane place views)
     → (l ≢ lane → IsSeated l (seat l) views) → IsSeated l (seated seat lane place l) views
-seats_again seat lane place l views here else = dite (ℕ_discrete l lane)
-    (λ same. subst (λ (x : ℕ). IsSeated x (seated seat lane place x) views) (sym same)
-    (subst (λ (x : ℕ). IsSeated lane x views) (sym (seated_here seat lane place)) (here same)))
-    (λ not. subst (λ (x : ℕ). IsSeated l x views) (sym (seated_else seat lane place l not)) (else not))
+seats_again seat lane place l views here else = grind (arith, common_steps, seated_here, seated_else)

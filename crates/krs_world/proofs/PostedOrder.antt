@@ -1,5 +1,5 @@
 -- A posted call stands behind all that its seat had seen as it was posted.
-use Rattle.std.proofs.Common.{◌++◌, ◌∙◌, ◌∷◌, ◌≡◌, ap, append_assoc, List, refl, subst, sym, ℕ}
+use Rattle.std.proofs.Common.{◌∙◌, ◌≡◌, ap, append_assoc, arith, List, refl, subst, sym, ℕ}
 use lib.ListN.{get_elem?}
 use mathlib.Core.Option.{some}
 use Rattle.krs_types.specs.declared.event.Event.{Event}
@@ -9,15 +9,12 @@ use Rattle.krs_world.specs.World.{begun, cell_of, IsOneHistory, World}
 use Rattle.krs_world.specs.declared.{step.Kind.TheVariants.Collect, view.{Cell.TheVariants.Answered, Part.Part}}
 use Rattle.krs_world.proofs.{Beginning.begins_world, Keeping.{prefix_trans, set_at}, Orders.{log_grows, runs_grow}}
 use Rattle.krs_world.proofs.Worlds.{cell_at, get_map, history_is, runs_keep, step_as}
+use Rattle.std.proofs.lemmas.Grind.{common_steps}
 
 -- what stands behind a list goes on to stand behind it where the history grows
 stands_on : (had : List Event) (e : Event) (log later : List Event)
     → StandsAfter had e log → Begins log later → StandsAfter had e later
-stands_on had e log later s b = (
-  s.0,
-  s.1 ++ b.0,
-  sym b.1 ∙ (ap (λ l. l ++ b.0) s.2 ∙ append_assoc (had ++ s.0) (e ∷ s.1) b.0),
-)
+stands_on had e log later s b = grind (arith, common_steps, append_assoc)
 
 pub posted_order : KeepsPostedOrder
 posted_order opening lanes before after mid next end lane p size log first at step second history =

@@ -1,13 +1,14 @@
 -- A list of events leads to one store, or can't have happened.
-use Rattle.std.proofs.Common.{[], ⊎_elim, ◌++◌, ◌+◌, ◌<◌, ◌∙◌, ◌∷◌, ◌≡◌, ◌≢◌, ap, Bool, drop, Err, false, get_or, IsErr}
-use Rattle.std.proofs.Common.{length, List, Ok, refl, Result, subst, suc, sym, take, take-append-drop, true, ℕ}
+use Rattle.std.proofs.Common.{[], ⊎_elim, ◌++◌, ◌+◌, ◌<◌, ◌∙◌, ◌∷◌, ◌≡◌, ◌≢◌, ap, Bool, drop, Err, false, get_or}
+use Rattle.std.proofs.Common.{arith, length, List, Ok, refl, Result, subst, suc, sym, take, take-append-drop, true, ℕ}
 use Rattle.std.proofs.Math.Seq.{drop-cons}
-use Rattle.krs_types.specs.{Growth.grows, declared.ask.{Answer.Answer, Ask.Ask, Op.{Op, TheVariants.OpenQueue}}}
+use Rattle.krs_types.specs.{Growth.grows, declared.ask.{Answer.Answer, Op.{Op, TheVariants.OpenQueue}}}
 use Rattle.krs_types.specs.declared.{errno.Errno.{Errno, TheVariants.ENOMEM}, event.Event.Event}
 use Rattle.krs_model.specs.{Asks.Watching.{open_queue, opened}, History.event_of, Outcome.Outcome}
-use Rattle.krs_model.specs.{State.{raised, State}, Step.{Ends, LacksMemory, outcome_of, Step}}
+use Rattle.krs_model.specs.{State.{raised, State}, Step.{Ends, outcome_of, Step}}
 use Rattle.krs_model.proofs.History.{Determined.one_step, Steps.refusal_stays}
 use Rattle.krs_world.specs.Replay.{FoundNoMemory, Replayed, Replays, ReplaysTo}
+use Rattle.std.proofs.lemmas.Grind.{common_steps}
 
 -- what is true isn't false
 pub no_both : (b : Bool) → b ≡ true → b ≡ false → ⊥
@@ -22,35 +23,20 @@ reply_is : (s new : State) (client context : ℕ) (op : Op) (reply : Result Answ
     → Ends s client context op reply new → (reply ≡ Err ENOMEM → grows op ≡ true → ⊥)
     → reply ≡ replied (outcome_of s client context op)
 reply_is s new client context op (Ok answer) ends not = sym (ap replied ends.meant)
-reply_is s new client context op (Err e) ends not =
-    let error : Errno → Result Answer Errno = λ x. Err x in
-    ⊎_elim (λ (meant : outcome_of s client context op ≡ Err e). sym (ap replied meant))
-    (λ (wanting : LacksMemory op e (outcome_of s client context op)). absurd (not (ap error wanting.0) wanting.1))
-    ends.0
+reply_is s new client context op (Err e) ends not = grind (arith, common_steps, ⊎_elim)
 
 -- what is asked of a state is answered with one reply, unless an ask that may find no memory found none
 only_reply : (old a b : State) (e f : Event) → e.lane ≡ f.lane → e.moment ≡ f.moment → e.ask ≡ f.ask → Step old e a
     → Step old f b → (FoundNoMemory e → ⊥) → f.reply ≢ Err ENOMEM → e.reply ≡ f.reply
 unfolding Step
-only_reply old a b e f lane moment ask first second memory other =
-    let meant : ℕ → ℕ → Ask → Outcome = λ n at_moment asked.
-    outcome_of (raised old at_moment) n asked.context asked.op in
-    let this : e.reply ≡ replied (meant e.lane e.moment e.ask) =
-    reply_is (raised old e.moment) a e.lane e.ask.context e.ask.op e.reply first (λ is takes. memory (is, takes)) in
-    let that : f.reply ≡ replied (meant f.lane f.moment f.ask) =
-    reply_is (raised old f.moment) b f.lane f.ask.context f.ask.op f.reply second (λ is _. other is) in
-    let same : meant e.lane e.moment e.ask ≡ meant f.lane f.moment f.ask = ap (λ (n : ℕ). meant n e.moment e.ask) lane
-    ∙ (ap (λ (n : ℕ). meant f.lane n e.ask) moment ∙ ap (λ (x : Ask). meant f.lane f.moment x) ask) in
-    this ∙ (ap replied same ∙ sym that)
+only_reply old a b e f lane moment ask first second memory other = grind (arith, common_steps, reply_is)
 
 -- an event that the store answers otherwise can't have happened
 pub answered_else : (old new other : State) (event : Event) (reply : Result Answer Errno)
     → Step old (event_of event.lane event.moment event.ask reply) new → reply ≢ event.reply → reply ≢ Err ENOMEM
     → (FoundNoMemory event → ⊥) → Replayed old event other → ⊥
-answered_else old new other event reply step differs memory found replayed = ⊎_elim
-    (λ (s : Step old event other). differs (sym (only_reply old other new event
-    (event_of event.lane event.moment event.ask reply) refl refl refl s step found memory)))
-    (λ (t : FoundNoMemory event × (other ≡ raised old event.moment)). found t.0) replayed
+answered_else old new other event reply step differs memory found replayed =
+    grind (arith, common_steps, ⊎_elim, only_reply)
 
 -- a queue of no records is refused in every store
 pub none_held : (old new : State) (lane moment context : ℕ) (reply : Result Answer Errno)
@@ -62,16 +48,10 @@ none_held old new lane moment context (Err e) step = step.1
 
 -- an event leads to one state
 stays : (old new : State) (event : Event) → Step old event new → FoundNoMemory event → new ≡ raised old event.moment
-stays old new event step found =
-    refusal_stays old new event step (subst (λ (r : Result Answer Errno). IsErr r) (sym found.0) refl)
+stays old new event step found = grind (arith, common_steps, refusal_stays)
 
 one_replayed : (old a b : State) (event : Event) → Replayed old event a → Replayed old event b → a ≡ b
-one_replayed old a b event f g = ⊎_elim
-    (λ (s : Step old event a). ⊎_elim (λ (t : Step old event b). one_step old a b event s t)
-    (λ (t : FoundNoMemory event × (b ≡ raised old event.moment)). stays old a event s t.0 ∙ sym t.1) g)
-    (λ (s : FoundNoMemory event × (a ≡ raised old event.moment)). ⊎_elim
-    (λ (t : Step old event b). s.1 ∙ sym (stays old b event t s.0))
-    (λ (t : FoundNoMemory event × (b ≡ raised old event.moment)). s.1 ∙ sym t.1) g) f
+one_replayed old a b event f g = grind (arith, common_steps, ⊎_elim, one_step, stays)
 
 -- one event more
 replays_more : (start mid next : State) (events : List Event) (event : Event) → ReplaysTo start events mid
@@ -88,13 +68,10 @@ replays_on start mid end (x ∷ xs) ys event r all =
     replays_on r.0 mid end xs ys event r.2 (subst (λ (s : State). ReplaysTo s (xs ++ event ∷ ys) end) same all.2)
 
 -- The same, by places in the list.
-
 pub further : (start mid next : State) (events : List Event) (i : ℕ) (event : Event)
     → take (i + 1) events ≡ take i events ++ event ∷ [] → ReplaysTo start (take i events) mid → Replayed mid event next
     → ReplaysTo start (take (i + 1) events) next
-further start mid next events i event is so_far step =
-    subst (λ (l : List Event). ReplaysTo start l next) (sym is) (replays_more start mid next
-    (take i events) event so_far step)
+further start mid next events i event is so_far step = grind (arith, common_steps, replays_more)
 
 pub stops : (start mid : State) (events : List Event) (i : ℕ) (event : Event) → i < length events
     → event ≡ get_or events i event → ReplaysTo start (take i events) mid

@@ -1,7 +1,7 @@
 -- What the steps of a holder that serves posted calls come to on the machine as it is kept.
 use Rattle.std.proofs.Common.{[], ⊎_elim, ◌++◌, ◌==◌, ◌∙◌, ◌∷◌, ◌≡◌, ◌≢◌, ◌⊎◌, ap, Bool, cond, false, inl, inr}
 use Rattle.std.proofs.Common.{length-set, List, map, None, Option, refl, set, Some, subst, suc, sym, take, true, Vec}
-use Rattle.std.proofs.Common.{zero, ℕ}
+use Rattle.std.proofs.Common.{arith, zero, ℕ}
 use Rattle.std.specs.declared.alloc.Global.{Global}
 use lib.ListN.{get_elem?}
 use mathlib.Core.Option.{some, some-injective}
@@ -20,6 +20,7 @@ use Rattle.krs_world.proofs.{Slots.slot_posted, Worlds.{get_map, of_map}}
 use Rattle.krs_world.specs.declared.lane.Slot.TheVariants as slots
 use Rattle.krs_world.specs.declared.view.Cell.TheVariants as cells
 use mathlib.Core.Option as maybe
+use Rattle.std.proofs.lemmas.Grind.{common_steps}
 
 pub set_same : {A : Type 0} (l : List A) (i : ℕ) (a : A) → get_elem? l i ≡ some a → set l i a ≡ l
 set_same [] i a e = refl
@@ -27,7 +28,6 @@ set_same (b ∷ l) zero a e = ap (λ (c : _). c ∷ l) (sym (some-injective b a 
 set_same (b ∷ l) (suc i) a e = ap (λ (m : List _). b ∷ m) (set_same l i a e)
 
 -- Slots.
-
 answered_unposted : (o : maybe.Option Event) → IsUnposted (answered_cell o)
 answered_unposted maybe.none = tt
 answered_unposted (some e) = tt
@@ -45,8 +45,7 @@ pub slot_replies : (serving : Option Service) (log : List Event) (j : ℕ) (s : 
 slot_replies serving log j slots.Empty is = refl
 slot_replies serving log j (slots.Posted m ask) is = refl
 slot_replies serving log j slots.Serving is = ap (λ (v : Option Service). is_answered (served_cell v)) (sym is.1)
-slot_replies serving log j (slots.Answered n) is =
-    ap (λ (o : maybe.Option Event). is_answered (answered_cell o)) (sym is.1)
+slot_replies serving log j (slots.Answered n) is = grind (arith, common_steps)
 
 -- what a slot says that isn't served, whichever call is
 pub cell_apart : (serving other : Option Service) (log : List Event) (s : Slot) → (s ≡ slots.Serving → ⊥)
@@ -66,16 +65,12 @@ slot_apart serving other log j (slots.Answered n) not is = is
 -- nothing is served where no call is
 pub apart_none : (serving : Option Service) (log : List Event) (j : ℕ) (s : Slot) → serving ≡ None
     → IsSlotOf serving log j s → s ≡ slots.Serving → ⊥
-apart_none serving log j s none is e = let t : (v : Service) × (serving ≡ Some v) × (v.lane ≡ j) =
-    subst (IsSlotOf serving log j) e is in let no : None ≡ Some t.0 = sym none ∙ t.1 in cc
+apart_none serving log j s none is e = grind (arith, common_steps)
 
 -- and no other lane is served than the one whose call is
 pub apart_else : (serving : Option Service) (call : Service) (log : List Event) (j : ℕ) (s : Slot) → serving ≡ Some call
     → call.lane ≢ j → IsSlotOf serving log j s → s ≡ slots.Serving → ⊥
-apart_else serving call log j s serves not is e = let t : (v : Service) × (serving ≡ Some v) × (v.lane ≡ j) =
-    subst (IsSlotOf serving log j) e is in
-    let both : Some call ≡ Some t.0 = sym serves ∙ t.1 in let same : call ≡ t.0 = cc in
-    not (ap (λ (v : Service). v.lane) same ∙ t.2)
+apart_else serving call log j s serves not is e = grind (arith, common_steps)
 
 module _ {store : State} {out : Option ℕ} {serving : Option Service} {log : List Event} {lanes : List Lane} (i : ℕ)
     {x : Lane} (k : IsKept store out serving log lanes) (at : get_elem? lanes i ≡ some x) where

@@ -16,13 +16,13 @@ use Rattle.krs_world.proofs.Keeping.{own, seats_stay, stays, views_open}
 use Rattle.krs_world.proofs.Lanes.{celled_else, celled_here, each_set, fits_more, fits_same, held_set, other_event}
 use Rattle.krs_world.proofs.Lanes.{holds_is, known_is, one_history, others_stand, own_event, prefix_more, set_at}
 use Rattle.krs_world.proofs.Lanes.{shares}
+use Rattle.std.proofs.lemmas.Grind.{common_steps}
 
 looked_fits : (p : Part) (log : List Event) (lane : ℕ) (c : Cell) (finished : Bool)
     → (finished ≡ true → (m : ℕ) × (ask : Ask) × (r : Result Answer Errno) × (c ≡ Answered m ask r)) → Fits log p c
     → Fits log (looked_at p lane finished) c
 looked_fits p log lane c false is f = fits_same log p (looked_at p lane false) refl refl refl refl c f
-looked_fits p log lane c true is f = let t = is refl in subst (Fits log (looked_at p lane true)) (sym t.3)
-    (let g : Fits log p (Answered t.0 t.1 t.2) = subst (Fits log p) t.3 f in (g.0, g.1, g.2, g.3))
+looked_fits p log lane c true is f = grind (arith, common_steps)
 
 module _ {a : State} {views : List View} (id : ℕ) {p : Part} (at : get_elem? views id ≡ some (one a p)) where
   -- the holder takes up a posted call

@@ -12,6 +12,7 @@ use Rattle.krs_world.proofs.Lanes.{other_event, snoc_at, snoc_end}
 use Rattle.krs_world.specs.declared.lane.Slot.TheVariants as slots
 use Rattle.krs_world.specs.declared.view.Cell.TheVariants as cells
 use mathlib.Core.Option as maybe
+use Rattle.std.proofs.lemmas.Grind.{common_steps}
 
 pub cond_none : {A : Type 0} (b : Bool) (v : Option A) → v ≡ None → cond b v None ≡ None
 cond_none true v e = e
@@ -24,7 +25,6 @@ place_in (x ∷ xs) zero a e = omega arith
 place_in (x ∷ xs) (suc n) a e = let h = place_in xs n a e in omega arith
 
 -- A list that has an event more.
-
 pub slot_more : (serving : Option Service) (log : List Event) (e : Event) (j : ℕ) (s : Slot)
     → IsSlotOf serving log j s → IsSlotOf serving (log ++ e ∷ []) j s
 slot_more serving log e j slots.Empty is = tt
@@ -45,8 +45,7 @@ pub known_more : (serving : Option Service) (log : List Event) (e : Event) (j : 
 known_more serving log e j slots.Empty is other = other_event j log e other
 known_more serving log e j (slots.Posted m ask) is other = other_event j log e other
 known_more serving log e j slots.Serving is other = other_event j log e other
-known_more serving log e j (slots.Answered n) is other = let lt = place_in log n is.0 is.1 in
-    ap (events_of j) (take-append-le n log (e ∷ []) (omega arith))
+known_more serving log e j (slots.Answered n) is other = grind (arith, common_steps, place_in, take-append-le)
 
 -- the same of the lane whose call stands last from then on
 pub known_then : (log : List Event) (e : Event) → known_by (log ++ e ∷ []) (slots.Answered (length log)) ≡ log
@@ -57,16 +56,12 @@ pub cell_then : (serving : Option Service) (log : List Event) (e : Event)
 cell_then serving log e = ap answered_cell (snoc_end log e)
 
 -- What a cell says of the slot.
-
 pub slot_empty : (serving : Option Service) (log : List Event) (j : ℕ) (s : Slot) → IsSlotOf serving log j s
     → cell_by log serving s ≡ cells.Empty → s ≡ slots.Empty
 slot_empty serving log j slots.Empty is e = refl
 slot_empty serving log j (slots.Posted m ask) is e = absurd (cc)
-slot_empty serving log j slots.Serving is e =
-    absurd (let no : cells.Serving is.0.moment is.0.ask ≡ cells.Empty = ap served_cell (sym is.1) ∙ e in cc)
-slot_empty serving log j (slots.Answered n) is e =
-    absurd (let no : cells.Answered is.0.moment is.0.ask is.0.reply ≡ cells.Empty = ap answered_cell (sym is.1)
-    ∙ e in cc)
+slot_empty serving log j slots.Serving is e = grind (arith, common_steps)
+slot_empty serving log j (slots.Answered n) is e = grind (arith, common_steps)
 
 served_not : (serving : Option Service) (m : ℕ) (ask : Ask) → served_cell serving ≡ cells.Posted m ask → ⊥
 served_not None m ask e = absurd (let no : cells.Empty ≡ cells.Posted m ask = e in cc)
@@ -79,8 +74,7 @@ answered_not (some s) m ask e = absurd (let no : cells.Answered s.moment s.ask s
 pub slot_posted : (serving : Option Service) (log : List Event) (s : Slot) (m : ℕ) (ask : Ask)
     → cell_by log serving s ≡ cells.Posted m ask → s ≡ slots.Posted m ask
 slot_posted serving log slots.Empty m ask e = absurd (let no : cells.Empty ≡ cells.Posted m ask = e in cc)
-slot_posted serving log (slots.Posted m' ask') m ask e = let same : cells.Posted m' ask' ≡ cells.Posted m ask = e in
-    let moments : m' ≡ m = cc in let asks : ask' ≡ ask = cc in λ i. slots.Posted (moments i) (asks i)
+slot_posted serving log (slots.Posted m' ask') m ask e = grind (arith, common_steps)
 slot_posted serving log slots.Serving m ask e = absurd (served_not serving m ask e)
 slot_posted serving log (slots.Answered n) m ask e = absurd (answered_not (get_elem? log n) m ask e)
 
@@ -92,8 +86,7 @@ served_no_reply (Some s) m ask r e = absurd (let no : cells.Serving s.moment s.a
 pub slot_answered : (serving : Option Service) (log : List Event) (s : Slot) (m : ℕ) (ask : Ask)
     (r : Result Answer Errno) → cell_by log serving s ≡ cells.Answered m ask r → (n : ℕ) × (s ≡ slots.Answered n)
 slot_answered serving log slots.Empty m ask r e = absurd (let no : cells.Empty ≡ cells.Answered m ask r = e in cc)
-slot_answered serving log (slots.Posted m' ask') m ask r e =
-    absurd (let no : cells.Posted m' ask' ≡ cells.Answered m ask r = e in cc)
+slot_answered serving log (slots.Posted m' ask') m ask r e = grind (arith, common_steps)
 slot_answered serving log slots.Serving m ask r e = absurd (served_no_reply serving m ask r e)
 slot_answered serving log (slots.Answered n) m ask r e = (n, refl)
 

@@ -22,6 +22,7 @@ use Rattle.krs_world.proofs.Keeping as law
 use Rattle.krs_world.proofs.Posting as posting
 use Rattle.krs_world.proofs.Serving as serving
 use Rattle.krs_world.specs.declared.view.Cell.TheVariants as cells
+use Rattle.std.proofs.lemmas.Grind.{common_steps}
 
 map_set : {A B : Type 0} (f : A → B) (xs : List A) (i : ℕ) (x : A) → map f (set xs i x) ≡ set (map f xs) i (f x)
 map_set f [] i x = refl
@@ -102,9 +103,7 @@ module _ (a : State) (cell : ℕ → Cell) (seats : List Part) where
 lanes_stay : (seats : List Part) (lane : ℕ) (p q : Part) → get_elem? seats lane ≡ some p → q.lane ≡ p.lane
     → ((j : ℕ) (r : Part) → get_elem? seats j ≡ some r → r.lane ≡ j) → (j : ℕ) (r : Part)
     → get_elem? (set seats lane q) j ≡ some r → r.lane ≡ j
-lanes_stay seats lane p q at same were j r e = ⊎_elim (λ (t : (j ≡ lane) × (q ≡ r)). ap (λ (x : Part). x.lane)
-    (sym t.1) ∙ (same ∙ (were lane p at ∙ sym t.0))) (λ (t : (j ≢ lane) × (get_elem? seats j ≡ some r)). were j r t.1)
-    (at_set seats lane j q r e)
+lanes_stay seats lane p q at same were j r e = grind (arith, common_steps, ⊎_elim, at_set)
 
 out_stays : (turn : Turn) (seats : List Part) (lane : ℕ) (p q : Part) → get_elem? seats lane ≡ some p
     → q.holding ≡ p.holding → IsOutAt turn seats → IsOutAt turn (set seats lane q)
@@ -118,7 +117,6 @@ out_stays (Out holder) seats lane p q at same t = dite (ℕ_discrete holder lane
 )) (λ away. (t.0, t.1, set_else seats lane holder q away ∙ t.2, t.3))
 
 -- Cells.
-
 pub cell_at : (cs : List Cell) (l : ℕ) (c : Cell) → get_elem? cs l ≡ some c → cell_of cs l ≡ c
 cell_at [] l c e = absurd (some-ne-none c (sym e))
 cell_at (x ∷ xs) zero c e = some-injective x c e
@@ -187,12 +185,7 @@ has_reply (cells.Answered m ask r) e = (m, ask, r, refl)
 finished : (cs : List Cell) (lane other own : ℕ) (c : Cell) → own ≡ lane → get_elem? cs other ≡ some c
     → cond (other == lane) (is_answered c) false ≡ true
     → (m : ℕ) × (ask : Ask) × (r : Result answer.Answer Errno) × (cell_of cs own ≡ cells.Answered m ask r)
-finished cs lane other own c number at is_so = dite (ℕ_discrete other lane)
-    (λ (same : other ≡ lane). let t = has_reply c (ap (λ (b : Bool). cond b (is_answered c) false)
-    (sym (eq-eqb other lane same)) ∙ is_so) in
-    (t.0, t.1, t.2, ap (cell_of cs) (number ∙ sym same) ∙ (cell_at cs other c at ∙ t.3)))
-    (λ not. absurd (let no : false ≡ true = ap (λ (b : Bool). cond b (is_answered c) false)
-    (sym (ne_eqb other lane not)) ∙ is_so in cc))
+finished cs lane other own c number at is_so = grind (arith, common_steps, has_reply, eq-eqb, cell_at, ne_eqb)
 
 -- the cell of the lane whose call is served
 served_at : (w : World) (o : IsOneHistory w) (lane : ℕ) (p : Part) (call : Service) (log : List Event)

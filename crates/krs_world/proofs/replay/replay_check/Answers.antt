@@ -1,9 +1,10 @@
-use Rattle.std.proofs.Common.{[], ◌++◌, ◌+◌, ◌<◌, ◌∙◌, ◌∷◌, ◌≡◌, arith, Bool, false, length, rules, subst, sym, take}
+use Rattle.std.proofs.Common.{◌<◌, ◌≡◌, arith, Bool, false, length, rules, subst}
 use Rattle.std.proofs.{Common.true, lemmas.List.take_more}
 use Rattle.krs_model.specs.State.{starting_at, State}
 use Rattle.krs_world.specs.Replay.{IsReplayedBy, Replayed}
 use Rattle.krs_world.proofs.Replays.{further, stops}
 use Rattle.krs_world.proofs.replay.replay_check.Goals as goal
+use Rattle.std.proofs.lemmas.Grind.{common_steps}
 
 pub returns-then-not-happened-clause-replayed : goal.returns-then-not-happened-clause-replayed
 returns-then-not-happened-clause-replayed c = let events = c.args.events.now in let i = c.loop-event.event-index in
@@ -19,12 +20,4 @@ returns-then-not-happened-clause-replayed c = let events = c.args.events.now in 
     )
 
 pub loop-event-preserved : goal.loop-event-preserved
-loop-event-preserved c = let events = c.args.events.now in let i = c.loop-event.event-index in
-    let event = c.event-item.result in let within : i < length events = omega arith in
-    let so : c.in_ok-happened.happened ≡ true = search rules in
-    let step : Replayed c.loop-event.store event c.replay.new.store =
-    subst (λ (b : Bool). IsReplayedBy c.loop-event.store event b c.replay.new.store) so
-    c.in_ok-happened.ensures.replayed in
-    let more : take (i + 1) events ≡ take i events ++ event ∷ [] =
-    take_more events i event within ∙ (λ j. take i events ++ sym c.event-item.is j ∷ []) in
-    further (starting_at 3) c.loop-event.store c.replay.new.store events i event more c.loop-event.invariant step
+loop-event-preserved c = grind (arith, common_steps, take_more, further)

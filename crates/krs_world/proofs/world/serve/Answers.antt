@@ -1,11 +1,6 @@
-use Rattle.std.proofs.Common.{[], ◌++◌, ◌∙◌, ◌∷◌}
-use Rattle.krs_model.specs.History.{event_of}
 use Rattle.krs_world.proofs.world.serve.Goals as goal
+use Rattle.std.proofs.Common.{arith}
+use Rattle.std.proofs.lemmas.Grind.{common_steps}
 
 pub returns : goal.returns
-returns c = let reply = c.apply-reply.result in (
-  reply,
-  c.apply-reply.ensures.step,
-  c.push_reserved.ensures.items
-      ∙ (λ j. c.args.log.now.items ++ event_of c.args.lane c.args.moment (c.requires.copy j) reply ∷ []),
-)
+returns c = grind (arith, common_steps)

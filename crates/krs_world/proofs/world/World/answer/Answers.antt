@@ -1,5 +1,5 @@
 use Rattle.std.proofs.Common.{[], ◌++◌, ◌<◌, ◌∙◌, ◌∷◌, ◌≡◌, ap, length, length-set, List, refl, set, Some, subst}
-use Rattle.std.proofs.Common.{sym, ℕ}
+use Rattle.std.proofs.Common.{arith, sym, ℕ}
 use lib.ListN.{get_elem?}
 use mathlib.Core.Option.{some}
 use Rattle.krs_types.specs.declared.{errno.Errno.TheVariants.ENOMEM, event.Event.Event}
@@ -13,6 +13,7 @@ use Rattle.krs_world.proofs.KeptHistory.{in_bounds, out_within}
 use Rattle.krs_world.proofs.ServedMoves.{room_refused}
 use Rattle.krs_world.proofs.world.World.answer.Goals.{After-reserve}
 use Rattle.krs_world.proofs.world.World.answer.Goals as goal
+use Rattle.std.proofs.lemmas.Grind.{common_steps}
 
 one_call : (a b : Service) → Some a ≡ Some b → a ≡ b
 one_call a b is = cc
@@ -63,14 +64,10 @@ returns-in_default-copy_with_room-clause-refused c = let w = c.self.inside in
     c).After-reserve).1
 
 pub index_mut-requires : goal.index_mut-requires
-index_mut-requires c = let w = c.self.inside in
-    let k = c.self.invariant.served c.in-Some-serving.call c.in-Some-serving.is in
-    subst (λ (n : ℕ). c.in-Some-serving.call.lane < n) (sym w.lanes.ok.0)
-    (in_bounds w.lanes.items c.in-Some-serving.call.lane k.0 k.1)
+index_mut-requires c = grind (arith, common_steps, in_bounds)
 
 pub serve-requires-clause-copy : goal.serve-requires-clause-copy
-serve-requires-clause-copy c = c.in-Ok-copy_with_room.ensures.copy ∙ ap (λ (v : Service). v.ask) (sym (one_call
-    c.in-Some-take.call c.in-Some-serving.call (sym c.in-Some-take.is ∙ (c.take.ensures.value ∙ c.in-Some-serving.is))))
+serve-requires-clause-copy c = grind (arith, common_steps, one_call)
 
 -- the call is answered
 made : (c : goal.After-serve) → let w = c.self.inside in

@@ -1,4 +1,4 @@
-use Rattle.std.proofs.Common.{◌<◌, ◌∙◌, ◌≡◌, ◌≤◌, inl, inr, set, subst, ℕ}
+use Rattle.std.proofs.Common.{◌<◌, ◌∙◌, ◌≡◌, ◌≤◌, arith, inl, inr, set, subst, ℕ}
 use lib.ListN.{get_elem?}
 use mathlib.Core.Option.{some}
 use Rattle.krs_world.specs.declared.{lane.Lane.Lane, step.Kind.TheVariants.Load}
@@ -6,6 +6,7 @@ use Rattle.krs_world.proofs.Answering.{Comes, lane_at, lanes_same, moves, moves_
 use Rattle.krs_world.proofs.Moves.{loads, no_load}
 use Rattle.krs_world.proofs.world.World.load.Goals.{In-Some}
 use Rattle.krs_world.proofs.world.World.load.Goals as goal
+use Rattle.std.proofs.lemmas.Grind.{common_steps}
 
 pub returns-in_default : goal.returns-in_default
 returns-in_default c = none_there c.self.invariant c.args.lane c.self.view_is
@@ -13,8 +14,7 @@ returns-in_default c = none_there c.self.invariant c.args.lane c.self.view_is
 
 -- the lane at its place
 there : (c : In-Some) → get_elem? c.self.inside.lanes.items c.args.lane ≡ some c.in-Some.seat.now
-there c = lane_at c.self.inside.lanes.items c.deref.result.now c.args.lane c.in-Some.seat.now c.deref.ensures.value
-    c.in-Some.ensures.lookup.0 c.in-Some.ensures.lookup.1
+there c = grind (arith, common_steps, lane_at)
 
 pub returns-then-seen-seat : goal.returns-then-seen-seat
 returns-then-seen-seat c = moves_not c.self.invariant c.args.lane c.self.view_is

@@ -1,9 +1,10 @@
-use Rattle.std.proofs.Common.{◌+◌, ◌∙◌, ◌≡◌, ap, List, None, refl, rules, subst, sym}
+use Rattle.std.proofs.Common.{◌+◌, ◌∙◌, arith, List, None, refl, subst, sym}
 use Rattle.krs_types.specs.declared.event.Event.{Event}
 use Rattle.krs_model.specs.State.{State}
-use Rattle.krs_world.specs.{Kept.{AreFreshLanes, IsKept, world_of}, World.new_world}
+use Rattle.krs_world.specs.{Kept.{AreFreshLanes, IsKept}}
 use Rattle.krs_world.proofs.Beginning.{fresh_more, new_is, new_kept}
 use Rattle.krs_world.proofs.world.World.new.Goals as goal
+use Rattle.std.proofs.lemmas.Grind.{common_steps}
 
 pub loop-lane-preserved : goal.loop-lane-preserved
 loop-lane-preserved c = record {
@@ -29,7 +30,4 @@ invariant_of-result c = subst (λ (z : State × List Event). IsKept z.0 None Non
     (new_kept c.loop-lane.seats.items c.loop-lane.lane c.loop-lane.invariant.fresh)
 
 pub returns : goal.returns
-returns c = let e : c.loop-lane.lane ≡ c.args.lanes = search rules in
-    subst (λ (z : State × List Event). world_of z.0 None None z.1 c.loop-lane.seats.items ≡ new_world c.args.lanes)
-    (λ i. (sym c.new-2.ensures i, sym c.new-3.ensures.items i))
-    (new_is c.loop-lane.seats.items c.loop-lane.lane c.loop-lane.invariant.fresh ∙ ap new_world e)
+returns c = grind (arith, common_steps, new_is)

@@ -1,18 +1,16 @@
-use Rattle.std.proofs.Common.{◌<◌, false, List, refl, set, subst, sym, ℕ}
+use Rattle.std.proofs.Common.{arith, false, List, refl, set, subst}
 use Rattle.krs_world.specs.{Kept.IsIdle, declared.{lane.Lane.Lane, step.Kind.TheVariants.Post}}
 use Rattle.krs_world.proofs.{Answering.{Comes, idle_here, moves, posts_not}, KeptHistory.in_bounds, PostedMoves.posts}
 use Rattle.krs_world.proofs.world.World.post.Goals as goal
 use Rattle.krs_world.specs.declared.lane.Slot.TheVariants as slots
+use Rattle.std.proofs.lemmas.Grind.{common_steps}
 
 pub returns-then-not-is_idle : goal.returns-then-not-is_idle
 returns-then-not-is_idle c = posts_not c.self.invariant c.args.lane c.self.view_is c.args.moment c.args.ask
     (subst (λ (l : List Lane). IsIdle l c.args.lane → ⊥) c.deref.ensures.value (c.if-not-is_idle.ensures.not refl))
 
 pub index_mut-seat-requires : goal.index_mut-seat-requires
-index_mut-seat-requires c = let w = c.self.inside in
-    let free : IsIdle w.lanes.items c.args.lane =
-    subst (λ (l : List Lane). IsIdle l c.args.lane) c.deref.ensures.value (c.if-not-is_idle.ensures.idle refl) in
-    subst (λ (n : ℕ). c.args.lane < n) (sym w.lanes.ok.0) (in_bounds w.lanes.items c.args.lane free.0 free.1)
+index_mut-seat-requires c = grind (arith, common_steps, in_bounds)
 
 -- the call is in the cell
 made : (c : goal.Joined-seat) → Comes c.args.self.now c.args.lane (Post c.args.moment c.args.ask) c.self.inside.store

@@ -1,9 +1,10 @@
-use Rattle.std.proofs.Common.{◌<◌, ◌∙◌, ap, false, List, None, refl, set, Some, subst, sym, ℕ}
+use Rattle.std.proofs.Common.{◌∙◌, ap, arith, false, List, None, refl, set, Some, subst}
 use Rattle.krs_types.specs.declared.{errno.Errno.TheVariants.ENOMEM, event.Event.Event}
 use Rattle.krs_world.specs.{Kept.{MayPut, world_of}, declared.{lane.Lane.Lane, step.Kind.TheVariants.Put}}
 use Rattle.krs_world.proofs.Answering.{Comes, idle_here, may_now, moves, own_not, own_refused, refuses}
 use Rattle.krs_world.proofs.{KeptHistory.in_bounds, Moves.puts_at}
 use Rattle.krs_world.proofs.world.World.put.Goals as goal
+use Rattle.std.proofs.lemmas.Grind.{common_steps}
 
 pub returns-then-not-may_put-clause-moved : goal.returns-then-not-may_put-clause-moved
 returns-then-not-may_put-clause-moved c = let w = c.self.inside in
@@ -25,10 +26,7 @@ returns-in_default-clause-refused c = let w = c.self.inside in
     )
 
 pub index_mut-seat-requires : goal.index_mut-seat-requires
-index_mut-seat-requires c = let w = c.self.inside in
-    let may = may_now w.out w.serving w.lanes.items c.deref.result.now c.args.lane c.deref.ensures.value
-    (c.if-not-may_put.ensures.may refl) in
-    subst (λ (n : ℕ). c.args.lane < n) (sym w.lanes.ok.0) (in_bounds w.lanes.items c.args.lane may.2.0 may.2.1)
+index_mut-seat-requires c = grind (arith, common_steps, may_now, in_bounds)
 
 -- the call is served, and the store at home
 made : (c : goal.After-self-2-1) → Comes c.args.self.now c.args.lane (Put (Some (c.args.moment, c.args.ask)))
