@@ -1,5 +1,5 @@
 -- Laws of a walk from a key that goes along links until it comes to a goal.
-use Rattle.std.proofs.Common.{[], ⊎_elim, ◌++◌, ◌+◌, ◌-◌, ◌<◌, ◌==◌, ◌||◌, ◌↔◌, ◌∙◌, ◌∷◌, ◌≡◌, ◌≤◌, ap, arith, Bool}
+use Rattle.std.proofs.Common.{[], ⊎_elim, ◌++◌, ◌+◌, ◌-◌, ◌<◌, ◌==◌, ◌↔◌, ◌∙◌, ◌∷◌, ◌≡◌, ◌≤◌, ap, arith, Bool}
 use Rattle.std.proofs.Common.{cond, eqb, false, get_or, inl, inr, is_some, length, length-append, List, map, nat_cmp}
 use Rattle.std.proofs.Common.{None, Option, refl, Some, subst, suc, sym, take, take_all, true, true≢false, ℕ}
 use Rattle.std.specs.{BTreeMap.is_at, List.IsDistinct, Map.keys_of}
@@ -14,11 +14,14 @@ use Rattle.krs_model.proofs.{Reach.{Cycles.there_in, Levels.levels_on}, Tables.C
 use Rattle.krs_keys.specs.Keys.{OnlyRingsLink, seen, shown}
 use Rattle.krs_walk.specs.{Lists.join, Walks.is_nested_within}
 use Rattle.krs_walk.proofs.LevelsLemmas.{Covers, covers_more, levels_fewer, levels_next}
-use Rattle.krs_walk.proofs.ListsLemmas.{fresh, in_append, in_cons, in_head, in_join, in_join_left, in_none, in_single}
-use Rattle.krs_walk.proofs.ListsLemmas.{in_tail, is_same, join_fresh, same_is, same_tests, Within}
+use Rattle.krs_walk.proofs.ListsLemmas.{fresh, in_append, in_cons, in_join, in_join_left, in_none}
+use Rattle.krs_walk.proofs.ListsLemmas.{in_head, in_tail, join_fresh, same_tests, Within}
 use Rattle.krs_walk.proofs.MarksLemmas.{distinct_push, no_longer, none_twice}
 use Rattle.krs_walk.proofs.ReachLemmas.{closes_links, closes_nested, from_levels, nested_fewer, nested_ring, one_more}
 use Rattle.krs_keys.specs.declared.key as declared
+use Rattle.krs_model.proofs.Reach.Levels.{equal_is, only_in, same_is}
+use Rattle.krs_model.proofs.Isolation.Keys.{false_where}
+use Rattle.std.proofs.lemmas.Grind.{common_steps}
 
 -- each key of the list is in the levels up to its place
 abbrev pub Placed : (ℕ → List ℕ) → ℕ → List ℕ → Type 0
@@ -35,20 +38,14 @@ pub record IsWalk (links : ℕ → List ℕ) (key goal place : ℕ) (all : List 
 
 taken_more : (all xs : List ℕ) (place : ℕ) → place < length all
     → take (place + 1) (join all xs) ≡ take place all ++ get_or all place 0 ∷ []
-taken_more all xs place lt =
-    let le : place + 1 ≤ length all = omega arith in
-    ap (take (place + 1)) (join_fresh all xs) ∙ (take-append-le (place + 1) all (fresh all xs) le
-    ∙ take_more all place 0 lt)
+taken_more all xs place lt = grind (arith, common_steps, join_fresh, take-append-le, fresh, take_more)
 
 pub in_place : (all : List ℕ) (place : ℕ) → place < length all → is_in (get_or all place 0) all ≡ true
-in_place all place lt =
-    list_any_at (λ k. k == get_or all place 0) all place 0 lt (same_is (get_or all place 0) (get_or all place 0) refl)
+in_place all place lt = grind (arith, common_steps, list_any_at, get_or, same_is)
 
 missed_more : (goal here : ℕ) (passed : List ℕ) → is_in goal passed ≡ false → (here ≡ goal → ⊥)
     → is_in goal (passed ++ here ∷ []) ≡ false
-missed_more goal here passed h ne =
-    let apart : (here == goal) ≡ false = grind (arith, nat_tests) in
-    in_append goal passed (here ∷ []) ∙ (ap (λ b. b || ((here == goal) || false)) h ∙ ap (λ b. b || false) apart)
+missed_more goal here passed h ne = grind (arith, common_steps, nat_tests, in_append)
 
 in_fresh : (seen xs : List ℕ) (k : ℕ) → is_in k (fresh seen xs) ≡ true → is_in k xs ≡ true
 in_fresh seen [] k m = m
@@ -90,10 +87,7 @@ placed_new links key place i all placed lt le within =
 placed_more : (links : ℕ → List ℕ) (key place : ℕ) (all : List ℕ) → Placed links key all → place < length all
     → Placed links key (all ++ fresh all (links (get_or all place 0)))
 placed_more links key place all placed lt i within =
-    ⊎_elim (λ (old : i < length all). ap (λ (z : ℕ). is_in z (levels links (key ∷ []) (i + 1)))
-    (get_or_append_left all (fresh all (links (get_or all place 0))) 0 i old) ∙ placed i old)
-    (λ (le : length all ≤ i). placed_new links key place i all placed lt le within)
-    (cases_lt i (length all))
+    grind (arith, common_steps, ⊎_elim, get_or_append_left, fresh, get_or, placed_new, cases_lt)
 
 pub walk_goes_on : (links : ℕ → List ℕ) (key goal place : ℕ) (all next : List ℕ) → IsWalk links key goal place all
     → place < length all → (get_or all place 0 ≡ goal → ⊥) → next ≡ join all (links (get_or all place 0))
@@ -120,20 +114,11 @@ walk_goes_on links key goal place all next w lt ne e =
 
 placed_start : (links : ℕ → List ℕ) (key : ℕ) → Placed links key (key ∷ [])
 unfolding level levels
-placed_start links key i lt =
-    let e : i ≡ 0 = omega arith in
-    subst (λ (z : ℕ). is_in (get_or (key ∷ []) z 0) (levels links (key ∷ []) (z + 1)) ≡ true) (sym e) (in_head key [])
+placed_start links key i lt = grind (arith, common_steps, get_or, in_head)
 
 -- a walk begins
 pub walk_starts : (links : ℕ → List ℕ) (key goal : ℕ) (all : List ℕ) → all ≡ key ∷ [] → IsWalk links key goal 0 all
-walk_starts links key goal all e = record {
-  within = omega arith;
-  start = ap (is_in key) e ∙ in_head key [];
-  sound = λ k m. inl (sym (in_single k key (ap (is_in k) (sym e) ∙ m)));
-  placed = subst (Placed links key) (sym e) (placed_start links key);
-  covers = λ j m. absurd (in_none j m);
-  missed = refl;
-}
+walk_starts links key goal all e = grind (arith, common_steps, in_head, only_in, placed_start, in_none)
 
 closed_reach : (links : ℕ → List ℕ) (key k : ℕ) (all : List ℕ) → Covers links all all → is_in key all ≡ true
     → Reaches links key k → is_in k all ≡ true
@@ -144,17 +129,11 @@ closed_reach links _ _ all c s (Further j k l p h) = c k (closed_reach links j k
 pub walk_misses : (links : ℕ → List ℕ) (key goal place : ℕ) (all : List ℕ) → IsWalk links key goal place all
     → length all ≤ place → ClosesCycle links key goal → ⊥
 walk_misses links key goal place all w le closes =
-    let whole : take place all ≡ all = take_all place all le in
-    let missed : is_in goal all ≡ false = ap (is_in goal) (sym whole) ∙ w.missed in
-    let covers : Covers links all all = subst (λ (zs : List ℕ). Covers links all zs) whole w.covers in
-    ⊎_elim (λ (e : key ≡ goal). true≢false (sym w.start ∙ (ap (λ (z : ℕ). is_in z all) e ∙ missed)))
-    (λ (r : Reaches links key goal). true≢false (sym (closed_reach links key goal all covers w.start r) ∙ missed))
-    closes
+    grind (arith, common_steps, take_all, ⊎_elim, true≢false, closed_reach)
 
 pub walk_finds : (links : ℕ → List ℕ) (key goal place : ℕ) (all : List ℕ) → IsWalk links key goal place all
     → place < length all → get_or all place 0 ≡ goal → ClosesCycle links key goal
-walk_finds links key goal place all w lt e =
-    subst (λ (z : ℕ). ClosesCycle links key z) e (w.sound (get_or all place 0) (in_place all place lt))
+walk_finds links key goal place all w lt e = grind (arith, common_steps, get_or, in_place)
 
 -- the serials that have a key
 abbrev serials_of : Table Key → List ℕ
@@ -205,8 +184,7 @@ found_closes keys key goal place all there w once lt e =
 pub found_reached : (keys : Table Key) (key goal place : ℕ) (all : List ℕ)
     → IsWalk (nested_in keys) key goal place all → place < length all → get_or all place 0 ≡ goal
     → ClosesCycle (links_of_key_at keys) key goal
-found_reached keys key goal place all w lt e =
-    closes_links keys key goal (walk_finds (nested_in keys) key goal place all w lt e)
+found_reached keys key goal place all w lt e = grind (arith, common_steps, closes_links, walk_finds)
 
 -- what it misses closes none
 pub missed_reached : (keys : Table Key) (key goal place : ℕ) (all : List ℕ) → OnlyRingsLink keys
@@ -215,18 +193,12 @@ pub missed_reached : (keys : Table Key) (key goal place : ℕ) (all : List ℕ) 
 missed_reached keys key goal place all only ring w le closing =
     walk_misses (nested_in keys) key goal place all w le (closes_nested keys key goal only ring closing)
 
-not_true : (b : Bool) → (b ≡ true → ⊥) → b ≡ false
-not_true true never = absurd (never refl)
-not_true false never = refl
-
 pub missed_closes : (keys : Table Key) (key goal place : ℕ) (all : List ℕ) → OnlyRingsLink keys
     → is_ring (at keys goal) ≡ true → IsWalk (nested_in keys) key goal place all → length all ≤ place
     → closes keys key goal ≡ false
 unfolding closes
 missed_closes keys key goal place all only ring w le =
-    not_true (is_in goal (levels (links_of_key_at keys) (key ∷ []) (length keys)))
-    (λ m. missed_reached keys key goal place all only ring w le
-    (from_levels (links_of_key_at keys) key (length keys) goal m))
+    grind (arith, common_steps, false_where, missed_reached, from_levels)
 
 -- a test of two serials that fails tells them apart
 pub apart_of : (found goal here : ℕ) (test : Bool) → test ≡ (found == goal) → test ≡ false → found ≡ here
@@ -234,7 +206,7 @@ pub apart_of : (found goal here : ℕ) (test : Bool) → test ≡ (found == goal
 apart_of found goal here test is failed same e = true≢false (sym (same_is found goal (same ∙ e)) ∙ (sym is ∙ failed))
 
 pub same_of : (found goal here : ℕ) (test : Bool) → test ≡ (found == goal) → test ≡ true → found ≡ here → here ≡ goal
-same_of found goal here test is passed same = sym same ∙ is_same found goal (sym is ∙ passed)
+same_of found goal here test is passed same = sym same ∙ equal_is found goal (sym is ∙ passed)
 
 -- a walk from a key that links no keyring has nothing else to examine
 pub leaf_misses : (links : ℕ → List ℕ) (key goal : ℕ) → links key ≡ [] → (key ≡ goal → ⊥)
@@ -270,18 +242,12 @@ pub within_closes : (keys : Table Key) (key ring n : ℕ) → OnlyRingsLink keys
     → is_ring (at keys ring) ≡ true → n ≡ length keys → is_nested_within keys ring n key ≡ closes keys key ring
 unfolding closes
 within_closes keys key ring n only there is all =
-    ap (λ (z : ℕ). is_nested_within keys ring z key) all
-    ∙ same_tests (is_nested_within keys ring (length keys) key) (closes keys key ring)
-    (λ m. levels_fewer (nested_in keys) (links_of_key_at keys) (key ∷ []) (length keys) ring (nested_fewer keys) m)
-    (λ m. within_reached keys key ring only there is (from_levels (links_of_key_at keys) key (length keys) ring m))
+    grind (arith, common_steps, same_tests, levels_fewer, nested_fewer, within_reached, from_levels)
 
 pub within_reaches : (keys : Table Key) (key ring n : ℕ) → OnlyRingsLink keys → is_some (at keys key) ≡ true
     → is_ring (at keys ring) ≡ true → n ≡ length keys
     → (is_nested_within keys ring n key ≡ true) ↔ ClosesCycle (links_of_key_at keys) key ring
-within_reaches keys key ring n only there is all = (
-  reached_within keys key ring n,
-  λ closing. ap (λ (z : ℕ). is_nested_within keys ring z key) all ∙ within_reached keys key ring only there is closing,
-)
+within_reaches keys key ring n only there is all = grind (arith, common_steps, reached_within, within_reached)
 
 pub shown_length : (keys : Table declared.Key.Key) → length (shown keys) ≡ length keys
 shown_length keys = length-map keys (λ (e : ℕ × declared.Key.Key). (e.0, seen e.1))

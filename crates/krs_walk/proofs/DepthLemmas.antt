@@ -4,6 +4,7 @@ use Rattle.std.proofs.Common.{flat_map, List, refl, suc, sym, true, zero, ℕ}
 use Rattle.std.specs.List.{list_any}
 use Rattle.std.proofs.lemmas.{Grind.flat_map-append, List.Folds.list_any-append}
 use Rattle.krs_model.specs.{Levels.{level, levels}, Reach.{has_chain, is_some_in, nested_in}, State.Key, Table.Table}
+use Rattle.std.proofs.lemmas.Grind.{common_steps}
 
 -- the levels are the heads, and what the levels above link
 pub levels_unrolled : (f : ℕ → List ℕ) (heads : List ℕ) (n : ℕ)
@@ -11,9 +12,7 @@ pub levels_unrolled : (f : ℕ → List ℕ) (heads : List ℕ) (n : ℕ)
 unfolding level levels
 levels_unrolled f heads zero = sym (append-nil heads)
 levels_unrolled f heads (suc n) =
-    ap (λ (zs : List ℕ). zs ++ level f heads (suc n)) (levels_unrolled f heads n)
-    ∙ (append_assoc heads (flat_map f (levels f heads n)) (flat_map f (level f heads n))
-    ∙ ap (λ (zs : List ℕ). heads ++ zs) (sym (flat_map-append f (levels f heads n) (level f heads n))))
+    grind (arith, common_steps, append_assoc, flat_map, flat_map-append, levels_unrolled f heads n)
 
 level_below : (f : ℕ → List ℕ) (heads : List ℕ) (n : ℕ) → level f heads (suc n) ≡ level f (flat_map f heads) n
 unfolding level
@@ -25,10 +24,7 @@ pub levels_below : (f : ℕ → List ℕ) (heads : List ℕ) (n : ℕ) → level
     ≡ heads ++ levels f (flat_map f heads) n
 unfolding level levels
 levels_below f heads zero = sym (append-nil heads)
-levels_below f heads (suc n) =
-    ap (λ (zs : List ℕ). zs ++ level f heads (suc n)) (levels_below f heads n)
-    ∙ (append_assoc heads (levels f (flat_map f heads) n) (level f heads (suc n))
-    ∙ ap (λ (zs : List ℕ). heads ++ (levels f (flat_map f heads) n ++ zs)) (level_below f heads n))
+levels_below f heads (suc n) = grind (arith, common_steps, append_assoc, flat_map, level_below, levels_below f heads n)
 
 pub flat_flat : (f g : ℕ → List ℕ) (xs : List ℕ) → flat_map f (flat_map g xs) ≡ flat_map (λ x. flat_map f (g x)) xs
 flat_flat f g [] = refl
@@ -39,8 +35,7 @@ level_cons : (f : ℕ → List ℕ) (x : ℕ) (xs : List ℕ) (n : ℕ)
     → level f (x ∷ xs) n ≡ level f (x ∷ []) n ++ level f xs n
 unfolding level
 level_cons f x xs zero = refl
-level_cons f x xs (suc n) =
-    ap (flat_map f) (level_cons f x xs n) ∙ flat_map-append f (level f (x ∷ []) n) (level f xs n)
+level_cons f x xs (suc n) = grind (arith, common_steps, flat_map, flat_map-append, level_cons f x xs n)
 
 level_none : (f : ℕ → List ℕ) (n : ℕ) → level f [] n ≡ []
 unfolding level
@@ -55,8 +50,7 @@ level_heads f (x ∷ xs) n = level_cons f x xs n ∙ ap (λ (zs : List ℕ). lev
 -- the next level below a key is that level below each that it links
 pub level_links : (f : ℕ → List ℕ) (k n : ℕ)
     → level f (k ∷ []) (suc n) ≡ flat_map (λ j. level f (j ∷ []) n) (f k)
-level_links f k n =
-    level_below f (k ∷ []) n ∙ (ap (λ (zs : List ℕ). level f zs n) (append-nil (f k)) ∙ level_heads f (f k) n)
+level_links f k n = grind (arith, common_steps, level_below, append-nil, level_heads)
 
 -- and so are the links of that level
 pub links_deeper : (f e : ℕ → List ℕ) (k n : ℕ)
@@ -100,10 +94,7 @@ any_heads p f (x ∷ xs) n =
 -- one of the levels below a key passes: the key, or one below those that it links
 pub any_deeper : (p : ℕ → Bool) (f : ℕ → List ℕ) (k n : ℕ)
     → list_any p (levels f (k ∷ []) (suc n)) ≡ (p k || list_any (λ j. list_any p (levels f (j ∷ []) n)) (f k))
-any_deeper p f k n =
-    ap (list_any p) (levels_below f (k ∷ []) n)
-    ∙ ap (λ b. p k || b) (ap (λ (zs : List ℕ). list_any p (levels f zs n)) (append-nil (f k))
-    ∙ any_heads p f (f k) n)
+any_deeper p f k n = grind (arith, common_steps, levels_below, append-nil, any_heads)
 
 or_none : (b : Bool) → (b || false) ≡ b
 or_none true = refl
@@ -113,9 +104,7 @@ any_ones : (p : ℕ → Bool) (f : ℕ → List ℕ) (xs : List ℕ)
     → list_any (λ j. list_any p (levels f (j ∷ []) (suc zero))) xs ≡ list_any p xs
 unfolding level levels
 any_ones p f [] = refl
-any_ones p f (x ∷ xs) =
-    ap (λ b. b || list_any (λ j. list_any p (levels f (j ∷ []) (suc zero))) xs) (or_none (p x))
-    ∙ ap (λ b. p x || b) (any_ones p f xs)
+any_ones p f (x ∷ xs) = grind (arith, common_steps, or_none, any_ones p f xs)
 
 -- two levels are the key, and what it links
 pub any_near : (p : ℕ → Bool) (f : ℕ → List ℕ) (k : ℕ)
@@ -160,9 +149,7 @@ some_flat g (x ∷ xs) = some_append (g x) (flat_map g xs) ∙ ap (λ b. is_some
 pub chain_deeper : (keys : Table Key) (key n : ℕ)
     → has_chain keys key (suc n) ≡ list_any (λ j. has_chain keys j n) (nested_in keys key)
 unfolding has_chain
-chain_deeper keys key n =
-    ap is_some_in (level_links (nested_in keys) key n)
-    ∙ some_flat (λ (j : ℕ). level (nested_in keys) (j ∷ []) n) (nested_in keys key)
+chain_deeper keys key n = grind (arith, common_steps, level_links, some_flat)
 
 pub no_chain : (keys : Table Key) (key count : ℕ) → count ≡ 0 → has_chain keys key count ≡ true
 unfolding has_chain level

@@ -9,6 +9,7 @@ use Rattle.krs_model.proofs.Reach.{Levels.levels_more, Searches.sought_append}
 use Rattle.krs_keys.specs.Keys.{OnlyRingsLink}
 use Rattle.krs_walk.specs.Searching.{entered_rings, links_at}
 use Rattle.krs_walk.proofs.{DepthLemmas.{levels_unrolled, links_deeper}, FindingLemmas.{levels_rings, rings_alone}}
+use Rattle.std.proofs.lemmas.Grind.{common_steps}
 
 -- what a head, and the links of the keyrings of the first levels from it, come to
 pub to_depth : Searcher → Name → ℕ → ℕ → Result ℕ Errno
@@ -36,9 +37,7 @@ depth_more by name head n =
 pub depth_goes_on : (by : Searcher) (name : Name) (head n : ℕ) (fault : Errno) (r : Result ℕ Errno)
     → to_depth by name head n ≡ Err fault → r ≡ or_next (Err fault) (sought by name (links_at by n head))
     → to_depth by name head (n + 1) ≡ r
-depth_goes_on by name head n fault r before h =
-    depth_more by name head n
-    ∙ (ap (λ (q : Result ℕ Errno). or_next q (sought by name (links_at by n head))) before ∙ sym h)
+depth_goes_on by name head n fault r before h = grind (arith, common_steps, depth_more)
 
 -- an answer in the first levels is that of all
 depth_stays : (by : Searcher) (name : Name) (head serial n m : ℕ) → to_depth by name head n ≡ Ok serial
@@ -72,8 +71,7 @@ depth_finds by name head n fault serial only before lt h =
 
 pub depth_fails : (by : Searcher) (name : Name) (head n : ℕ) (fault : Errno) → OnlyRingsLink by.keys
     → to_depth by name head n ≡ Err fault → n ≡ search_depth → found_by by head name ≡ Err fault
-depth_fails by name head n fault only before all =
-    depth_found by name head only ∙ (ap (to_depth by name head) (sym all) ∙ before)
+depth_fails by name head n fault only before all = grind (arith, common_steps, depth_found, to_depth)
 
 -- the links of no level below a keyring are its own
 pub links_here : (by : Searcher) (ring depth : ℕ) → depth ≡ 0 → entered by ring ≡ links_at by depth ring

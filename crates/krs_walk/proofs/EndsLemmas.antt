@@ -1,8 +1,9 @@
 -- Where the levels of a walk end.
-use Rattle.std.proofs.Common.{[], ◌++◌, ◌∙◌, ◌∷◌, ◌≡◌, ap, append-nil, Bool, false, flat_map, List, suc, ℕ}
+use Rattle.std.proofs.Common.{[], ◌++◌, ◌∙◌, ◌∷◌, ◌≡◌, ap, append-nil, arith, Bool, false, flat_map, List, suc, ℕ}
 use Rattle.std.specs.List.{list_any}
 use Rattle.krs_model.specs.Levels.{level, levels, search_depth}
 use Rattle.krs_walk.proofs.DepthLemmas.{any_heads}
+use Rattle.std.proofs.lemmas.Grind.{common_steps}
 
 -- behind an empty level there is no other
 level_ends : (f : ℕ → List ℕ) (heads : List ℕ) (n : ℕ) → level f heads n ≡ [] → level f heads (suc n) ≡ []
@@ -21,12 +22,4 @@ level_two f heads none = none
 -- so where level 2 is empty, what doesn't pass before it doesn't pass at all
 pub near_is_all : (p : ℕ → Bool) (f : ℕ → List ℕ) (heads : List ℕ) → flat_map f (flat_map f heads) ≡ []
     → list_any (λ j. list_any p (levels f (j ∷ []) 2)) heads ≡ false → list_any p (levels f heads search_depth) ≡ false
-near_is_all p f heads none fails =
-    let two = level_two f heads none in
-    let three = level_ends f heads 2 two in
-    let four = level_ends f heads 3 three in
-    let five = level_ends f heads 4 four in
-    let six = level_ends f heads 5 five in
-    ap (list_any p) (levels_end f heads 6 six ∙ (levels_end f heads 5 five ∙ (levels_end f heads 4 four
-    ∙ (levels_end f heads 3 three ∙ levels_end f heads 2 two))))
-    ∙ (any_heads p f heads 2 ∙ fails)
+near_is_all p f heads none fails = grind (arith, common_steps, level_two, level_ends, levels_end, any_heads)

@@ -1,22 +1,20 @@
 -- Layers of nested keyrings, as a walk makes them, and what they say of the height.
-use Rattle.std.proofs.Common.{[], ◌++◌, ◌+◌, ◌-◌, ◌<◌, ◌==◌, ◌∙◌, ◌∷◌, ◌≡◌, ◌≤◌, ap, arith, false, flat_map, get_or}
-use Rattle.std.proofs.Common.{length, List, refl, subst, suc, sym, take, true, true≢false, zero, ℕ}
+use Rattle.std.proofs.Common.{[], ◌++◌, ◌+◌, ◌-◌, ◌<◌, ◌==◌, ◌∷◌, ◌≡◌, ◌≤◌, ap, arith, false, flat_map, get_or}
+use Rattle.std.proofs.Common.{length, List, refl, subst, suc, take, true, true≢false, zero, ℕ}
 use Rattle.std.proofs.lemmas.{Bool.Decides.nat_tests, List.{flat_map_more, take_more}}
 use native.Mathlib.Numerals.{unary_clauses}
 use Rattle.krs_model.specs.{Levels.level, Reach.{has_chain, is_some_in, nested_in}, State.Key, Table.Table}
 use Rattle.krs_model.proofs.Reach.Levels.{level_more}
 use Rattle.krs_walk.specs.{Lists.join, Walks.IsHeight}
 use Rattle.krs_walk.proofs.{LevelsLemmas.follow_fresh, ListsLemmas.{in_none, join_append, join_fresh}}
+use Rattle.std.proofs.lemmas.Grind.{common_steps}
 
 -- the links of one keyring more of a layer
 pub layer_more : (f : ℕ → List ℕ) (layer all next : List ℕ) (i : ℕ) → i < length layer
     → all ≡ join [] (flat_map f (take i layer)) → next ≡ join all (f (get_or layer i 0))
     → next ≡ join [] (flat_map f (take (i + 1) layer))
 layer_more f layer all next i lt h e =
-    e ∙ (ap (λ zs. join zs (f (get_or layer i 0))) h ∙ (sym (join_append [] (flat_map f (take i layer))
-    (f (get_or layer i 0)))
-    ∙ ap (join []) (flat_map_more f [] (take i layer) (get_or layer i 0)
-    ∙ ap (flat_map f) (sym (take_more layer i 0 lt)))))
+    grind (arith, common_steps, get_or, join_append, flat_map, flat_map_more, take_more)
 
 -- each of a level once
 abbrev pub IsLayer : (ℕ → List ℕ) → List ℕ → ℕ → List ℕ → Type 0
@@ -30,9 +28,7 @@ layer_starts links key layer e = e
 pub layer_next : (links : ℕ → List ℕ) (heads : List ℕ) (n : ℕ) (layer next : List ℕ) → IsLayer links heads n layer
     → next ≡ join [] (flat_map links layer) → IsLayer links heads (n + 1) next
 layer_next links heads n layer next h e =
-    e ∙ (ap (λ zs. join [] (flat_map links zs)) (h ∙ join_fresh [] (level links heads n))
-    ∙ (sym (follow_fresh links [] [] (level links heads n) (λ j m. absurd (in_none j m)))
-    ∙ ap (join []) (sym (level_more links heads n))))
+    grind (arith, common_steps, flat_map, join_fresh, follow_fresh, in_none, level_more)
 
 some_joined : (xs : List ℕ) → is_some_in (join [] xs) ≡ is_some_in xs
 some_joined [] = refl
@@ -50,15 +46,13 @@ none_length (x ∷ xs) h = let no : 0 < length (x ∷ xs) = omega arith in absur
 pub layer_chain : (keys : Table Key) (key n : ℕ) (layer : List ℕ) → IsLayer (nested_in keys) (key ∷ []) n layer
     → (length layer == 0) ≡ false → has_chain keys key n ≡ true
 unfolding has_chain
-layer_chain keys key n layer h some =
-    sym (some_joined (level (nested_in keys) (key ∷ []) n)) ∙ (ap is_some_in (sym h) ∙ some_length layer some)
+layer_chain keys key n layer h some = grind (arith, common_steps, some_joined, some_length)
 
 -- one with none has none
 pub layer_ends : (keys : Table Key) (key n : ℕ) (layer : List ℕ) → IsLayer (nested_in keys) (key ∷ []) n layer
     → (length layer == 0) ≡ true → has_chain keys key n ≡ false
 unfolding has_chain
-layer_ends keys key n layer h none =
-    sym (some_joined (level (nested_in keys) (key ∷ []) n)) ∙ (ap is_some_in (sym h) ∙ none_length layer none)
+layer_ends keys key n layer h none = grind (arith, common_steps, some_joined, none_length)
 
 none_flat : (links : ℕ → List ℕ) (xs : List ℕ) → is_some_in xs ≡ false → is_some_in (flat_map links xs) ≡ false
 none_flat links [] h = h

@@ -1,13 +1,14 @@
 -- What a key table keeps of the nested keyrings is what the definitions see.
-use Rattle.std.proofs.Common.{[], ◌∙◌, ◌∷◌, ◌≡◌, ap, cond, false, filter, None, Option, option_map, refl, Some, sym}
-use Rattle.std.proofs.{Common.{true, ℕ}, lemmas.Option.{none-some, same_Some}}
+use Rattle.std.proofs.Common.{[], ◌∙◌, ◌∷◌, ◌≡◌, ap, arith, filter, None, Option, option_map, refl, Some}
+use Rattle.std.proofs.{Common.{ℕ}, lemmas.Option.{none-some, same_Some}}
 use Rattle.krs_types.specs.{Kind.same_kind, declared.{kind.Kind.TheVariants.Keyring, name.Name.Name}}
-use Rattle.krs_model.specs.{Reach.{is_ring, nested_in}, Sweep.links_of_key, Table.{at, Table}}
+use Rattle.krs_model.specs.{Reach.{is_ring, nested_in}, Table.{at, Table}}
 use Rattle.krs_model.proofs.Tables.Changes.{at_map}
 use Rattle.krs_links.specs.Links.{LinkList, nested, serials}
 use Rattle.krs_keys.specs.{Keys.{AreFit, AreNamed, name_at, named_links_of_content, seen, shown}, declared.key.Key.Key}
 use Rattle.krs_keys.proofs.KeysLemmas.{serials-content}
 use Rattle.krs_links.specs.Links as names
+use Rattle.std.proofs.lemmas.Grind.{common_steps}
 
 ring_named : (link : Name) (o : Option Key) → option_map (λ key. key.name) o ≡ Some link
     → is_ring (option_map seen o) ≡ names.is_ring link
@@ -22,25 +23,13 @@ ring_at keys link serial h = ap is_ring (at_map seen keys serial) ∙ ring_named
 pub nested_serials : (keys : Table Key) (links : LinkList) → AreNamed (name_at keys) links
     → serials (nested links) ≡ filter (λ k. is_ring (at (shown keys) k)) (serials links)
 nested_serials keys [] named = refl
-nested_serials keys (link ∷ links) named =
-    rw (ring_at keys link.0 link.1 named.0) (elim (names.is_ring link.0) as (λ b.
-    serials (cond b (link ∷ nested links) (nested links)) ≡ cond b
-    (link.1 ∷ filter (λ k. is_ring (at (shown keys) k)) (serials links))
-    (filter (λ k. is_ring (at (shown keys) k)) (serials links))) [
-      | true ↦ ap (λ zs. link.1 ∷ zs) (nested_serials keys links named.1)
-      | false ↦ nested_serials keys links named.1
-    ])
+nested_serials keys (link ∷ links) named = grind (arith, common_steps, ring_at, nested_serials keys links named.1)
 
 -- the nested keyrings of a key that is there
 pub rings_there : (keys : Table Key) (serial : ℕ) (key : Key) → AreFit keys → at keys serial ≡ Some key
     → serials (nested (named_links_of_content key.content)) ≡ nested_in (shown keys) serial
-rings_there keys serial key fit there =
-    nested_serials keys (named_links_of_content key.content) (fit serial key there)
-    ∙ ap (filter (λ k. is_ring (at (shown keys) k))) (serials-content key.content
-    ∙ sym (ap links_of_key (at_map seen keys serial ∙ ap (option_map seen) there)))
+rings_there keys serial key fit there = grind (arith, common_steps, nested_serials, serials-content, at_map, option_map)
 
 -- and of one that is not
 pub no_rings_there : (keys : Table Key) (serial : ℕ) → at keys serial ≡ None → nested_in (shown keys) serial ≡ []
-no_rings_there keys serial none =
-    ap (λ o. filter (λ k. is_ring (at (shown keys) k)) (links_of_key o))
-    (at_map seen keys serial ∙ ap (option_map seen) none)
+no_rings_there keys serial none = grind (arith, common_steps, at_map, option_map)

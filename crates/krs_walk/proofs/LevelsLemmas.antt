@@ -3,10 +3,12 @@ use Rattle.std.proofs.Common.{[], ⊎_elim, ◌++◌, ◌+◌, ◌∙◌, ◌∷
 use Rattle.std.proofs.Common.{length, List, refl, subst, suc, sym, take, take-append-drop, take_at, true, zero, ℕ}
 use Rattle.std.proofs.lemmas.List.{append_cancel_left}
 use Rattle.krs_model.specs.Levels.{is_in, level, levels}
-use Rattle.krs_model.proofs.Reach.Levels.{in_flat, level_more, levels_more}
+use Rattle.krs_model.proofs.Reach.Levels.{in_flat, in_left, in_one, in_right, level_more, levels_more, only_in}
 use Rattle.krs_walk.specs.Lists.{join}
-use Rattle.krs_walk.proofs.ListsLemmas.{fresh, in_cons, in_join, in_join_left, in_join_right, in_left, in_none, in_one}
-use Rattle.krs_walk.proofs.ListsLemmas.{in_right, in_single, join_append, join_fresh, join_within, Within}
+use Rattle.krs_walk.proofs.ListsLemmas.{fresh, in_cons, in_join, in_join_left, in_join_right, in_none}
+use Rattle.krs_walk.proofs.ListsLemmas.{join_append, join_fresh, join_within, Within}
+use Rattle.std.proofs.Common.{arith}
+use Rattle.std.proofs.lemmas.Grind.{common_steps}
 
 -- what each of these links is there
 abbrev pub Covers : (ℕ → List ℕ) → List ℕ → List ℕ → Type 0
@@ -14,11 +16,7 @@ Covers links all passed = (j : ℕ) → is_in j passed ≡ true → Within (link
 
 pub covers_more : (links : ℕ → List ℕ) (all passed : List ℕ) (x : ℕ) → Covers links all passed
     → Covers links (join all (links x)) (passed ++ x ∷ [])
-covers_more links all passed x h = λ j m k n.
-    ⊎_elim (λ (l : is_in j passed ≡ true). in_join_left all (links x) k (h j l k n))
-    (λ (r : is_in j (x ∷ []) ≡ true). in_join_right all (links x) k
-    (subst (λ (z : ℕ). is_in k (links z) ≡ true) (in_single j x r) n))
-    (in_one j passed (x ∷ []) m)
+covers_more links all passed x h = grind (arith, common_steps, ⊎_elim, in_join_left, in_join_right, only_in, in_one)
 
 -- it is enough to follow the keys that are new
 pub follow_fresh : (links : ℕ → List ℕ) (all passed xs : List ℕ) → Covers links all passed
@@ -90,9 +88,7 @@ unfolding level levels
 at_heads links heads all e = record { level_is = e; upto = e; covers = λ j m. absurd (in_none j m) }
 
 new_keys : (start : ℕ) (all xs : List ℕ) → all ≡ join (take start all) xs → drop start all ≡ fresh (take start all) xs
-new_keys start all xs e =
-    append_cancel_left (take start all) (drop start all) (fresh (take start all) xs)
-    (take-append-drop start all ∙ (e ∙ join_fresh (take start all) xs))
+new_keys start all xs e = grind (arith, common_steps, append_cancel_left, fresh, take-append-drop, join_fresh)
 
 -- all that the keys of level n link joins: the walk is at the next level
 pub at_next : (links : ℕ → List ℕ) (heads : List ℕ) (n start : ℕ) (all next : List ℕ) → IsAt links heads n start all

@@ -3,38 +3,24 @@ use Rattle.std.proofs.Common.{[], ⊎_elim, ◌++◌, ◌==◌, ◌||◌, ◌∙
 use Rattle.std.proofs.Common.{Bool, cond, false, inl, inr, List, refl, slice_get, Some, subst, suc, sym, true}
 use Rattle.std.proofs.Common.{true≢false, zero, ℕ}
 use Rattle.std.specs.List.{list_any}
-use Rattle.std.proofs.lemmas.{Bool.Decides.nat_tests, List.Folds.list_any-append, Option.{none-some, same_Some}}
+use Rattle.std.proofs.lemmas.{List.Folds.list_any-append, Option.{none-some, same_Some}}
 use Rattle.krs_model.specs.Levels.{is_in}
 use Rattle.krs_walk.specs.Lists.{join}
-
-pub same_is : (x k : ℕ) → x ≡ k → (x == k) ≡ true
-same_is x k h = grind (arith, nat_tests)
-
-pub is_same : (x k : ℕ) → (x == k) ≡ true → x ≡ k
-is_same x k h = grind (arith, nat_tests)
-
-pub or_right : (b c : Bool) → c ≡ true → (b || c) ≡ true
-or_right true c h = refl
-or_right false c h = h
+use Rattle.krs_model.proofs.Reach.Levels.{equal_is, in_left, in_one, in_right, only_in, or_true, same_is, true_or}
+use Rattle.std.proofs.lemmas.Grind.{common_steps}
 
 pub or_left : (b c : Bool) → b ≡ true → (b || c) ≡ true
 or_left true c h = refl
 or_left false c h = absurd (true≢false (sym h))
 
-pub or_one : (b c : Bool) → (b || c) ≡ true → (b ≡ true) ⊎ (c ≡ true)
-or_one true c h = inl refl
-or_one false c h = inr h
-
 pub in_head : (x : ℕ) (xs : List ℕ) → is_in x (x ∷ xs) ≡ true
 in_head x xs = or_left (x == x) (is_in x xs) (same_is x x refl)
 
 pub in_tail : (k x : ℕ) (xs : List ℕ) → is_in k xs ≡ true → is_in k (x ∷ xs) ≡ true
-in_tail k x xs h = or_right (x == k) (is_in k xs) h
+in_tail k x xs h = or_true (x == k) (is_in k xs) h
 
 pub in_cons : (k x : ℕ) (xs : List ℕ) → is_in k (x ∷ xs) ≡ true → (k ≡ x) ⊎ (is_in k xs ≡ true)
-in_cons k x xs h =
-    ⊎_elim (λ (e : (x == k) ≡ true). inl (sym (is_same x k e))) (λ (m : is_in k xs ≡ true). inr m)
-    (or_one (x == k) (is_in k xs) h)
+in_cons k x xs h = grind (arith, common_steps, ⊎_elim, equal_is, true_or)
 
 -- what a list has at a place is in it
 pub in_at : (xs : List ℕ) (i k : ℕ) → slice_get xs i ≡ Some k → is_in k xs ≡ true
@@ -45,20 +31,8 @@ in_at (x ∷ xs) (suc i) k h = in_tail k x xs (in_at xs i k h)
 pub in_append : (k : ℕ) (xs ys : List ℕ) → is_in k (xs ++ ys) ≡ (is_in k xs || is_in k ys)
 in_append k xs ys = list_any-append (λ q. q == k) xs ys
 
-pub in_left : (k : ℕ) (xs ys : List ℕ) → is_in k xs ≡ true → is_in k (xs ++ ys) ≡ true
-in_left k xs ys h = in_append k xs ys ∙ or_left (is_in k xs) (is_in k ys) h
-
-pub in_right : (k : ℕ) (xs ys : List ℕ) → is_in k ys ≡ true → is_in k (xs ++ ys) ≡ true
-in_right k xs ys h = in_append k xs ys ∙ or_right (is_in k xs) (is_in k ys) h
-
-pub in_one : (k : ℕ) (xs ys : List ℕ) → is_in k (xs ++ ys) ≡ true → (is_in k xs ≡ true) ⊎ (is_in k ys ≡ true)
-in_one k xs ys h = or_one (is_in k xs) (is_in k ys) (sym (in_append k xs ys) ∙ h)
-
 pub in_none : (k : ℕ) → is_in k [] ≡ true → ⊥
 in_none k h = true≢false (sym h)
-
-pub in_single : (k x : ℕ) → is_in k (x ∷ []) ≡ true → k ≡ x
-in_single k x h = ⊎_elim (λ (e : k ≡ x). e) (λ (no : is_in k [] ≡ true). absurd (in_none k no)) (in_cons k x [] h)
 
 -- two tests that pass together are one
 pub same_tests : (a b : Bool) → (a ≡ true → b ≡ true) → (b ≡ true → a ≡ true) → a ≡ b
@@ -77,12 +51,7 @@ fresh seen (x ∷ xs) = cond (is_in x seen) (fresh seen xs) (x ∷ fresh (seen +
 
 pub join_fresh : (seen xs : List ℕ) → join seen xs ≡ seen ++ fresh seen xs
 join_fresh seen [] = sym (append-nil seen)
-join_fresh seen (x ∷ xs) =
-    elim (is_in x seen) as (λ b. join (cond b seen (seen ++ x ∷ [])) xs
-    ≡ seen ++ cond b (fresh seen xs) (x ∷ fresh (seen ++ x ∷ []) xs)) [
-      | true ↦ join_fresh seen xs
-      | false ↦ join_fresh (seen ++ x ∷ []) xs ∙ append_assoc seen (x ∷ []) (fresh (seen ++ x ∷ []) xs)
-    ]
+join_fresh seen (x ∷ xs) = grind (arith, common_steps, append_assoc, join_fresh seen xs, join_fresh (seen ++ x ∷ []) xs)
 
 pub join_append : (seen xs ys : List ℕ) → join seen (xs ++ ys) ≡ join (join seen xs) ys
 join_append seen [] ys = refl
@@ -117,7 +86,7 @@ in_join seen (x ∷ xs) k h =
     → (is_in k seen ≡ true) ⊎ (is_in k (x ∷ xs) ≡ true)) [
       | true ↦ λ n. inl n
       | false ↦ λ n. ⊎_elim (λ (l : is_in k seen ≡ true). inl l)
-          (λ (r : is_in k (x ∷ []) ≡ true). inr (subst (λ (z : ℕ). is_in z (x ∷ xs) ≡ true) (sym (in_single k x r))
+          (λ (r : is_in k (x ∷ []) ≡ true). inr (subst (λ (z : ℕ). is_in z (x ∷ xs) ≡ true) (sym (only_in k x r))
           (in_head x xs)))
           (in_one k seen (x ∷ []) n)
     ] m)
@@ -128,7 +97,7 @@ pub any_at : (p : ℕ → Bool) (x : ℕ) (xs : List ℕ) → is_in x xs ≡ tru
 any_at p x [] h t = absurd (in_none x h)
 any_at p x (y ∷ xs) h t =
     ⊎_elim (λ (e : x ≡ y). or_left (p y) (list_any p xs) (sym (ap p e) ∙ t))
-    (λ (m : is_in x xs ≡ true). or_right (p y) (list_any p xs) (any_at p x xs m t)) (in_cons x y xs h)
+    (λ (m : is_in x xs ≡ true). or_true (p y) (list_any p xs) (any_at p x xs m t)) (in_cons x y xs h)
 
 or_twice : (a b c : Bool) → (b ≡ true → a ≡ true) → (a || c) ≡ (a || (b || c))
 or_twice true b c h = refl

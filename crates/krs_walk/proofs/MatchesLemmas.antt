@@ -1,7 +1,7 @@
 -- The keys of a name that possessed keyrings link.
-use Rattle.std.proofs.Common.{[], ◌++◌, ◌+◌, ◌<◌, ◌==◌, ◌||◌, ◌∙◌, ◌∷◌, ◌≡◌, ap, append-nil, Bool, cond, false}
+use Rattle.std.proofs.Common.{[], ◌+◌, ◌<◌, ◌==◌, ◌||◌, ◌∙◌, ◌∷◌, ◌≡◌, ap, append-nil, Bool, cond, false}
 use Rattle.std.proofs.Common.{flat_map, get_or, length, List, None, Option, option_to_list, refl, Some, sym, take}
-use Rattle.std.proofs.Common.{true, ℕ}
+use Rattle.std.proofs.Common.{arith, true, ℕ}
 use Rattle.std.specs.List.{list_any}
 use Rattle.std.proofs.lemmas.{Grind.flat_map-append, List.take_more}
 use Rattle.krs_types.specs.declared.{caller.Caller.Caller, name.Name.Name}
@@ -14,6 +14,7 @@ use Rattle.krs_walk.specs.{Lists.join, Searching.{AreMatches, held_to, is_held, 
 use Rattle.krs_walk.specs.{Walks.{follows_link_to, is_found, is_linked}, declared.search.Search.Search}
 use Rattle.krs_walk.proofs.{HeldLemmas.in_joined, ListsLemmas.{any_join, in_append, join_append}}
 use Rattle.krs_walk.proofs.PossessionLemmas.{followed_absent, followed_there, found_linked, possession_splits}
+use Rattle.std.proofs.lemmas.Grind.{common_steps}
 
 any_same : (p q : ℕ → Bool) (xs : List ℕ) → ((j : ℕ) → p j ≡ q j) → list_any p xs ≡ list_any q xs
 any_same p q [] h = refl
@@ -35,8 +36,7 @@ in_option k (Some j) = or_none (j == k)
 match_links : (keys : Table Key) (clock : ℕ) (caller : Caller) (name : Name) (ring serial : ℕ) (o : Option Key)
     → at keys ring ≡ o → AreFit keys → name_at keys serial ≡ Some name
     → is_found serial (match_followed clock caller name o) ≡ is_in serial (followed_at (shown keys) clock caller ring)
-match_links keys clock caller name ring serial None there fit named =
-    ap (is_in serial) (sym (followed_absent keys clock caller ring there))
+match_links keys clock caller name ring serial None there fit named = grind (arith, common_steps, followed_absent)
 match_links keys clock caller name ring serial (Some key) there fit named =
     elim (is_followed clock caller (seen key)) as (λ b. is_followed clock caller (seen key) ≡ b
     → is_found serial (cond b (serial_named (named_links_of_content key.content) name) None)
@@ -63,19 +63,11 @@ are_matches s rings found fit whole e = λ serial named.
 pub linked_held : (s : Search) (serial : ℕ) → OnlyRingsLink (shown s.keys.now.keys)
     → is_in serial (attached_with s.context.now s.process_ring) ≡ false
     → is_linked (shown s.keys.now.keys) s.clock s.context.now s.process_ring serial ≡ is_held s serial
-linked_held s serial only e =
-    let linked = is_linked (shown s.keys.now.keys) s.clock s.context.now s.process_ring serial in
-    sym (possession_splits (shown s.keys.now.keys) s.clock s.context.now s.process_ring serial only
-    ∙ ap (λ b. b || linked) e)
+linked_held s serial only e = grind (arith, common_steps, possession_splits)
 
 -- one keyring more
 pub matches_more : (f : ℕ → List ℕ) (xs old all next : List ℕ) (place here : ℕ)
     → all ≡ join old (flat_map f (take place xs)) → place < length xs → here ≡ get_or xs place 0
     → next ≡ join all (f here) → next ≡ join old (flat_map f (take (place + 1) xs))
 matches_more f xs old all next place here before lt h e =
-    let x = get_or xs place 0 in
-    let more : flat_map f (take (place + 1) xs) ≡ flat_map f (take place xs) ++ f x =
-    ap (flat_map f) (take_more xs place 0 lt) ∙ (flat_map-append f (take place xs) (x ∷ [])
-    ∙ ap (λ zs. flat_map f (take place xs) ++ zs) (append-nil (f x))) in
-    e ∙ (ap (λ k. join all (f k)) h ∙ (ap (λ zs. join zs (f x)) before
-    ∙ (sym (join_append old (flat_map f (take place xs)) (f x)) ∙ ap (join old) (sym more))))
+    grind (arith, common_steps, get_or, flat_map, take_more, flat_map-append, append-nil, join_append)

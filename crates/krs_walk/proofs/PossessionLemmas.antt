@@ -7,7 +7,7 @@ use Rattle.std.proofs.lemmas.Option.{none-some, same_Some}
 use Rattle.krs_types.specs.{Name.same_name, declared.{caller.Caller.Caller, context.Context.Context, name.Name.Name}}
 use Rattle.krs_types.proofs.Names.{equal_names, same_name_equiv}
 use Rattle.krs_model.specs.Levels.{is_in, level, levels, search_depth}
-use Rattle.krs_model.specs.Possession.{attached_with, followed, followed_at, is_followed, links_of_content}
+use Rattle.krs_model.specs.Possession.{attached_with, followed, followed_at, is_followed}
 use Rattle.krs_model.specs.{Possession.possessed_with, Reach.is_ring, Sweep.links_of_key, Table.{at, Table}}
 use Rattle.krs_model.proofs.{Reach.Levels.in_flat, Tables.Changes.at_map}
 use Rattle.krs_links.specs.Links.{LinkList, nested, serial_named, serials}
@@ -18,9 +18,11 @@ use Rattle.krs_walk.specs.Seeking.{heads, is_linked_anywhere, is_possessed}
 use Rattle.krs_walk.specs.{Walks.{followed_rings, is_found, is_linked}, declared.possession.Sought.Sought}
 use Rattle.krs_walk.proofs.{CycleLemmas.levels_up, KeyringsLemmas.nested_serials}
 use Rattle.krs_walk.proofs.LevelsLemmas.{Fewer, in_flat_map, levels_fewer, levels_from, levels_next}
-use Rattle.krs_walk.proofs.ListsLemmas.{any_at, in_at, in_head, in_left, in_none, in_one, in_right, in_tail, is_same}
-use Rattle.krs_walk.proofs.{ListsLemmas.{or_left, or_one, or_right, same_tests}, ReachLemmas.{from_filter, in_filter}}
+use Rattle.krs_walk.proofs.ListsLemmas.{any_at, in_at, in_head, in_none, in_tail}
+use Rattle.krs_walk.proofs.{ListsLemmas.{or_left, same_tests}, ReachLemmas.{from_filter, in_filter}}
 use Rattle.krs_model.specs.State as model
+use Rattle.krs_model.proofs.Reach.Levels.{equal_is, in_left, in_one, in_right, or_true, true_or}
+use Rattle.std.proofs.lemmas.Grind.{common_steps}
 
 -- a list that passes has one that does
 pub any_from : (p : ℕ → Bool) (xs : List ℕ) → list_any p xs ≡ true → (j : ℕ) × (is_in j xs ≡ true) × (p j ≡ true)
@@ -28,7 +30,7 @@ any_from p [] h = absurd (true≢false (sym h))
 any_from p (x ∷ xs) h =
     ⊎_elim (λ (here : p x ≡ true). (x, in_head x xs, here))
     (λ (later : list_any p xs ≡ true). let r = any_from p xs later in (r.0, in_tail r.0 x xs r.1, r.2))
-    (or_one (p x) (list_any p xs) h)
+    (true_or (p x) (list_any p xs) h)
 
 pub none_any : (p : ℕ → Bool) (xs : List ℕ) → ((j : ℕ) → p j ≡ false) → list_any p xs ≡ false
 none_any p [] h = refl
@@ -81,7 +83,7 @@ levels_split ring links heads n k alone =
     let one : suc zero ≤ suc n = omega arith in
     same_tests (is_in k (levels links heads (suc n))) (is_in k heads || linked)
     (λ m. ⊎_elim (λ (head : is_in k heads ≡ true). or_left (is_in k heads) linked head)
-    (λ r. or_right (is_in k heads) linked (any_at (λ j. is_in k (links j)) r.0 rings
+    (λ r. or_true (is_in k heads) linked (any_at (λ j. is_in k (links j)) r.0 rings
     (levels_rings ring links heads n r.0 alone (alone r.0 k r.2) r.1) r.2))
     (levels_from links heads n k m))
     (λ m. ⊎_elim (λ (head : is_in k heads ≡ true). levels_up links heads k (suc zero) (suc n) one
@@ -89,17 +91,12 @@ levels_split ring links heads n k alone =
     (λ (t : linked ≡ true). let r = any_from (λ j. is_in k (links j)) rings t in
     levels_next links heads n r.0 k (levels_fewer (λ j. filter ring (links j)) links heads n r.0
     (rings_fewer ring links) r.1) r.2)
-    (or_one (is_in k heads) linked m))
+    (true_or (is_in k heads) linked m))
 
 pub followed_linked : (clock : ℕ) (caller : Caller) (o : Option model.Key) (k : ℕ)
     → is_in k (followed clock caller o) ≡ true → is_in k (links_of_key o) ≡ true
 followed_linked clock caller None k m = m
-followed_linked clock caller (Some key) k m =
-    elim (is_followed clock caller key) as (λ b. is_in k (cond b (links_of_content key.content) []) ≡ true
-    → is_in k (links_of_content key.content) ≡ true) [
-      | true ↦ λ n. n
-      | false ↦ λ n. absurd (in_none k n)
-    ] m
+followed_linked clock caller (Some key) k m = grind (arith, common_steps, in_none)
 
 -- a key is possessed that is attached, or that a followed keyring of the first `search_depth` levels links
 pub possession_splits : (keys : Table model.Key) (clock : ℕ) (c : Context) (ring : Option ℕ) (serial : ℕ)
@@ -115,14 +112,11 @@ pub followed_there : (keys : Table Key) (clock : ℕ) (caller : Caller) (serial 
     → at keys serial ≡ Some key → is_followed clock caller (seen key) ≡ b →
     followed_at (shown keys) clock caller serial ≡ cond b (serials (named_links_of_content key.content)) []
 followed_there keys clock caller serial key b there is =
-    ap (followed clock caller) (at_map seen keys serial ∙ ap (option_map seen) there) ∙
-    (ap (λ (d : Bool). cond d (links_of_content (seen key).content) []) is
-    ∙ ap (λ (zs : List ℕ). cond b zs []) (sym (serials-content key.content)))
+    grind (arith, common_steps, at_map, option_map, serials-content)
 
 pub followed_absent : (keys : Table Key) (clock : ℕ) (caller : Caller) (serial : ℕ) → at keys serial ≡ None
     → followed_at (shown keys) clock caller serial ≡ []
-followed_absent keys clock caller serial none =
-    ap (followed clock caller) (at_map seen keys serial ∙ ap (option_map seen) none)
+followed_absent keys clock caller serial none = grind (arith, common_steps, at_map, option_map)
 
 -- its nested keyrings
 pub followed_nested : (keys : Table Key) (clock : ℕ) (caller : Caller) (serial : ℕ) (key : Key) → AreFit keys
@@ -141,7 +135,7 @@ not_here : (names : ℕ → Option Name) (link name : Name) (k serial : ℕ) →
     → names serial ≡ Some name → same_name name link ≡ false → (k == serial) ≡ false
 not_here names link name k serial linked named apart =
     elim (k == serial) as (λ b. (k == serial) ≡ b → b ≡ false) [
-      | true ↦ λ t. let e : Some name ≡ Some link = sym named ∙ (ap names (sym (is_same k serial t)) ∙ linked) in
+      | true ↦ λ t. let e : Some name ≡ Some link = sym named ∙ (ap names (sym (equal_is k serial t)) ∙ linked) in
           absurd (true≢false (sym (same_name_equiv.refl name) ∙ (ap (same_name name)
           (same_Some name link e) ∙ apart)))
       | false ↦ λ t. refl
@@ -167,15 +161,11 @@ pub absent_unlinked : (names : ℕ → Option Name) (links : LinkList) (serial :
     → names serial ≡ None → is_in serial (serials links) ≡ false
 absent_unlinked names [] serial fit none = refl
 absent_unlinked names (link ∷ links) serial fit none =
-    elim (link.1 == serial) as (λ b. (link.1 == serial) ≡ b → (b || is_in serial (serials links)) ≡ false) [
-      | true ↦ λ t. absurd (none-some link.0 (sym none ∙ (ap names (sym (is_same link.1 serial t)) ∙ fit.0)))
-      | false ↦ λ t. absent_unlinked names links serial fit.1 none
-    ] refl
+    grind (arith, common_steps, none-some, equal_is, absent_unlinked names links serial fit.1 none)
 
 absent_followed : (keys : Table Key) (clock : ℕ) (caller : Caller) (j serial : ℕ) (o : Option Key) → at keys j ≡ o
     → AreFit keys → at keys serial ≡ None → is_in serial (followed_at (shown keys) clock caller j) ≡ false
-absent_followed keys clock caller j serial None there fit none =
-    ap (is_in serial) (followed_absent keys clock caller j there)
+absent_followed keys clock caller j serial None there fit none = grind (arith, common_steps, followed_absent)
 absent_followed keys clock caller j serial (Some key) there fit none =
     ap (is_in serial) (followed_there keys clock caller j key (is_followed clock caller (seen key)) there refl) ∙
     (elim (is_followed clock caller (seen key)) as (λ b. is_in serial
@@ -195,11 +185,7 @@ absent_linked keys clock c ring serial fit none =
 -- a name that links another serial, or none, finds none
 not_found : (serial : ℕ) (o : Option ℕ) → o ≢ Some serial → is_found serial o ≡ false
 not_found serial None other = refl
-not_found serial (Some k) other =
-    elim (k == serial) as (λ b. (k == serial) ≡ b → b ≡ false) [
-      | true ↦ λ t. absurd (other (ap (λ n. Some n) (is_same k serial t)))
-      | false ↦ λ t. refl
-    ] refl
+not_found serial (Some k) other = grind (arith, common_steps, equal_is)
 
 -- where a key is linked, if its name is at hand
 placed_linked : (names : ℕ → Option Name) (links : LinkList) (name : Name) (serial : ℕ) (place : Option ℕ)
@@ -229,9 +215,7 @@ unfollowed keys clock caller serial key there is = followed_there keys clock cal
 -- an attached key is possessed
 pub head_possessed : (keys : Table model.Key) (clock : ℕ) (c : Context) (ring : Option ℕ) (serial : ℕ)
     → OnlyRingsLink keys → is_in serial (attached_with c ring) ≡ true → possessed_with keys clock c ring serial ≡ true
-head_possessed keys clock c ring serial only h =
-    possession_splits keys clock c ring serial only ∙ or_left (is_in serial (attached_with c ring))
-    (is_linked keys clock c ring serial) h
+head_possessed keys clock c ring serial only h = grind (arith, common_steps, possession_splits, or_left)
 
 -- what is looked for is possessed where it is attached, and else where it is linked
 pub attached_possessed :
@@ -240,6 +224,4 @@ attached_possessed s only = head_possessed (shown s.keys.now.keys) s.clock s.con
 
 pub linked_possessed : (s : Sought) → OnlyRingsLink (shown s.keys.now.keys) → is_in s.serial (heads s) ≡ false
     → is_possessed s ≡ is_linked_anywhere s
-linked_possessed s only h =
-    possession_splits (shown s.keys.now.keys) s.clock s.context.now s.process_ring s.serial only
-    ∙ ap (λ b. b || is_linked_anywhere s) h
+linked_possessed s only h = grind (arith, common_steps, possession_splits)

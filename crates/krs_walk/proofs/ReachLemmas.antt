@@ -4,9 +4,10 @@ use Rattle.std.proofs.Common.{suc, sym, true, zero, ℕ}
 use Rattle.krs_model.specs.{Laws.ClosesCycle, Levels.{is_in, level, levels}}
 use Rattle.krs_model.specs.Reach.{Directly, Further, is_ring, links_of_key_at, nested_in, Reaches}
 use Rattle.krs_model.specs.{State.Key, Table.{at, Table}}
-use Rattle.krs_model.proofs.Reach.Levels.{in_flat}
+use Rattle.krs_model.proofs.Reach.Levels.{in_flat, in_one, only_in}
 use Rattle.krs_keys.specs.Keys.{OnlyRingsLink}
-use Rattle.krs_walk.proofs.{LevelsLemmas.Fewer, ListsLemmas.{in_cons, in_head, in_none, in_one, in_single, in_tail}}
+use Rattle.krs_walk.proofs.{LevelsLemmas.Fewer, ListsLemmas.{in_cons, in_none, in_tail}}
+use Rattle.krs_walk.proofs.ListsLemmas.{in_head}
 
 -- a key of a list that passes the test is in the list of those that do
 pub in_filter : (p : ℕ → Bool) (xs : List ℕ) (k : ℕ) → is_in k xs ≡ true → p k ≡ true → is_in k (filter p xs) ≡ true
@@ -72,7 +73,7 @@ closes_nested keys a b only ring (inr p) = inr (reaches_nested keys a b only rin
 
 from_level : (links : ℕ → List ℕ) (key n k : ℕ) → is_in k (level links (key ∷ []) n) ≡ true → ClosesCycle links key k
 unfolding level
-from_level links key zero k m = inl (sym (in_single k key m))
+from_level links key zero k m = inl (sym (only_in k key m))
 from_level links key (suc n) k m =
     let from = in_flat links (level links (key ∷ []) n) k m in
     inr (one_more links key from.0 k (from_level links key n from.0 from.1) from.2)

@@ -7,8 +7,9 @@ use Rattle.std.proofs.lemmas.List.{drop_all, drop_more, get_or_append_left, Fold
 use Rattle.krs_model.specs.Levels.{levels}
 use Rattle.krs_walk.specs.Lists.{join}
 use Rattle.krs_walk.proofs.{CycleLemmas.levels_up, LevelsLemmas.{at_heads, at_next, IsAt}}
-use Rattle.krs_walk.proofs.ListsLemmas.{any_at, any_join, fresh, join_append, join_fresh, or_right}
+use Rattle.krs_walk.proofs.ListsLemmas.{any_at, any_join, fresh, join_append, join_fresh}
 use Rattle.krs_walk.proofs.PossessionLemmas.{any_from}
+use Rattle.krs_model.proofs.Reach.Levels.{or_true}
 
 abbrev pub Grown : List ℕ → List ℕ → Type 0
 Grown first all = (more : List ℕ) × (all ≡ first ++ more)
@@ -70,7 +71,7 @@ pub search_finds : (p : ℕ → Bool) (f : ℕ → List ℕ) (heads : List ℕ) 
 search_finds p f heads n m start all s lt h =
     let up : n + 1 ≤ m = omega arith in
     any_up p f heads (n + 1) m up (any_all p f heads n start all s.walk
-    ∙ (any_parts p start all ∙ or_right (list_any p (take start all)) (list_any p (drop start all)) h))
+    ∙ (any_parts p start all ∙ or_true (list_any p (take start all)) (list_any p (drop start all)) h))
 
 -- the first n + 1 levels have none that passes, and what the last of them links joins the list
 pub search_joins : (p : ℕ → Bool) (f : ℕ → List ℕ) (heads : List ℕ) (n start : ℕ) (all next : List ℕ)

@@ -1,6 +1,6 @@
 -- What a keyring's links come to in a search, and those of a level.
 use Rattle.std.proofs.Common.{[], ◌&&◌, ◌∙◌, ◌∷◌, ◌≡◌, ap, Bool, cond, Err, false, filter, List, None, refl, Some, sym}
-use Rattle.std.proofs.Common.{true, true≢false, ℕ}
+use Rattle.std.proofs.Common.{arith, true, true≢false, ℕ}
 use Rattle.krs_types.specs.declared.errno.Errno.{Errno}
 use Rattle.krs_model.specs.{Levels.is_in, Possession.links_of_content, Reach.is_ring}
 use Rattle.krs_model.specs.{Search.{entered, is_open, open_links, or_next}, Sweep.links_of_key, Table.{at, Table}}
@@ -11,7 +11,9 @@ use Rattle.krs_keys.specs.declared.key.{Content.{Content, TheVariants.{Links, Pa
 use Rattle.krs_walk.specs.Lists.{join}
 use Rattle.krs_walk.specs.{Searching.{entered_rings, searcher_for, sought_in}, declared.search.Search.Search}
 use Rattle.krs_walk.proofs.KeyringsLemmas.{nested_serials}
-use Rattle.krs_walk.proofs.{ListsLemmas.in_head, SoughtLemmas.{next_none, seen_there, unseen}}
+use Rattle.krs_walk.proofs.{SoughtLemmas.{next_none, seen_there, unseen}}
+use Rattle.krs_walk.proofs.ListsLemmas.{in_head}
+use Rattle.std.proofs.lemmas.Grind.{common_steps}
 
 a_link : (content : Content) → links_some content ≡ true → (k : ℕ)
     × (is_in k (links_of_content (seen_content content)) ≡ true)
@@ -57,11 +59,8 @@ rings_entered s ring key fit there h =
 -- a keyring of which nothing is examined
 pub nothing_sought : (s : Search) (ring : ℕ) (fault : Errno) → entered (searcher_for s) ring ≡ []
     → Err fault ≡ or_next (Err fault) (sought_in s (entered (searcher_for s) ring))
-nothing_sought s ring fault h =
-    sym (ap (λ (zs : List ℕ). or_next (Err fault) (sought_in s zs)) h ∙ next_none (Err fault))
+nothing_sought s ring fault h = grind (arith, common_steps, next_none)
 
 pub nothing_joined : (s : Search) (ring : ℕ) (all : List ℕ) → entered (searcher_for s) ring ≡ []
     → all ≡ join all (entered_rings (searcher_for s) ring)
-nothing_joined s ring all h =
-    let passes = λ (k : ℕ). is_ring (at (shown s.keys.now.keys) k) in
-    sym (ap (λ (zs : List ℕ). join all (filter passes zs)) h)
+nothing_joined s ring all h = grind (arith, common_steps)

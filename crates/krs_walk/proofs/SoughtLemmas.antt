@@ -4,20 +4,19 @@ use Rattle.std.proofs.{Common.{Ok, Option, option_map, refl, Result, Some, sym, 
 use Rattle.krs_types.specs.Name.{same_name}
 use Rattle.krs_types.specs.{Refusing.or_refuse, declared.{errno.Errno.{Errno, TheVariants.ENOKEY}, name.Name.Name}}
 use Rattle.krs_types.proofs.Names.{equal_names}
-use Rattle.krs_model.specs.{Access.is_over, Linking.is_named, Search.{fault, grants_search, is_match, is_open, or_next}}
-use Rattle.krs_model.specs.{Search.{Searcher, sought, weight, weightier}, Table.{at, Table}}
+use Rattle.krs_model.specs.{Access.is_over, Linking.is_named, Search.{fault, grants_search, is_match, or_next}}
+use Rattle.krs_model.specs.{Search.{Searcher, sought, weightier}, Table.{at, Table}}
 use Rattle.krs_model.proofs.{Reach.Searches.sought_append, Tables.Changes.at_map}
 use Rattle.krs_links.specs.Links.{LinkList, serial_named, serials}
 use Rattle.krs_keys.specs.{Keys.{AreNamed, name_at, seen, shown}, declared.key.Key.Key}
 use Rattle.krs_keys.proofs.KeysLemmas.{named_at}
 use Rattle.krs_model.specs.State as model
+use Rattle.std.proofs.lemmas.Grind.{common_steps}
 
 -- behind a search that finds no match
 pub next_none : (r : Result ℕ Errno) → or_next r (Err ENOKEY) ≡ r
 next_none (Ok k) = refl
-next_none (Err e) =
-    let least : nat_lt (weight e) 0 ≡ false = grind (arith, nat_tests) in
-    ap (λ b. Err (cond b ENOKEY e)) least
+next_none (Err e) = grind (arith, common_steps, nat_lt, nat_tests)
 
 less_on : (m n k : ℕ) → nat_lt m n ≡ true → nat_lt n k ≡ true → nat_lt m k ≡ true
 less_on m n k h i = grind (arith, nat_tests)
@@ -26,21 +25,7 @@ no_less : (m n k : ℕ) → nat_lt m n ≡ false → nat_lt n k ≡ false → na
 no_less m n k h i = grind (arith, nat_tests)
 
 weightiest : (e f g : Errno) → weightier (weightier e f) g ≡ weightier e (weightier f g)
-weightiest e f g =
-    elim (nat_lt (weight e) (weight f)) as (λ a. nat_lt (weight e) (weight f) ≡ a
-    → weightier (cond a f e) g ≡ weightier e (weightier f g)) [
-      | true ↦ λ t. elim (nat_lt (weight f) (weight g)) as (λ b. nat_lt (weight f) (weight g) ≡ b
-          → cond b g f ≡ weightier e (cond b g f)) [
-            | true ↦ λ u. sym (ap (λ b. cond b g e) (less_on (weight e) (weight f) (weight g) t u))
-            | false ↦ λ u. sym (ap (λ b. cond b f e) t)
-          ] refl
-      | false ↦ λ t. elim (nat_lt (weight f) (weight g)) as (λ b. nat_lt (weight f) (weight g) ≡ b
-          → weightier e g ≡ weightier e (cond b g f)) [
-            | true ↦ λ u. refl
-            | false ↦ λ u. ap (λ b. cond b g e) (no_less (weight e) (weight f) (weight g) t u)
-                ∙ sym (ap (λ b. cond b f e) t)
-          ] refl
-    ] refl
+weightiest e f g = grind (arith, common_steps, nat_lt, less_on, no_less)
 
 pub next_next : (a b c : Result ℕ Errno) → or_next (or_next a b) c ≡ or_next a (or_next b c)
 next_next (Ok k) b c = refl
@@ -57,11 +42,7 @@ verdict named revoked over granted serial =
 one_key : (by : Searcher) (name : Name) (serial : ℕ) (key : model.Key) → at by.keys serial ≡ Some key →
     sought by name (serial ∷ []) ≡ verdict (is_named name (Some key)) key.revoked (is_over by.clock key.expiry)
     (grants_search by serial key) serial
-one_key by name serial key there =
-    ap (λ o. or_refuse (fault (is_match name (λ (k : model.Key). k.revoked) o || false)
-    (is_match name (λ (k : model.Key). is_over by.clock k.expiry) o || false)
-    (is_match name (λ (k : model.Key). not (grants_search by serial k)) o || false))
-    (cond (is_match name (is_open by serial) o) (Some serial) None)) there
+one_key by name serial key there = grind (arith, common_steps)
 
 pub key_comes_to : (by : Searcher) (name : Name) (serial : ℕ) (key : model.Key) (named revoked over granted : Bool)
     → at by.keys serial ≡ Some key →
@@ -78,13 +59,7 @@ unnamed_matches name holds (Some key) h = ap (λ b. b && holds key) h
 -- a key of another name, or none
 pub unnamed_comes_to : (by : Searcher) (name : Name) (serial : ℕ) → is_named name (at by.keys serial) ≡ false
     → sought by name (serial ∷ []) ≡ Err ENOKEY
-unnamed_comes_to by name serial h =
-    rw (
-      unnamed_matches name (is_open by serial) (at by.keys serial) h,
-      unnamed_matches name (λ (k : model.Key). k.revoked) (at by.keys serial) h,
-      unnamed_matches name (λ (k : model.Key). is_over by.clock k.expiry) (at by.keys serial) h,
-      unnamed_matches name (λ (k : model.Key). not (grants_search by serial k)) (at by.keys serial) h,
-    ) refl
+unnamed_comes_to by name serial h = grind (arith, common_steps, unnamed_matches)
 
 -- a key that is there is seen there
 pub seen_there : (keys : Table Key) (serial : ℕ) (key : Key) → at keys serial ≡ Some key

@@ -6,6 +6,7 @@ use Rattle.krs_model.specs.Search.{entered, or_next, Searcher, sought}
 use Rattle.krs_model.proofs.Reach.Searches.{sought_append}
 use Rattle.krs_walk.specs.{Lists.join, Searching.entered_rings}
 use Rattle.krs_walk.proofs.{RoundsLemmas.{Grown, IsRound, longer, round_more}, SoughtLemmas.next_next}
+use Rattle.std.proofs.lemmas.Grind.{common_steps}
 
 -- the keyrings of a level before this place were visited: their links have this fault, what is left gives the rest
 pub record IsVisit (by : Searcher) (name : Name) (first all : List ℕ) (start place : ℕ)
@@ -34,15 +35,11 @@ pub turn_goes_on : (by : Searcher) (name : Name) (g : ℕ → List ℕ) (first :
     → or_next (Err fault) (sought by name (flat_map g (drop place first))) ≡ whole
     → r ≡ or_next (Err fault) (sought by name (g here))
     → or_next r (sought by name (flat_map g (drop (place + 1) first))) ≡ whole
-turn_goes_on by name g first place here fault r whole lt same rest h =
-    ap (λ (q : Result ℕ Errno). or_next q (sought by name (flat_map g (drop (place + 1) first))))
-    (h ∙ ap (λ (k : ℕ). or_next (Err fault) (sought by name (g k))) same)
-    ∙ (sym (one_turn by name g first place fault lt) ∙ rest)
+turn_goes_on by name g first place here fault r whole lt same rest h = grind (arith, common_steps, flat_map, one_turn)
 
 same_place : (first all : List ℕ) (place here : ℕ) → Grown first all → place < length first
     → here ≡ get_or all place 0 → here ≡ get_or first place 0
-same_place first all place here grown lt e =
-    e ∙ (ap (λ zs. get_or zs place 0) grown.1 ∙ get_or_append_left first grown.0 0 place lt)
+same_place first all place here grown lt e = grind (arith, common_steps, get_or, get_or_append_left)
 
 -- what the visit of one keyring comes to
 pub visited : (by : Searcher) (name : Name) (first all : List ℕ) (start place here : ℕ) (before fault : Errno)

@@ -1,10 +1,11 @@
-use Rattle.std.proofs.Common.{[], ◌∙◌, ◌∷◌, ap, arith, get_or, refl, sym, true≢false, ℕ}
+use Rattle.std.proofs.Common.{[], ◌∙◌, ◌∷◌, ap, arith, get_or, true≢false, ℕ}
 use Rattle.krs_model.specs.Reach.{nested_in}
 use Rattle.krs_keys.specs.Keys.{shown}
 use Rattle.krs_walk.specs.Lists.{join}
 use Rattle.krs_walk.proofs.CycleLemmas.{apart_of, found_closes, found_reached, missed_closes, missed_reached, same_of}
 use Rattle.krs_walk.proofs.CycleLemmas.{walk_goes_on, walk_starts}
 use Rattle.krs_walk.proofs.cycle.walk_to.Goals as goal
+use Rattle.std.proofs.lemmas.Grind.{common_steps}
 
 pub walk-init : goal.walk-init
 walk-init c =
@@ -23,30 +24,13 @@ walk-preserved c =
     ∙ ap (λ (k : ℕ). join all (links k)) c.at-here.ensures))
 
 pub returns-then-eq-clause-closes : goal.returns-then-eq-clause-closes
-returns-then-eq-clause-closes c =
-    let keys = shown c.args.keys.now.keys in
-    sym (found_closes keys c.args.key c.args.ring c.walk.place c.walk.seen c.requires.key c.walk.invariant
-    c.len.ensures.once (omega (arith, c.len.ensures.is))
-    (same_of c.at-here.result c.args.ring (get_or c.walk.seen c.walk.place 0) c.eq.result c.eq.ensures c.if-eq.true
-    c.at-here.ensures))
+returns-then-eq-clause-closes c = grind (arith, common_steps, found_closes, same_of, get_or)
 
 pub returns-then-eq-clause-reached : goal.returns-then-eq-clause-reached
-returns-then-eq-clause-reached c = (
-  λ t. found_reached (shown c.args.keys.now.keys) c.args.key c.args.ring c.walk.place c.walk.seen c.walk.invariant
-      (omega (arith, c.len.ensures.is))
-      (same_of c.at-here.result c.args.ring (get_or c.walk.seen c.walk.place 0) c.eq.result c.eq.ensures c.if-eq.true
-      c.at-here.ensures),
-  λ closing. refl,
-)
+returns-then-eq-clause-reached c = grind (arith, common_steps, found_reached, same_of, get_or)
 
 pub returns-clause-closes : goal.returns-clause-closes
-returns-clause-closes c =
-    sym (missed_closes (shown c.args.keys.now.keys) c.args.key c.args.ring c.walk.place c.walk.seen c.requires.only
-    c.requires.ring c.walk.invariant (omega (arith, c.len.ensures.is)))
+returns-clause-closes c = grind (arith, common_steps, missed_closes)
 
 pub returns-clause-reached : goal.returns-clause-reached
-returns-clause-reached c = (
-  λ t. absurd (true≢false (sym t)),
-  λ closing. absurd (missed_reached (shown c.args.keys.now.keys) c.args.key c.args.ring c.walk.place c.walk.seen
-      c.requires.only c.requires.ring c.walk.invariant (omega (arith, c.len.ensures.is)) closing),
-)
+returns-clause-reached c = grind (arith, common_steps, true≢false, missed_reached)

@@ -1,13 +1,11 @@
-use Rattle.std.proofs.Common.{◌+◌, ◌∙◌, arith, refl, sym}
-use Rattle.krs_model.specs.Reach.{nesting_depth}
+use Rattle.std.proofs.Common.{arith, refl}
 use Rattle.krs_keys.specs.Keys.{shown}
 use Rattle.krs_walk.proofs.{DepthLemmas.no_chain, HeightLemmas.none_longer}
 use Rattle.krs_walk.proofs.height.height_by_chains.Goals as goal
+use Rattle.std.proofs.lemmas.Grind.{common_steps}
 
 pub loop-height-init : goal.loop-height-init
 loop-height-init c = no_chain (shown c.args.keys.now.keys) c.args.key 0 refl
 
 pub returns-then-not-has_chain-clause-shallow : goal.returns-then-not-has_chain-clause-shallow
-returns-then-not-has_chain-clause-shallow c =
-    none_longer (shown c.args.keys.now.keys) c.args.key (c.loop-height.height + 1) nesting_depth (omega arith)
-    (sym c.has_chain.ensures ∙ c.if-not-has_chain.true)
+returns-then-not-has_chain-clause-shallow c = grind (arith, common_steps, none_longer)

@@ -1,16 +1,14 @@
-use Rattle.std.proofs.Common.{◌∙◌, ap, filter, option_copied, sym}
+use Rattle.std.proofs.Common.{◌∙◌, ap, arith, filter, option_copied, sym}
 use Rattle.krs_model.specs.{Reach.is_ring, Table.at}
 use Rattle.krs_keys.specs.Keys.{shown}
 use Rattle.krs_walk.proofs.PossessionLemmas.{followed_absent, followed_nested, unfollowed}
 use Rattle.krs_walk.proofs.possession.followed_rings.Goals.{in_default-via-in-Some+else-is_followed}
 use Rattle.krs_walk.proofs.possession.followed_rings.Goals.{in_default-via-in_default}
 use Rattle.krs_walk.proofs.possession.followed_rings.Goals as goal
+use Rattle.std.proofs.lemmas.Grind.{common_steps}
 
 pub returns-in-Some : goal.returns-in-Some
-returns-in-Some c =
-    c.rings_in.ensures ∙ followed_nested c.args.keys.now.keys c.args.clock c.args.caller.now c.args.serial
-    c.in-Some.key.now c.requires
-    (sym c.get.ensures ∙ ap option_copied c.in-Some.is) (sym c.is_followed.ensures ∙ c.if-is_followed.true)
+returns-in-Some c = grind (arith, common_steps, followed_nested, option_copied)
 
 pub returns-in_default : goal.returns-in_default
 returns-in_default c =

@@ -1,18 +1,14 @@
-use Rattle.std.proofs.Common.{◌∙◌, sym}
+use Rattle.std.proofs.Common.{◌∙◌, arith, sym}
 use Rattle.krs_walk.specs.Seeking.{links_it, nested}
 use Rattle.krs_walk.proofs.DepthLemmas.{any_below, any_first, any_none}
 use Rattle.krs_walk.proofs.possession.Sought.+is_linked_within.Goals as goal
+use Rattle.std.proofs.lemmas.Grind.{common_steps}
 
 pub returns-then-depth-eq0 : goal.returns-then-depth-eq0
-returns-then-depth-eq0 t c =
-    let s = c.args.self.now in
-    sym (any_none (links_it s) (nested s) c.args.ring c.args.depth c.if-depth-eq0.true)
+returns-then-depth-eq0 t c = grind (arith, common_steps, any_none)
 
 pub returns-then-linked : goal.returns-then-linked
-returns-then-linked t c =
-    let s = c.args.self.now in
-    sym (any_first (links_it s) (nested s) c.args.ring c.args.depth c.if-depth-eq0.false
-    (sym c.look_into-linked.ensures.linked ∙ c.if-linked.true))
+returns-then-linked t c = grind (arith, common_steps, any_first)
 
 pub loop-nested-init : goal.loop-nested-init
 loop-nested-init t c =

@@ -2,12 +2,11 @@ use Rattle.std.proofs.{Common.{◌-◌, ◌∙◌, ap, sym}, lemmas.Grind.get_or
 use Rattle.krs_walk.specs.Searching.{links_at, searcher_for, sought_behind}
 use Rattle.krs_walk.proofs.{DescentLemmas.{links_deep, links_here}, VisitingLemmas.turn_goes_on}
 use Rattle.krs_walk.proofs.search.Search.+find_at.Goals as goal
+use Rattle.std.proofs.Common.{arith}
+use Rattle.std.proofs.lemmas.Grind.{common_steps}
 
 pub returns-then-depth-eq0 : goal.returns-then-depth-eq0
-returns-then-depth-eq0 t c =
-    let s = c.args.self.now in
-    c.find_in_links.ensures ∙ ap (sought_behind s c.args.fault)
-    (links_here (searcher_for s) c.args.ring c.args.depth c.if-depth-eq0.true)
+returns-then-depth-eq0 t c = grind (arith, common_steps, links_here)
 
 pub loop-nested-init : goal.loop-nested-init
 loop-nested-init t c =

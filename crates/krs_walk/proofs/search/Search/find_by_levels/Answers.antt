@@ -2,11 +2,10 @@ use Rattle.std.proofs.Common.{◌∙◌, arith, sym}
 use Rattle.krs_walk.specs.Searching.{searcher_for}
 use Rattle.krs_walk.proofs.DescentLemmas.{depth_fails, depth_finds, depth_goes_on, depth_starts}
 use Rattle.krs_walk.proofs.search.Search.find_by_levels.Goals as goal
+use Rattle.std.proofs.lemmas.Grind.{common_steps}
 
 pub loop-level-init : goal.loop-level-init
-loop-level-init c =
-    let s = c.args.self.now in
-    depth_starts (searcher_for s) s.name.now c.args.head _ c.requires.head
+loop-level-init c = grind (arith, common_steps, depth_starts)
 
 pub returns-in-Ok : goal.returns-in-Ok
 returns-in-Ok c =

@@ -1,4 +1,4 @@
-use Rattle.std.proofs.Common.{◌∙◌, ap, filter, option_copied, sym, ℕ}
+use Rattle.std.proofs.Common.{◌∙◌, ap, arith, filter, option_copied, sym, ℕ}
 use Rattle.krs_model.specs.{Reach.is_ring, Table.at}
 use Rattle.krs_keys.specs.Keys.{shown}
 use Rattle.krs_walk.specs.Searching.{sought_behind}
@@ -6,6 +6,7 @@ use Rattle.krs_walk.proofs.SearchLemmas.{entered_absent, entered_there, nothing_
 use Rattle.krs_walk.proofs.search.Search.look_in.Goals.{in_default-via-in-Some+else-is_entered}
 use Rattle.krs_walk.proofs.search.Search.look_in.Goals.{in_default-via-in_default}
 use Rattle.krs_walk.proofs.search.Search.look_in.Goals as goal
+use Rattle.std.proofs.lemmas.Grind.{common_steps}
 
 pub returns-in-Some-clause-sought : goal.returns-in-Some-clause-sought
 returns-in-Some-clause-sought c =
@@ -14,9 +15,7 @@ returns-in-Some-clause-sought c =
     (sym c.get.ensures ∙ ap option_copied c.in-Some.is) (sym c.is_entered.ensures ∙ c.if-is_entered.true)))
 
 pub returns-in-Some-clause-rings : goal.returns-in-Some-clause-rings
-returns-in-Some-clause-rings c =
-    c.rings_in.ensures ∙ sym (rings_entered c.args.self.now c.args.ring c.in-Some.key.now c.requires.fit
-    (sym c.get.ensures ∙ ap option_copied c.in-Some.is) (sym c.is_entered.ensures ∙ c.if-is_entered.true))
+returns-in-Some-clause-rings c = grind (arith, common_steps, rings_entered, option_copied)
 
 pub returns-in_default-clause-sought : goal.returns-in_default-clause-sought
 returns-in_default-clause-sought c =

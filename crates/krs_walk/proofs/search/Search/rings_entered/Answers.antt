@@ -1,15 +1,14 @@
-use Rattle.std.proofs.Common.{◌∙◌, ap, filter, option_copied, sym, ℕ}
+use Rattle.std.proofs.Common.{◌∙◌, ap, arith, filter, option_copied, sym, ℕ}
 use Rattle.krs_model.specs.{Reach.is_ring, Table.at}
 use Rattle.krs_keys.specs.Keys.{shown}
 use Rattle.krs_walk.proofs.SearchLemmas.{entered_absent, entered_there, rings_entered}
 use Rattle.krs_walk.proofs.search.Search.rings_entered.Goals.{in_default-via-in-Some+else-is_entered}
 use Rattle.krs_walk.proofs.search.Search.rings_entered.Goals.{in_default-via-in_default}
 use Rattle.krs_walk.proofs.search.Search.rings_entered.Goals as goal
+use Rattle.std.proofs.lemmas.Grind.{common_steps}
 
 pub returns-in-Some : goal.returns-in-Some
-returns-in-Some c =
-    c.rings_in.ensures ∙ sym (rings_entered c.args.self.now c.args.ring c.in-Some.key.now c.requires.fit
-    (sym c.get.ensures ∙ ap option_copied c.in-Some.is) (sym c.is_entered.ensures ∙ c.if-is_entered.true))
+returns-in-Some c = grind (arith, common_steps, rings_entered, option_copied)
 
 pub returns-in_default : goal.returns-in_default
 returns-in_default c =

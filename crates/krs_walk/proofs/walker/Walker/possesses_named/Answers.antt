@@ -1,13 +1,10 @@
-use Rattle.std.proofs.Common.{◌∙◌, sym}
 use Rattle.krs_walk.proofs.PossessionLemmas.{attached_possessed, linked_possessed}
 use Rattle.krs_walk.proofs.walker.Walker.possesses_named.Goals as goal
+use Rattle.std.proofs.Common.{arith}
+use Rattle.std.proofs.lemmas.Grind.{common_steps}
 
 pub returns-then-is_attached : goal.returns-then-is_attached
-returns-then-is_attached c =
-    c.if-is_attached.true ∙ sym (attached_possessed c.args.sought.now c.only_keyrings_link.ensures.only
-    (sym c.is_attached.ensures ∙ c.if-is_attached.true))
+returns-then-is_attached c = grind (arith, common_steps, attached_possessed)
 
 pub returns-else-is_attached : goal.returns-else-is_attached
-returns-else-is_attached c =
-    c.is_linked.ensures ∙ sym (linked_possessed c.args.sought.now c.only_keyrings_link.ensures.only
-    (sym c.is_attached.ensures ∙ c.if-is_attached.false))
+returns-else-is_attached c = grind (arith, common_steps, linked_possessed)
