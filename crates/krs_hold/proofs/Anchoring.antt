@@ -13,9 +13,11 @@ use Rattle.krs_keys.specs.{Kept.{KeepsAnchored, Sweeps}, Keys.{seen, shown}, dec
 use Rattle.krs_keys.proofs.TableLemmas.{keys_map}
 use Rattle.krs_hold.specs.Chain.{holders_at, IsChain, IsChained, Spares}
 use Rattle.krs_hold.specs.{Tally.{all_links, times}, declared.counts.Count.Count}
-use Rattle.krs_hold.proofs.{Exact.IsCounted, Times.{in-times, other_is, times-append, times-in}}
+use Rattle.krs_hold.proofs.{Exact.IsCounted, Times.{in-times, times-append, times-in}}
 use Rattle.krs_model.specs.State as model
 use Rattle.std.proofs.lemmas.Grind.{common_steps}
+use Rattle.krs_types.proofs.Names.{and_left, and_right}
+use Rattle.krs_model.proofs.Sweep.HeldKeys.{other_is}
 
 -- ---- what is left of a table
 filter_all : {X : Type 0} (xs : List X) → xs ≡ filter (λ x. true) xs
@@ -61,14 +63,6 @@ both_true : (b c : Bool) → b ≡ true → c ≡ true → (b && c) ≡ true
 both_true true c h g = g
 both_true false c h g = h
 
-first_true : (b c : Bool) → (b && c) ≡ true → b ≡ true
-first_true true c h = refl
-first_true false c h = h
-
-second_true : (b c : Bool) → (b && c) ≡ true → c ≡ true
-second_true true c h = h
-second_true false c h = absurd (true≢false (sym h))
-
 -- ---- no key that goes is anchored
 pub spares_all : (attached : List ℕ) (old : Table Key) → Spares attached old old
 spares_all attached old = record { kept = λ k. true; each = λ k there anchor. refl; keys = filter_all old }
@@ -88,7 +82,7 @@ anchored_less :
     (keys : Table model.Key) (attached : List ℕ) (p q : ℕ → Bool) (k : ℕ)
     → IsAnchored keys attached (λ j. p j && q j) k
     → IsAnchored keys attached p k
-anchored_less keys attached p q k h = grind (arith, common_steps, ⊎_elim, inl, inr, first_true)
+anchored_less keys attached p q k h = grind (arith, common_steps, ⊎_elim, inl, inr, and_left)
 
 -- one after the other
 pub spares_on :
@@ -104,10 +98,10 @@ spares_on attached old mid new a b = record {
       (λ (i : is_in k attached ≡ true). inl i)
       (λ (l : (j : ℕ) × ((a.kept j && b.kept j) ≡ true) × (is_in k (links_of_key_at (shown old) j) ≡ true)).
       let link : at (shown mid) l.0 ≡ at (shown old) l.0 =
-      there_kept a.kept old mid a.keys l.0 (first_true (a.kept l.0) (b.kept l.0) l.1) in
+      there_kept a.kept old mid a.keys l.0 (and_left (a.kept l.0) (b.kept l.0) l.1) in
       inr (
         l.0,
-        second_true (a.kept l.0) (b.kept l.0) l.1,
+        and_right (a.kept l.0) (b.kept l.0) l.1,
         subst (λ (o : Option model.Key). is_in k (links_of_key o) ≡ true) (sym link) l.2,
       )) anchor in
       both_true (a.kept k) (b.kept k) keep (b.each k (subst IsSome (sym same) there) on);

@@ -8,8 +8,9 @@ use Rattle.krs_model.specs.{Levels.is_in, Table.{alter, at, put, Table, without}
 use Rattle.krs_model.proofs.Tables.Changes.{alter_none, at_alter_same, at_put_same}
 use Rattle.krs_hold.specs.Chain.{Chained, falls, falls_at, gone, gone_all, holders_at, is_waiting, IsChain, IsChained}
 use Rattle.krs_hold.specs.{Chain.{lowered, next_at, raised, rested, total_weight, weight}, declared.counts.Count.Count}
-use Rattle.krs_hold.proofs.{Places.{alter_other, at_some, put_other, without_other}, Times.{in_head, in_rest, in_tail}}
+use Rattle.krs_hold.proofs.{Places.{alter_other, at_some, put_other, without_other}, Times.{in_tail}}
 use Rattle.std.proofs.lemmas.Grind.{common_steps}
+use Rattle.krs_model.proofs.Sweep.HeldKeys.{in_head, in_rest}
 
 -- a chain stays where its counts wait and name the next as before
 pub chain_same :

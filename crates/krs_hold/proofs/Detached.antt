@@ -10,8 +10,9 @@ use Rattle.krs_model.specs.{Sweep.{context_roots, process_roots, roots, uid_root
 use Rattle.krs_model.proofs.{Reach.Levels.same_is, Tables.Changes.at_map}
 use Rattle.krs_hold.specs.Tally.{all_less, all_links, IsTallied, number_at, times}
 use Rattle.krs_hold.proofs.{Gathered.gathered, Tallies.tallied_let_go_all}
-use Rattle.krs_hold.proofs.Times.{other_is, times-append, times-cons, times-other, times-same}
+use Rattle.krs_hold.proofs.Times.{times-append, times-cons, times-other, times-same}
 use Rattle.std.proofs.lemmas.Grind.{common_steps}
+use Rattle.krs_model.proofs.Sweep.HeldKeys.{other_is}
 
 -- how often a serial is left where one key goes
 abbrev pub left : ℕ → ℕ → ℕ → ℕ

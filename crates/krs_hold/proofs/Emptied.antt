@@ -8,6 +8,7 @@ use Rattle.krs_hold.specs.Chain.{Chained, emptied, empties, falls, falls_at, gon
 use Rattle.krs_hold.specs.declared.counts.Count.{Count}
 use Rattle.krs_hold.proofs.{Chains.{falls_false, falls_true, lowered_falls, lowered_stays}, Places.{alter_to, at_some}}
 use Rattle.std.proofs.lemmas.Grind.{common_steps}
+use Rattle.krs_links.proofs.IndexLemmas.{never_both}
 
 -- a change that leaves what is there
 alter_same : {X : Type 0} (es : Table X) (k : ℕ) (f : X → X) (v : X) → at es k ≡ Some v → f v ≡ v → alter es k f ≡ es
@@ -38,10 +39,6 @@ without_holders t k c =
 abbrev pub chained : Table Count → Option ℕ → Chained
 chained es first = record { counts = es; first = first }
 
-never : (x : Bool) → (x && false) ≡ false
-never true = refl
-never false = refl
-
 empties_none : (c : Count) → c.holders ≡ 0 → empties c ≡ false
 empties_none c z = grind (arith, common_steps, nat_lt, nat_tests)
 
@@ -56,7 +53,7 @@ pub same_chain : (a b : Table Count) (x y : Option ℕ) → a ≡ b → x ≡ y
 same_chain a b x y e f = cc
 
 and_false : (x y : Bool) → (x && false) ≡ (y && false)
-and_false x y = never x ∙ sym (never y)
+and_false x y = never_both x ∙ sym (never_both y)
 
 -- a count that has none is empty
 emptied_none : (first : Option ℕ) (c : Count) → c.holders ≡ 0 → emptied first c ≡ c

@@ -1,13 +1,12 @@
 -- The numbers that a caller sees of the counts, as the counts change.
 use Rattle.std.proofs.Common.{[], ◌∙◌, ◌∷◌, ◌≡◌, ap, cond, false, is_some, List, None, Option, refl, Some}
-use Rattle.std.proofs.Common.{sym, true, true≢false, ℕ}
+use Rattle.std.proofs.Common.{arith, sym, true, true≢false, ℕ}
 use Rattle.krs_model.specs.Table.{alter, at, put, Table}
 use Rattle.krs_model.proofs.Tables.Changes.{alter_map, put_map}
 use Rattle.krs_hold.specs.Chain.{Chained, falls_at, gone, gone_all, holders_at, IsChained, lowered, numbers_of, raised}
 use Rattle.krs_hold.specs.{Tally.{all_less, number_at, one_less, one_more, with_number}, declared.counts.Count.Count}
 use Rattle.krs_hold.proofs.Chains.{gone_all_chained, gone_chained, held_chained, made_chained, raised_chained}
 use Rattle.krs_hold.proofs.{Exact.{holders_lowered, is_some_shown, number_is}, Places.alter_put}
-use Rattle.std.proofs.Common.{arith}
 use Rattle.std.proofs.lemmas.Grind.{common_steps}
 
 -- what a caller sees of one count

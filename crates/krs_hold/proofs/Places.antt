@@ -1,14 +1,13 @@
 -- Laws of tables: what is at another number after a change, a value that is written back, and one that is changed
 -- where it was put.
 use Rattle.std.proofs.Common.{[], ⊎_elim, ◌∙◌, ◌∷◌, ◌≡◌, ap, cond, false, is_some, nat_cmp, None, Option, option_map}
-use Rattle.std.proofs.Common.{refl, Some, sym, ℕ}
+use Rattle.std.proofs.Common.{arith, refl, Some, sym, ℕ}
 use Rattle.std.specs.BTreeMap.{is_at}
 use Rattle.std.specs.{Map.set_value, Ordering.match_ordering, declared.cmp.Ordering.TheVariants.{Equal, Greater, Less}}
 use Rattle.std.proofs.lemmas.Bool.{cases_eq}
 use Rattle.krs_model.specs.Table.{alter, at, put, Table, without}
 use Rattle.krs_model.proofs.Tables.Changes.{alter_some, at_alter_other, at_alter_same, at_put_other, is_at_same}
 use Rattle.krs_model.proofs.Tables.Changes.{same_at}
-use Rattle.std.proofs.Common.{arith}
 use Rattle.std.proofs.lemmas.Grind.{common_steps}
 
 -- a number is not at another

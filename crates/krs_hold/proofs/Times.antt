@@ -1,23 +1,15 @@
 -- How often a serial stands in a list.
-use Rattle.std.proofs.Common.{[], ◌++◌, ◌+◌, ◌<◌, ◌==◌, ◌||◌, ◌∙◌, ◌∷◌, ◌≡◌, ap, arith, cond, false, List, refl, subst}
+use Rattle.std.proofs.Common.{[], ◌++◌, ◌+◌, ◌<◌, ◌==◌, ◌||◌, ◌∙◌, ◌∷◌, ◌≡◌, ap, arith, cond, false, List, refl}
 use Rattle.std.proofs.Common.{sym, true, true≢false, ℕ}
-use Rattle.std.proofs.lemmas.{Bool.Decides.nat_tests, List.Sums.{sum_by-append, sum_by-cons}}
+use Rattle.std.proofs.lemmas.{List.Sums.{sum_by-append, sum_by-cons}}
 use Rattle.krs_model.specs.Levels.{is_in}
 use Rattle.krs_model.proofs.Reach.Levels.{or_true, same_is}
 use Rattle.krs_hold.specs.Tally.{times}
 use Rattle.std.proofs.lemmas.Grind.{common_steps}
-
-pub other_is : (x k : ℕ) → (x ≡ k → ⊥) → (x == k) ≡ false
-other_is x k h = grind (arith, common_steps, nat_tests)
-
-pub in_head : (k : ℕ) (ks : List ℕ) → is_in k (k ∷ ks) ≡ true
-in_head k ks = rw (same_is k k refl) refl
+use Rattle.krs_model.proofs.Sweep.HeldKeys.{other_is}
 
 pub in_tail : (q k : ℕ) (ks : List ℕ) → is_in q ks ≡ true → is_in q (k ∷ ks) ≡ true
 in_tail q k ks h = or_true (k == q) (is_in q ks) h
-
-pub in_rest : (q k : ℕ) (ks : List ℕ) → (q ≡ k → ⊥) → is_in q (k ∷ ks) ≡ true → is_in q ks ≡ true
-in_rest q k ks n h = subst (λ b. (b || is_in q ks) ≡ true) (other_is k q (λ s. n (sym s))) h
 
 pub times-cons : (k x : ℕ) (xs : List ℕ) → times k (x ∷ xs) ≡ cond (x == k) 1 0 + times k xs
 times-cons k x xs = sum_by-cons (λ q. cond (q == k) 1 0) x xs

@@ -1,9 +1,8 @@
-use Rattle.std.proofs.Common.{[], Option, subst, ℕ}
+use Rattle.std.proofs.Common.{[], arith, Option, subst, ℕ}
 use Rattle.krs_keys.specs.{Hashed.by_serial, Keys.shown}
 use Rattle.krs_hold.specs.Chain.{IsChained}
 use Rattle.krs_hold.proofs.{Anchoring.{keeps_anchored, spares_all, spares_on}, Exact.counted_from, WatchedKeys.goes_on}
 use Rattle.krs_hold.proofs.cascade.sweep.Goals as goal
-use Rattle.std.proofs.Common.{arith}
 use Rattle.std.proofs.lemmas.Grind.{common_steps}
 
 pub dropping-init : goal.dropping-init

@@ -1,7 +1,6 @@
-use Rattle.std.proofs.Common.{cond}
+use Rattle.std.proofs.Common.{arith, cond}
 use Rattle.krs_keys.proofs.HashedLemmas.{at_by_serial, by_serial_absent, by_serial_written}
 use Rattle.krs_hold.proofs.counts.let_go.Goals as goal
-use Rattle.std.proofs.Common.{arith}
 use Rattle.std.proofs.lemmas.Grind.{common_steps}
 
 pub returns-in-Some-clause-counts : goal.returns-in-Some-clause-counts

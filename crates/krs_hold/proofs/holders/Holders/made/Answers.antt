@@ -1,10 +1,9 @@
-use Rattle.std.proofs.Common.{◌∙◌, ap, is_some, sym}
+use Rattle.std.proofs.Common.{◌∙◌, ap, arith, is_some, sym}
 use Rattle.krs_keys.specs.Hashed.{by_serial}
 use Rattle.krs_keys.proofs.HashedLemmas.{at_by_serial, by_serial_put}
 use Rattle.krs_hold.specs.Tally.{with_number}
 use Rattle.krs_hold.proofs.Numbers.{chain_made, no_number, number_made, number_stays}
 use Rattle.krs_hold.proofs.holders.Holders.made.Goals as goal
-use Rattle.std.proofs.Common.{arith}
 use Rattle.std.proofs.lemmas.Grind.{common_steps}
 
 pub returns-then-contains_key-clause-ok : goal.returns-then-contains_key-clause-ok

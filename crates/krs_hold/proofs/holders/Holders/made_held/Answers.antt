@@ -1,8 +1,7 @@
-use Rattle.std.proofs.Common.{is_some}
+use Rattle.std.proofs.Common.{arith, is_some}
 use Rattle.krs_keys.proofs.HashedLemmas.{at_by_serial, by_serial_put}
 use Rattle.krs_hold.proofs.Numbers.{chain_held, number_held, number_there}
 use Rattle.krs_hold.proofs.holders.Holders.made_held.Goals as goal
-use Rattle.std.proofs.Common.{arith}
 use Rattle.std.proofs.lemmas.Grind.{common_steps}
 
 pub hold_again-requires : goal.hold_again-requires
