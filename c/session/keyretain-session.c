@@ -32,6 +32,7 @@ static const char help[] =
 
 static struct kr_where where; /* the daemon is */
 static const char *session_name; /* NULL: none was given */
+static char *variables[VARIABLES_MAX + 1]; /* what --env says: VARIABLE=KEY */
 
 /* Why a session can't have the name that was given; NULL where it can. */
 static const char *name_fault(void) {
@@ -50,6 +51,8 @@ static const char *advice(int status, int error, const char *what) {
     if (status == REFUSED && error == EKEYREVOKED)
         return "the daemon was started anew, nothing holds it, or it is another user's: begin one by keyretain-session "
                "or a new login";
+    if (status == REFUSED && error == ENOKEY && *variables)
+        return "the session reaches no such key of yours: keyctl show tells which it has";
     bool is_lost = status == NO_CONNECTION && (is_socket || error == ETIMEDOUT || error == ECONNRESET);
     return is_lost || error == EDQUOT ? kr_advise(&where, error) : NULL;
 }
@@ -72,9 +75,6 @@ static void refuse_words(const char *why, const char *word) {
     fprintf(stderr, "%skeyretain-session: %s: %s\n", usage, why, word ? word : "none is given");
     exit(USAGE);
 }
-
-/* What --env says: VARIABLE=KEY. */
-static char *variables[VARIABLES_MAX + 1];
 
 /* VARIABLE is a name of the shell's, and KEY a serial or `%user:DESCRIPTION`. */
 static bool is_variable(const char *word) {
@@ -110,10 +110,15 @@ static enum way read_way(char ***arguments) {
 static char **read_arguments(char **arguments, const char **name, enum way *way) {
     *way = read_way(&arguments);
     *name = NULL;
+    if (*way != BY_LIBRARY && *arguments && strcmp(*arguments, "--env") == 0)
+        refuse_words(*way == JOINING ? "--env stands before --join" : "--env is not for --syscalls", arguments[1]);
     if (*way != JOINING && *arguments && strcmp(*arguments, "--") != 0) *name = *arguments++;
     if (*name && (**name == '-' || **name == '\0')) refuse_words("no option, and no name of a session", *name);
     if (!*arguments) return NULL;
-    if (strcmp(*arguments, "--") != 0) refuse_words("-- is missing before the command", *arguments);
+    if (strcmp(*arguments, "--") != 0)
+        refuse_words(*way == JOINING ? "--join takes no name, and a command stands behind --"
+                                     : "-- is missing before the command",
+                     *arguments);
     if (!arguments[1]) refuse_words("a command stands behind --", NULL);
     return arguments + 1;
 }

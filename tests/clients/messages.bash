@@ -42,6 +42,8 @@ try_completion() {
 try_words_of_programs() {
   says 'a command without --' 2 '-- is missing before the command: -l' in_session ls -l
   says 'a word that is no option' 2 'no option, and no name of a session: -c' in_session -c true
+  says 'a name to join' 2 '--join takes no name, and a command stands behind --: work' in_session --join work
+  says '--env behind --join' 2 '--env stands before --join: A=5' in_session --join --env A=5 -- true
   says 'no command' 2 'a command stands behind --' in_session work --
   says 'a value is missing' 2 'a value of one line must follow: --name' "$dir/c/keyretain-keeper" --name
   says 'a patience' 2 '--patience is 1 to 999999: ten' "$dir/c/keyretain-keeper" --patience ten
@@ -82,6 +84,7 @@ try_variables() {
   is 'variables of keys' 's3 s3 4' "$(in_session work -- sh -c '
     keyctl add user token s3 @s >/dev/null; key=$(keyctl add user plain "s3 4" @s)
     exec "$0" --env "A=%user:token" --env "B=$key" --join -- sh -c "echo \$A \$B"' "$dir/c/keyretain-session")"
+  says 'no such key, and what to do' 1 'keyctl show tells which it has' in_session --env TOKEN=%user:none -- true
   says 'no such key' 1 'none: Required key not available' in_session --env TOKEN=%user:none -- true
   # shellcheck disable=SC2016 # the command's own
   says 'a null byte' 1 'null: Invalid argument' in_session -- sh -c 'printf "a\\0b" | keyctl padd user null @s >&2
@@ -99,6 +102,7 @@ try_variables() {
   done
   says '--env alone' 2 '--env is VARIABLE=' in_session --env
   says 'with --syscalls' 2 'not for --syscalls' in_session --env TOKEN=5 --syscalls -- true
+  says 'behind --syscalls' 2 'not for --syscalls: TOKEN=5' in_session --syscalls --env TOKEN=5 -- true
 }
 
 try_messages() {
