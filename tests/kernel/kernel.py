@@ -15,7 +15,7 @@ import sys
 import traceback
 from typing import NamedTuple
 
-from compare import check, conclude
+from compare import check, conclude, skipped
 import coverage
 import play
 import rules
@@ -24,7 +24,8 @@ import sides
 from sides import Lost
 import traces as traces_of
 
-PACES = 1, 2, 5
+PACES = 1, 3, 10
+OF_NO_SESSION = {"U16"}  # rules that don't show under a session: what takes its place names a user keyring
 
 
 class Ran(NamedTuple):
@@ -224,6 +225,10 @@ def print_steps(given, lines):
 def probe(given, name):
     """A probe must show its rule, in its last lines, and nothing else."""
     it, seen = begin(given), collections.Counter()
+    if it.kernel.inherits and name in OF_NO_SESSION:
+        skipped(f"the probe of {name}: a session from above is handed on")
+        it.end()
+        return None
     try:
         for line in rules.RULES[name].probe.split("; "):
             step(it, line, seen, collections.Counter())
