@@ -267,7 +267,8 @@ def read_words():
 def main():
     given = read_words()
     globals()[given.what](given)
-    conclude()
+    if given.what in ("seeds", "probes"):
+        conclude()
 
 
 if __name__ == "__main__":

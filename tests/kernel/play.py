@@ -9,7 +9,6 @@ from world import Key, World
 EPOCH = 1_000_000  # the moment here at which scripts begin
 TICK = 0.012  # seconds, the most by which the kernel's count of seconds is late
 SETTLED = 8  # times that the kernel is waited for, at least
-READING = {"print", "rdescribe", "search", "request", "id"}
 
 
 class Late(Exception):

@@ -4,7 +4,6 @@ from typing import Callable, NamedTuple
 from scripts import EMPTY, OF_SESSION
 from world import SEARCH, TYPES, Key
 
-FAULTS = {"ENOKEY", "EKEYREVOKED", "EKEYEXPIRED", "EACCES"}
 # Where a word that is -1, -2 or -3 may make a keyring: in Linux, and here.
 MAKING = {"add": (3,), "newring": (1,), "link": (0, 1), "move": (0, 2), "clear": (0,), "chown": (0,), "chgrp": (0,),
           "setperm": (0,), "timeout": (0,), "search": (3,), "request": (2,), "id": (0,)}
