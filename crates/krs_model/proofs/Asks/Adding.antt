@@ -4,7 +4,7 @@ use Rattle.std.proofs.Common.{IsSome, List, nat_lt, None, not, Ok, Option, refl,
 use Rattle.std.proofs.{Common.{true≢false, ℕ, ℤ}, lemmas.Bool.Decides.nat_tests}
 use Rattle.krs_types.specs.declared.ask.{Answer.{Answer, TheVariants.{Bytes, Nothing, Number}}, Op.Op}
 use Rattle.krs_types.specs.declared.{ask.Op.TheVariants.Add, context.Context.Context, errno.Errno.Errno}
-use Rattle.krs_types.specs.declared.{errno.Errno.TheVariants.{EACCES, ENOSPC}, kind.DescRule.DescRule}
+use Rattle.krs_types.specs.declared.{errno.Errno.TheVariants.{ENOSPC}, kind.DescRule.DescRule}
 use Rattle.krs_types.specs.declared.kind.{DescRule.TheVariants.{AnyText, WithoutDot, WithService}, Kind.Kind}
 use Rattle.krs_types.specs.{declared.{name.Name.Name, rights.Want.TheVariants.Granted}, Kind.{checked, described_by}}
 use Rattle.krs_types.specs.{Kind.paid, Rights.{has_all, WRITE}}
@@ -24,7 +24,7 @@ use Rattle.krs_model.proofs.Asks.{Later.{same_ok, with_new_comes}, LaterByAsk.ma
 use Rattle.krs_model.proofs.Asks.NewSerials.{IsWithin, place_is, same_counts, small_there}
 use Rattle.krs_model.proofs.Asks.NotedKeys.{about_link_small, about_small, IsThere, there_ends}
 use Rattle.krs_model.proofs.Asks.{Outcomes.{meets_after, meets_ok}, Plain.{IsPlain, plain, plain_ok, plains}}
-use Rattle.krs_model.proofs.{Hiding.Adding.{add_blind, IsHidden}, Isolation.Attachments.same_unattached}
+use Rattle.krs_model.proofs.{Hiding.Adding.{add_blind, IsHidden}}
 use Rattle.krs_model.proofs.Isolation.Guarded.{changed_guarded, Guarded, lessens_keeps, next_apart}
 use Rattle.krs_model.proofs.Isolation.{Keys.{changed_enclosed, no_rights, not_found}, Links.{IsOther, later_made}}
 use Rattle.krs_model.proofs.Isolation.{Links.{made_alone, new_enclosed, other_made}, Untouched.{AreSame, made_same}}
@@ -37,6 +37,7 @@ use Rattle.krs_model.proofs.Sound.{KeyChanges.updated_lessens, Links.named_same,
 use Rattle.krs_model.proofs.Sound.NewContexts.{made_for_stands, own_process_there, some_there}
 use Rattle.krs_model.proofs.Tables.Changes.{at_put_same}
 use Rattle.krs_types.specs.declared.note.KeyEvent.TheVariants as told_of
+use Rattle.std.proofs.lemmas.Grind.{common_steps}
 
 -- the key comes first, then its link
 made_comes : (s : State) (ring : ℕ) (name : Name) (key : Key) → Comes s (made s ring name key)
@@ -194,17 +195,7 @@ added_guarded :
 added_guarded uid private P s c name payload (Updated serial) alone =
     search (changed_guarded, lessens_keeps, updated_lessens) depth 8
 added_guarded uid private P s c name payload (Made ring) alone =
-    grind (
-      arith,
-      nat_tests,
-      next_apart,
-      in_linked_content,
-      later_made,
-      changed_enclosed,
-      new_enclosed,
-      no_links,
-      same_unattached,
-    )
+    grind (arith, nat_tests, next_apart, in_linked_content, later_made, changed_enclosed, new_enclosed, no_links)
 
 -- no room is an updated key
 room_makes :
@@ -230,20 +221,7 @@ match_writes :
     (s : State) (c : Context) (ring : ℕ × Key) (f : ℕ) (links : List ℕ) (found : ℕ) (o : Option Key)
     → at s.keys found ≡ o → over_match s c ring links found o ≡ Ok (Updated f) → Writes s c f
 match_writes s c ring f links found None is h = absurd (room_makes s ring f links None h)
-match_writes s c ring f links found (Some key) is h =
-    let grants = has_all (rights_on key c.caller (possessed s c found)) WRITE in
-    let alive = is_alive s.clock key && is_updatable key.kind in
-    elim alive as (λ b. alive ≡ b → cond b
-    (cond grants (Ok (Updated found)) (Err EACCES)) (if_room s ring links (Some found)) ≡ Ok (Updated f)
-    → Writes s c f) [
-      | true ↦ λ a e. elim grants as (λ b. grants ≡ b → cond b (Ok (Updated found)) (Err EACCES) ≡ Ok (Updated f)
-          → Writes s c f) [
-            | true ↦ λ t d. let same : found ≡ f = cc in
-                subst (Writes s c) same (alive_writes s c found key is a t)
-            | false ↦ λ t d. cc
-          ] refl e
-      | false ↦ λ a e. absurd (room_makes s ring f links (Some found) e)
-    ] refl h
+match_writes s c ring f links found (Some key) is h = grind (arith, common_steps, alive_writes, room_makes)
 
 by_match_writes :
     (s : State) (c : Context) (ring : ℕ × Key) (f : ℕ) (links : List ℕ) (found : Option ℕ)
@@ -265,9 +243,7 @@ pub place_found :
     → (found : ℕ × Key) × (look_up s c id (Granted WRITE) ≡ Ok found) × (r ≡ found.0)
 unfolding place_of
 place_found s c name id r h =
-    let a = bind_ok (look_up s c id (Granted WRITE)) _ (Made r) h in
-    let b = bind_ok (ring_links a.0.1.content) _ (Made r) a.2 in
-    (a.0, a.1, in_by_match s c a.0 r b.0 (link_named s.keys name b.0) b.2)
+    let a = bind_ok (look_up s c id (Granted WRITE)) _ (Made r) h in grind (arith, common_steps, bind_ok, in_by_match)
 
 added_same :
     (uid : ℕ) (private : ℕ → Bool) (s : State) (c : Context) (name : Name) (payload : List ℕ) (id : ℤ) (place : Place)
@@ -300,8 +276,7 @@ add_law s client context type_name desc payload ring = record {
       let meant = add s client context type_name desc payload ring in
       let other = hidden_added hide meant payload in
       let hidden : (done : State × Answer) → meant ≡ Ok done → IsHidden hide payload other done =
-      λ done is serial number. ap (λ (r : Outcome). hidden_added hide r payload) is
-      ∙ ap (λ (answer : Answer). hide (serial_in answer) payload) number in
+      grind (arith, common_steps) in
       add_blind hide s client context type_name desc payload other ring
       (λ kind. added_fits hide meant payload kind hides) hidden;
   fares =

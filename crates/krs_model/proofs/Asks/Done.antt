@@ -1,5 +1,5 @@
 -- What an accepted ask has done: an ask of keys leaves queues and watches, and the asks of queues leave the rest.
-use Rattle.std.proofs.Common.{[], ◌∷◌, ◌≡◌, ◌≤◌, arith, Bool, false, IsSome, List, None, Ok, Option, Some, subst}
+use Rattle.std.proofs.Common.{[], ◌∷◌, ◌≡◌, ◌≤◌, arith, Bool, false, IsSome, List, None, Ok, Option, Some}
 use Rattle.std.proofs.{Common.{true, ℕ, ℤ}, lemmas.Bool.Decides.nat_tests}
 use Rattle.krs_types.specs.declared.ask.{Answer.{Answer, TheVariants.{Bytes, Nothing, Number}}, Op.Op}
 use Rattle.krs_types.specs.declared.ask.Op.TheVariants.{CloseQueue, Leave, OpenQueue, ReadQueue, SetFilter, Watch}
@@ -11,6 +11,7 @@ use Rattle.krs_model.specs.{Notes.{Telling.{ended_by, named}, Waiting.is_capacit
 use Rattle.krs_model.specs.{Queues.{Queues, queues_of, watch_at, with_queues, with_watch, without_watch}, State.Queue}
 use Rattle.krs_model.specs.{State.State, Table.{alter, at, Table}}
 use Rattle.krs_model.proofs.{Asks.Later.{bind_ok, Comes, same_ok}, Lookups.Serials.refused_is}
+use Rattle.std.proofs.lemmas.Grind.{common_steps}
 
 -- the queues with these in their place
 abbrev pub with_table : State → Table Queue → State
@@ -92,5 +93,4 @@ end_of new answer = (new, answer)
 pub ends_as :
     (s : State) (client context : ℕ) (op : Op) (mid new : State) (told answer : Answer)
     → Effect s client context op mid told → end_of mid told ≡ end_of new answer → Effect s client context op new answer
-ends_as s client context op mid new told answer effect same =
-    subst (λ (x : State × Answer). Effect s client context op x.0 x.1) same effect
+ends_as s client context op mid new told answer effect same = grind (arith, common_steps)

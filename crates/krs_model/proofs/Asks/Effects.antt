@@ -1,5 +1,5 @@
 -- What an accepted ask has done.
-use Rattle.std.proofs.Common.{◌≡◌, Ok, refl, ℕ}
+use Rattle.std.proofs.Common.{◌≡◌, arith, Ok, refl, ℕ}
 use Rattle.krs_types.specs.declared.ask.Answer.{Answer, TheVariants.Nothing}
 use Rattle.krs_types.specs.declared.ask.Op.{Op, TheVariants.{CloseQueue, Leave, OpenQueue, ReadQueue, SetFilter, Watch}}
 use Rattle.krs_model.specs.{Asks.Leaving.left, State.State, Step.outcome_of}
@@ -9,13 +9,13 @@ use Rattle.krs_model.proofs.Asks.Done.{ends_as}
 use Rattle.krs_model.proofs.Asks.Later.{same_ok}
 use Rattle.krs_model.proofs.Asks.Laws.{law_of}
 use Rattle.krs_model.proofs.Asks.Watching.{watches, opens, filters, reads, closes}
+use Rattle.std.proofs.lemmas.Grind.{common_steps}
 
 -- what an ask has done that was accepted
 pub effect_of :
     (s : State) (client context : ℕ) (op : Op) (new : State) (answer : Answer)
     → outcome_of s client context op ≡ Ok (new, answer) → Effect s client context op new answer
-effect_of s client context (Watch id queue watch_id) new answer h =
-    watches s client context id watch_id queue new answer h
+effect_of s client context (Watch id queue watch_id) new answer h = grind (arith, common_steps, watches)
 effect_of s client context (OpenQueue capacity) new answer h = opens s client context capacity new answer h
 effect_of s client context (SetFilter queue entries) new answer h = filters s client context queue entries new answer h
 effect_of s client context (ReadQueue queue room) new answer h = reads s client context queue room new answer h

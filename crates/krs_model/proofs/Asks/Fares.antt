@@ -1,5 +1,5 @@
 -- What becomes of a store by an accepted ask.
-use Rattle.std.proofs.Common.{◌∙◌, ◌≡◌, arith, Bool, cond, false, inl, Ok, Option, refl, Result, Some, subst, sym}
+use Rattle.std.proofs.Common.{◌∙◌, ◌≡◌, arith, Bool, cond, false, inl, Ok, Option, refl, Result, Some, sym}
 use Rattle.std.proofs.{Common.{true, true≢false, ℕ, ℤ}, lemmas.Bool.Decides.nat_tests}
 use Rattle.krs_types.specs.declared.{ask.Op.Op, context.{Context.Context, UidRings.UidRings}, errno.Errno.Errno}
 use Rattle.krs_types.specs.declared.{errno.Errno.TheVariants.ENOKEY, rights.Want.{Want, TheVariants.Granted}}
@@ -19,6 +19,7 @@ use Rattle.krs_model.proofs.Isolation.Untouched.{linked_same, made_same, not_int
 use Rattle.krs_model.proofs.{Lookups.Serials.refused_is, Sound.Changes.{changed_stands, Lessens, same_stands, Stands}}
 use Rattle.krs_model.proofs.Sound.{KeyChanges.{leaves, unlinked_lessens, updated_lessens}, Links.linkable_is}
 use Rattle.krs_model.proofs.Sound.{Links.linked_into_stands, NewContexts.made_for_stands}
+use Rattle.std.proofs.lemmas.Grind.{common_steps}
 
 -- what an accepted ask leaves before the sweep
 pub record Fares (s : State) (client context : ℕ) (op : Op) (new : State) : Type 0 where
@@ -147,8 +148,7 @@ found_fares s client context op c id into answer own goes gives =
     meets_after (if_linkable made.0 made.1 serial key) _ (λ found same.
     meets_after (linked_into made.0 into found) _ (λ new linked.
     let key_there = refused_is (at made.0.keys serial) ENOKEY key is in
-    let there : at made.0.keys found.0 ≡ Some found.1 = subst (λ (x : ℕ × Key). at made.0.keys x.0 ≡ Some x.1)
-    (linkable_is made.0 made.1 serial key found same) key_there in
+    let there : at made.0.keys found.0 ≡ Some found.1 = grind (arith, common_steps, linkable_is) in
     meets_ok (linked_fares s client context op c id into found new own goes there linked
     (λ uid private stands alone holds m.
     other_linkable uid private made.0 made.1 serial key found (made_alone uid private s context c id alone)

@@ -20,6 +20,7 @@ use Rattle.krs_model.proofs.{Isolation.Links.other_made, Lookups.{Laws.look_up_u
 use Rattle.krs_model.proofs.{Lookups.Serials.refused_is, MadeKeyring.Which.made_still, Sound.Changes.Lessens}
 use Rattle.krs_model.proofs.{Sound.{Changes.there_alter, Contents.form_stays}, Tables.Counts.{IsPart, none_part}}
 use Rattle.krs_types.specs.declared.note.KeyEvent.TheVariants as told_of
+use Rattle.std.proofs.lemmas.Grind.{common_steps}
 
 -- the key that LINK links, and the one that UNLINK takes out
 link_there :
@@ -73,8 +74,7 @@ cleared_blind h (Links serials) = refl
 other_found :
     (uid : ℕ) (private : ℕ → Bool) (s : State) (c : Context) (id : ℤ) (found : ℕ × Key) → HasToItself uid private s
     → IsOther uid private s c → look_up s c id (Granted LINK) ≡ Ok found → private found.0 ≡ true → ⊥
-other_found uid private s c id found alone other is m =
-    not_found uid private s c id (Granted LINK) found alone.enclosed other.none other.apart refl is m
+other_found uid private s c id found alone other is m = grind (arith, common_steps, not_found)
 
 pub link_law : (s : State) (client context : ℕ) (key ring : ℤ) → IsLawful s client context (Link key ring)
 unfolding link

@@ -22,7 +22,7 @@ use Rattle.krs_model.proofs.Isolation.Untouched.{linked_same, made_same, not_int
 use Rattle.krs_model.proofs.{Lookups.{Laws.look_up_usable, Serials.found_serial}, Notes.Fitting.AllSmall}
 use Rattle.krs_model.proofs.Sound.{Changes.{changed_stands, Stands}, KeyChanges.unlinked_lessens}
 use Rattle.krs_model.proofs.Sound.{Links.linked_into_stands, NewContexts.{made_for_stands, made_for_there}}
-use Rattle.krs_types.specs.declared.note.KeyEvent.TheVariants as told_of
+use Rattle.std.proofs.lemmas.Grind.{common_steps}
 
 is_moved_comes :
     (s : State) (found from into : ℕ × Key) (new : State) → IsMoved s found from into new → Comes s new
@@ -41,8 +41,7 @@ moved_houses :
     (s t : State) (client context : ℕ) (op : Op) (found from into : ℕ × Key) (new : State)
     → IsMoved t found from into new → HousesIn s client context op t → HousesIn s client context op new
 moved_houses s t client context op found from into _ Stays h = h
-moved_houses s t client context op found from into _ (Moves mid linked) h =
-    linked_houses s t client context op into found mid linked h
+moved_houses s t client context op found from into _ (Moves mid linked) h = grind (arith, common_steps, linked_houses)
 
 -- an accepted move links as LINK does, and takes a link out
 is_moved_stands :
@@ -104,8 +103,7 @@ move_fares s client context key from to flags =
       comes = λ other. comes_trans s made.0 new (made_for_comes s context c to)
           (is_moved_comes made.0 found first into new is_moved);
       counts = λ placed. within;
-      houses = moved_houses s made.0 client context (Move key from to flags) found first into new is_moved
-          (made_houses s client context (Move key from to flags) c to own);
+      houses = grind (arith, common_steps, moved_houses, made_houses);
       stands = λ stands.
           let there = made_for_there s context c to found.0 found.1 stands.unused
           (look_up_usable s c key (Granted LINK) found is).there in

@@ -1,5 +1,5 @@
 -- The keys that the notes of an accepted ask name are there.
-use Rattle.std.proofs.Common.{◌<◌, ◌^◌, ◌∙◌, ◌≡◌, ◌≤◌, ◌⊎◌, ap, arith, Bool, cond, Err, false, inl, inr, is_some}
+use Rattle.std.proofs.Common.{◌<◌, ◌^◌, ◌∙◌, ◌≡◌, ◌≤◌, ◌⊎◌, arith, Bool, cond, Err, false, inl, inr, is_some}
 use Rattle.std.proofs.{Common.{IsSome, List, nat_lt, Ok, refl, Result, subst, sym, true, ℕ, ℤ}, lemmas.Bool.cases_lt}
 use Rattle.std.proofs.lemmas.Bool.Decides.{nat_tests}
 use Rattle.krs_types.specs.declared.ask.Answer.{Answer, TheVariants.{Bytes, Nothing, Number}}
@@ -13,7 +13,7 @@ use Rattle.krs_model.proofs.Asks.{Later.{bind_ok, same_ok}, LaterByAsk.{linked_i
 use Rattle.krs_model.proofs.{Asks.NewSerials.{place_is, small_there}, Lookups.Serials.{own_there, refused_is}}
 use Rattle.krs_model.proofs.MadeKeyring.{Links.place_of_new, State.{HasMadeFor, made_for_has, MadeNone, MadeOne}}
 use Rattle.krs_model.proofs.{Notes.Fitting.AllSmall, Sound.{Changes.there_alter, NewContexts.own_process_there}}
-use Rattle.krs_types.specs.declared.note.KeyEvent.TheVariants as told_of
+use Rattle.std.proofs.lemmas.Grind.{common_steps}
 
 pub about_small : (event : KeyEvent) (key : Result ℕ Errno) → AllSmall (about event key)
 about_small event (Err e) = tt
@@ -61,8 +61,7 @@ added_is s c name id (Updated k) made has le h = inl (updated_there s c name id 
 added_is s c name id (Made ring) made has le h = inr le
 
 same_answer : (s t : State) (j k : ℕ) → told_by s j ≡ told_by t k → j ≡ k
-same_answer s t j k h =
-    same_key j k (ap (λ (x : State × Answer). x.1) (same_ok (told_by s j) (s, told j) (t, told k) refl h))
+same_answer s t j k h = grind (arith, common_steps, same_key, same_ok)
 
 -- the key that ADD answers
 pub add_serial :

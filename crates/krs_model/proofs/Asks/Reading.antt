@@ -6,7 +6,7 @@ use Rattle.krs_types.specs.declared.kind.Told.TheVariants.{ItsLinks, ItsPayload,
 use Rattle.krs_types.specs.{declared.rights.Want.TheVariants.{Granted, ToRead}, Kind.row_of, Refusing.◌>>=◌}
 use Rattle.krs_types.specs.Rights.{VIEW}
 use Rattle.krs_model.specs.{Asks.Reading.{describe, read, readable, told_as}, Hiding.{blind, blind_answer}}
-use Rattle.krs_model.specs.{Hiding.{blind_content, Hiding, over, told, told_at, told_by, told_of}, Lookup.context_of}
+use Rattle.krs_model.specs.{Hiding.{blind_content, Hiding, over, told_at, told_by, told_of}, Lookup.context_of}
 use Rattle.krs_model.specs.{Lookup.look_up, Notes.Telling.named, Search.found, State.{Content, Key, Links, Payload}}
 use Rattle.krs_model.specs.State.{State}
 use Rattle.krs_model.proofs.Asks.{Fares.fares, Lawful.IsLawful, Plain.{IsPlain, plain_err, plain_ok, plains}}

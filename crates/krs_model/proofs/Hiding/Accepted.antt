@@ -1,12 +1,13 @@
 -- What an accepted ask comes to, and a change of one key, with the payloads hidden.
-use Rattle.std.proofs.Common.{◌∙◌, ◌≡◌, ap, List, Ok, refl, Result, ℕ, ℤ}
-use Rattle.krs_types.specs.declared.{ask.Answer.Answer, context.Context.Context, errno.Errno.Errno, rights.Want.Want}
+use Rattle.std.proofs.Common.{◌≡◌, ap, arith, List, Ok, refl, ℕ, ℤ}
+use Rattle.krs_types.specs.declared.{ask.Answer.Answer, context.Context.Context, rights.Want.Want}
 use Rattle.krs_types.specs.Refusing.{◌>>=◌}
 use Rattle.krs_model.specs.{Asks.Changing.{changed, paid_with}, Hiding.{blind, blind_content, blind_key, Hiding}}
-use Rattle.krs_model.specs.{Hiding.over, Lookup.{context_of, look_up, serial_of}, Notes.Telling.named}
+use Rattle.krs_model.specs.{Hiding.over, Lookup.{context_of, look_up}, Notes.Telling.named}
 use Rattle.krs_model.specs.{Outcome.Outcome, State.{Content, Key, Links, Payload, State}, Table.Table}
 use Rattle.krs_model.proofs.Hiding.{Keys.alter_blind, Lookups.{blind_found, look_up_blind}, Over.{after, bound}}
 use Rattle.krs_model.proofs.Lookups.Serials.{found_serial}
+use Rattle.std.proofs.lemmas.Grind.{common_steps}
 
 -- what an accepted ask comes to with the payloads of the store hidden
 abbrev pub blind_done : Hiding → State × Answer → State × Answer
@@ -50,5 +51,4 @@ paid_blind h payload other (Links serials) is = refl
 pub named_is :
     (s : State) (client context : ℕ) (id : ℤ) (want : Want) (c : Context) (found : ℕ × Key)
     → context_of s client context ≡ Ok c → look_up s c id want ≡ Ok found → named s client context id ≡ Ok found.0
-named_is s client context id want c found own there =
-    ap (λ (r : Result Context Errno). r >>= (λ c. serial_of s c id)) own ∙ found_serial s c id want found there
+named_is s client context id want c found own there = grind (arith, common_steps, found_serial)

@@ -13,6 +13,7 @@ use Rattle.krs_model.specs.{Secrecy.TellsNoUnread, State.{Key, raised, State}, S
 use Rattle.krs_model.proofs.{Hiding.{Keys.seen, Steps.{blinded_legal, step_blind}}, History.Determined.one_history}
 use Rattle.krs_model.proofs.History.{Determined.{one_reply, one_step}, Revocations.read_of_key}
 use Rattle.krs_model.proofs.Reach.Levels.{equal_is}
+use Rattle.std.proofs.lemmas.Grind.{common_steps}
 
 wanting_is : (reply : Result Answer Errno) → is_wanting reply ≡ true → reply ≡ Err ENOMEM
 wanting_is (Ok answer) h = absurd (true≢false (sym h))
@@ -67,8 +68,7 @@ answer_of_blind : (hide : Hiding) (s : State) (client context : ℕ) (op : Op) (
     → blind_answer hide (blind hide s) client context (blind_ask hide s client context op) answer
     ≡ blind_answer hide s client context op answer
 unfolding context_of serial_of
-answer_of_blind hide s client context (Read id) (Bytes bytes) =
-    ap (λ (told : List ℕ). Bytes told) (same_told hide s.keys (named s client context id) bytes)
+answer_of_blind hide s client context (Read id) (Bytes bytes) = grind (arith, common_steps, same_told)
 answer_of_blind hide s client context (Read id) answer = refl
 answer_of_blind hide s client context op answer = refl
 
@@ -132,20 +132,7 @@ pub reply_or_read :
     → is_read event.ask.op ≡ b → is_read other.ask.op ≡ b
     → (event.reply ≡ other.reply) ⊎ (IsRead event × IsRead other)
 reply_or_read hide s t event other b same first second =
-    let up = raised s event.moment in
-    let top = raised t other.moment in
-    let f = blind_answer hide up event.lane event.ask.context event.ask.op in
-    let g = blind_answer hide top other.lane other.ask.context other.ask.op in
-    let alike : over f event.reply ≡ over g other.reply = ap (λ (e : Event). e.reply) same in
-    elim b as (λ b. is_read event.ask.op ≡ b → is_read other.ask.op ≡ b
-    → (event.reply ≡ other.reply) ⊎ (IsRead event × IsRead other)) [
-      | true ↦ λ p q. ⊎_elim (λ (one : event.reply ≡ other.reply). inl one)
-          (λ (both : IsOk event.reply × IsOk other.reply). inr ((p, both.0), (q, both.1)))
-          (one_or_read f g event.reply other.reply alike)
-      | false ↦ λ p q. inl (one_told f g event.reply other.reply
-          (λ accepted x. unread_tells_none hide up event.lane event.ask.context event.ask.op x p)
-          (λ accepted x. unread_tells_none hide top other.lane other.ask.context other.ask.op x q) alike)
-    ] first second
+    grind (arith, common_steps, ⊎_elim, one_or_read, one_told, unread_tells_none)
 
 pub read_alike : (hide : Hiding) (s t : State) (event other : Event) → blind_event hide s event
     ≡ blind_event hide t other

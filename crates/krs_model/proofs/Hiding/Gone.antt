@@ -1,5 +1,5 @@
 -- The payload of a key that is gone is told to nobody.
-use Rattle.std.proofs.Common.{[], ◌++◌, ◌∙◌, ◌∷◌, ◌≡◌, ap, List, None, Option, refl, Some, subst, sym, true, ℕ}
+use Rattle.std.proofs.Common.{[], ◌++◌, ◌∙◌, ◌∷◌, ◌≡◌, ap, arith, List, None, Option, refl, Some, subst, sym, true, ℕ}
 use native.Mathlib.Decide.{ℕ_discrete}
 use Rattle.krs_types.specs.declared.{ask.Op.TheVariants.{Read, Revoke}, event.Event.Event}
 use Rattle.krs_model.specs.{Hiding.{FurtherEvents, Hiding, IsBlinded, NoEvents}, History.IsLegal, Revocation.Revokes}
@@ -9,6 +9,7 @@ use Rattle.krs_model.proofs.{Hiding.Clients.tells_no_unread, History.Determined.
 use Rattle.krs_model.proofs.History.Revocations.{accepted_came, IsSpent, read_is_not_spent, revoke_spends}
 use Rattle.krs_model.proofs.History.Revocations.{spent_follows}
 use mathlib.Core.Logic.{dite}
+use Rattle.std.proofs.lemmas.Grind.{common_steps}
 
 gone_if : (o : Option Key) → ((key : Key) → o ≡ Some key → key.revoked ≡ true) → is_gone o ≡ true
 gone_if None gone = refl
@@ -50,8 +51,7 @@ legal_of hide _ _ _ _ (FurtherEvents s next end event events blinded step rest) 
 step_behind : (start old end : State) (before : List Event) (event : Event) (later : List Event)
     → IsLegal start before old → IsLegal start (before ++ event ∷ later) end → (next : State) × Step old event next
 unfolding IsLegal
-step_behind start old end [] event later front whole =
-    (whole.0, subst (λ (s : State). Step s event whole.0) front whole.1)
+step_behind start old end [] event later front whole = grind (arith, common_steps)
 step_behind start old end (x ∷ xs) event later front whole =
     let same : whole.0 ≡ front.0 =
     one_history start whole.0 front.0 (x ∷ []) (whole.0, whole.1, refl) (front.0, front.1, refl) in

@@ -14,6 +14,7 @@ use Rattle.krs_model.proofs.{Asks.{Later.{is_gone, same_state}, LaterByStep.swep
 use Rattle.krs_model.proofs.History.Revocations.{accepted_came, accepted_finds, Finds, given_serial, one_named}
 use Rattle.krs_model.proofs.{Reach.Levels.in_one, Sound.Attached.{attached_by, attachments, context_keys, uid_keys}}
 use Rattle.krs_model.proofs.Tables.Changes.{at_kept, at_map}
+use Rattle.std.proofs.lemmas.Grind.{common_steps}
 
 detached_out : (serial : ℕ) (o : Option ℕ) → is_in serial (option_to_list (detached serial o)) ≡ true → ⊥
 detached_out serial None h = true≢false (sym h)
@@ -28,8 +29,7 @@ none_attached {X = X} g f (e ∷ es) q never h = grind (arith, nat_tests, in_one
 
 both_out : (serial : ℕ) (a b : Option ℕ)
     → is_in serial (option_to_list (detached serial a) ++ option_to_list (detached serial b)) ≡ true → ⊥
-both_out serial a b h = ⊎_elim (detached_out serial a) (detached_out serial b)
-    (in_one serial (option_to_list (detached serial a)) (option_to_list (detached serial b)) h)
+both_out serial a b h = grind (arith, common_steps, ⊎_elim, detached_out, in_one, option_to_list)
 
 filtered_out : (serial : ℕ) (l : List ℕ) → is_in serial (filter (λ k. not (k == serial)) l) ≡ true → ⊥
 filtered_out serial [] h = true≢false (sym h)
@@ -47,10 +47,8 @@ no_link serial (Some key) h = unlinked_out serial key.content h
 not_held_by : (keys : Table Key) (attached : List ℕ) (k serial : ℕ) → k ≡ serial
     → (is_in serial attached ≡ true → ⊥) → ((j : ℕ) → is_in serial (links_of_key (at keys j)) ≡ true → ⊥)
     → IsHeld keys attached k → ⊥
-not_held_by keys attached _ serial same free alone (Attached k i) =
-    free (subst (λ (n : ℕ). is_in n attached ≡ true) same i)
-not_held_by keys attached _ serial same free alone (Linked j k held i) =
-    alone j (subst (λ (n : ℕ). is_in n (links_of_key (at keys j)) ≡ true) same i)
+not_held_by keys attached _ serial same free alone (Attached k i) = grind (arith, common_steps)
+not_held_by keys attached _ serial same free alone (Linked j k held i) = grind (arith, common_steps)
 
 not_held : (s : State) (serial : ℕ) → IsHeld (invalidated s serial).keys (roots (invalidated s serial)) serial → ⊥
 not_held s serial held =

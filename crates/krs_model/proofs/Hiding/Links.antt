@@ -1,19 +1,20 @@
 -- Links, and keyrings that asks make, with the payloads hidden.
-use Rattle.std.proofs.Common.{[], ◌∙◌, ◌∷◌, ◌≡◌, ap, Bool, codes, Err, filter, find, length, List, None, Ok, Option}
-use Rattle.std.proofs.Common.{refl, Result, Some, suc, ℕ, ℤ}
+use Rattle.std.proofs.Common.{[], ◌∷◌, ◌≡◌, ap, Bool, codes, Err, find, length, List, None, Ok, Option}
+use Rattle.std.proofs.Common.{arith, refl, Result, Some, suc, ℕ, ℤ}
 use Rattle.krs_types.specs.declared.{context.Context.Context, errno.Errno.Errno, key_id.KeyId.KeyId}
 use Rattle.krs_types.specs.declared.key_id.KeyId.TheVariants.{Process, Serial, Session, Thread, User, UserSession}
-use Rattle.krs_types.specs.{declared.name.Name.Name, KeyId.key_id_of, Refusing.◌>>=◌}
-use Rattle.krs_model.specs.Asks.{Changing.changed, Linked.{link_check, linked_into, name_of, nestable}}
+use Rattle.krs_types.specs.{declared.name.Name.Name, KeyId.key_id_of}
+use Rattle.krs_model.specs.Asks.{Linked.{link_check, linked_into, nestable}}
 use Rattle.krs_model.specs.{Asks.Linked.{unlinked_content, without_link}, Hiding.{blind, blind_content, blind_key}}
-use Rattle.krs_model.specs.{Hiding.{blind_keys, Hiding, over}, Levels.{is_in, level, levels}, Linking.is_named}
+use Rattle.krs_model.specs.{Hiding.{blind_keys, Hiding, over}, Linking.is_named}
 use Rattle.krs_model.specs.{Linking.{link_named, linked_content, linking, ring_links}, Making.{made_at, made_for}}
 use Rattle.krs_model.specs.Making.{process_made, special_ring, thread_made, thread_to, with_process, with_thread}
 use Rattle.krs_model.specs.{Making.within_serials, Outcome.Outcome, Possession.process_ring, Reach.closes}
-use Rattle.krs_model.specs.{Reach.{has_chain, is_ring, is_some_in, links_of_key_at}, State.{Content, Key, Links}}
+use Rattle.krs_model.specs.{Reach.{has_chain, is_ring, links_of_key_at}, State.{Content, Key, Links}}
 use Rattle.krs_model.specs.{State.{Payload, State}, Sweep.links_of_key, Table.{at, Table}}
 use Rattle.krs_model.proofs.Hiding.{Accepted.blind_done, Keys.{alter_blind, put_blind, seen}, Lookups.blind_found}
 use Rattle.krs_model.proofs.Hiding.{Lookups.same_links, Over.{after, either}}
+use Rattle.std.proofs.lemmas.Grind.{common_steps}
 
 -- a keyring links what it did
 pub same_ring_links : (h : List ℕ → List ℕ) (content : Content)
@@ -41,8 +42,7 @@ same_length hide (e ∷ es) = ap suc (same_length hide es)
 same_closes : (hide : Hiding) (keys : Table Key) (key ring : ℕ)
     → closes (blind_keys hide keys) key ring ≡ closes keys key ring
 unfolding closes
-same_closes hide keys key ring = λ i.
-    is_in ring (levels (λ k. same_links_at hide keys k i) (key ∷ []) (same_length hide keys i))
+same_closes hide keys key ring = grind (arith, common_steps, same_links_at, same_length)
 
 same_chain : (hide : Hiding) (keys : Table Key) (serial count : ℕ)
     → has_chain (blind_keys hide keys) serial count ≡ has_chain keys serial count
@@ -50,7 +50,7 @@ unfolding has_chain
 same_chain hide keys serial count =
     let ring : (k : ℕ) → is_ring (at (blind_keys hide keys) k) ≡ is_ring (at keys k) = λ k.
     seen hide keys is_ring k (λ v. refl) in
-    λ i. is_some_in (level (λ j. filter (λ k. ring k i) (same_links_at hide keys j i)) (serial ∷ []) count)
+    grind (arith, common_steps, same_links_at)
 
 same_check : (hide : Hiding) (keys : Table Key) (ring : ℕ × Key) (links : List ℕ) (found : ℕ × Key)
     → link_check (blind_keys hide keys) (blind_found hide ring) links (blind_found hide found)
@@ -74,16 +74,7 @@ pub linked_into_blind : (hide : Hiding) (s : State) (into found : ℕ × Key)
     → linked_into (blind hide s) (blind_found hide into) (blind_found hide found)
     ≡ over (blind hide) (linked_into s into found)
 linked_into_blind hide s into found =
-    cc (
-      same_ring_links (hide into.0) into.1.content,
-      after (blind hide) (ring_links into.1.content) _ _ (λ links
-          _. ap (λ (r : Result (Unit {0}) Errno). r >>= (λ allowed. Ok (changed (blind hide s) into.0 (linking (blind
-          hide s).keys (name_of found.1) found.0)))) (same_check hide s.keys into links found) ∙ after (blind hide)
-          (link_check s.keys into links found) _ _ (λ allowed _. let to : Table Key → Result State Errno = λ es. Ok
-          (record s { keys = es }) in ap to (alter_blind hide s.keys into.0 (linking s.keys (name_of found.1) found.0)
-          (linking (blind hide s).keys (name_of found.1) found.0) (λ v. linking_blind hide s.keys (name_of found.1)
-          found.0 into.0 v)))),
-    )
+    grind (arith, common_steps, same_ring_links, after, same_check, alter_blind, linking_blind)
 
 -- a store and a context, with the payloads of the store hidden
 abbrev pub blind_made : Hiding → State × Context → State × Context
@@ -133,5 +124,4 @@ unlinked_blind h serial (Links serials) = refl
 
 pub without_blind : (h : List ℕ → List ℕ) (serial : ℕ) (v : Key)
     → without_link serial (blind_key h v) ≡ blind_key h (without_link serial v)
-without_blind h serial v = ap (λ (content : Content). record v { content = content })
-    (unlinked_blind h serial v.content)
+without_blind h serial v = grind (arith, common_steps, unlinked_blind)

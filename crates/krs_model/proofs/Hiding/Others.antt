@@ -9,14 +9,14 @@ use Rattle.krs_types.specs.Kind.{paid_by, row_of}
 use Rattle.krs_model.specs.{Asks.Adding.add, Hiding.{blind, blind_answer, blind_ask, blind_content, blind_event}}
 use Rattle.krs_model.specs.Hiding.{blind_key, blind_keys, blind_outcome, blind_reply, FurtherEvents, hidden_added}
 use Rattle.krs_model.specs.Hiding.{hidden_at, Hiding, hiding, IsBlinded, NoEvents, serial_in, told, told_at}
-use Rattle.krs_model.specs.{Lookup.{context_of, serial_of}, Notes.Telling.named, Outcome.Outcome, Secrecy.Changes}
+use Rattle.krs_model.specs.{Lookup.{context_of, serial_of}, Outcome.Outcome, Secrecy.Changes}
 use Rattle.krs_model.specs.{Secrecy.{HasOthers, putting}, State.{Content, Key, Links, Payload, raised, State}}
 use Rattle.krs_model.specs.Table.{Table}
 use Rattle.krs_model.proofs.Hiding.{Keys.at_blind, Outcomes.outcome_blind, Sets.{lawful, not_empty, taken}}
 use Rattle.krs_model.proofs.Hiding.Steps.{history_blinded, step_blind}
+use Rattle.std.proofs.lemmas.Grind.{common_steps}
 
 -- What is changed and then hidden is hidden as if it weren't changed.
-
 content_twice : (h c : List ℕ → List ℕ) → ((bytes : List ℕ) → h (c bytes) ≡ h bytes) → (content : Content)
     → blind_content h (blind_content c content) ≡ blind_content h content
 content_twice h c same (Payload bytes) = ap (λ (l : List ℕ). Payload l) (same bytes)
@@ -54,8 +54,7 @@ ask_twice hide change ch s client context (Add type_name desc payload ring) =
     ≡ blind_outcome change s client context (Add type_name desc payload ring) meant =
     outcome_blind change s client context (Add type_name desc payload ring) ch.lawful in
     rw (same, added_twice hide change ch s client context type_name desc payload ring meant)
-ask_twice hide change ch s client context (Update id payload) =
-    ap (λ (bytes : List ℕ). Update id bytes) (at_twice hide change ch (named s client context id) payload)
+ask_twice hide change ch s client context (Update id payload) = grind (arith, common_steps, at_twice)
 ask_twice hide change ch s client context op = refl
 
 key_told_twice : (hide change : Hiding) → Changes hide change → (n : ℕ) (o : Option Key) (bytes : List ℕ)
@@ -74,8 +73,7 @@ answer_twice : (hide change : Hiding) → Changes hide change → (s : State) (c
     → blind_answer hide (blind change s) client context (blind_ask change s client context op)
     (blind_answer change s client context op answer) ≡ blind_answer hide s client context op answer
 unfolding context_of serial_of
-answer_twice hide change ch s client context (Read id) (Bytes bytes) =
-    ap (λ (l : List ℕ). Bytes l) (told_twice hide change ch s.keys (named s client context id) bytes)
+answer_twice hide change ch s client context (Read id) (Bytes bytes) = grind (arith, common_steps, told_twice)
 answer_twice hide change ch s client context (Read id) answer = refl
 answer_twice hide change ch s client context op answer = refl
 
@@ -83,8 +81,7 @@ reply_twice : (hide change : Hiding) → Changes hide change → (s : State) (cl
     (reply : Result Answer Errno)
     → blind_reply hide (blind change s) client context (blind_ask change s client context op)
     (blind_reply change s client context op reply) ≡ blind_reply hide s client context op reply
-reply_twice hide change ch s client context op (Ok answer) =
-    ap (λ (a : Answer). Ok a) (answer_twice hide change ch s client context op answer)
+reply_twice hide change ch s client context op (Ok answer) = grind (arith, common_steps, answer_twice)
 reply_twice hide change ch s client context op (Err e) = refl
 
 event_twice : (hide change : Hiding) → Changes hide change → (s : State) (event : Event)
@@ -123,7 +120,6 @@ has_others hide change start end events ch legal =
     search blind_twice depth 8
 
 -- Any payload that a user key may have may take the place of another.
-
 abbrev fits : List ℕ → Bool
 fits bytes = nat_le 1 (length bytes) && nat_le (length bytes) 32767
 

@@ -1,5 +1,5 @@
 -- What a search finds with the payloads hidden.
-use Rattle.std.proofs.Common.{[], ◌∙◌, ◌∷◌, ◌≡◌, ap, cond, find, flat_map, List, not, refl, ℕ}
+use Rattle.std.proofs.Common.{[], ◌∙◌, ◌∷◌, ◌≡◌, ap, arith, cond, find, flat_map, List, not, refl, ℕ}
 use Rattle.std.specs.List.{list_any}
 use Rattle.krs_types.specs.{declared.{context.Context.Context, name.Name.Name}, Refusing.or_refuse}
 use Rattle.krs_model.specs.{Access.is_over, Hiding.{blind, blind_keys, Hiding}, Levels.levels, Possession.possessed}
@@ -7,6 +7,7 @@ use Rattle.krs_model.specs.{Possession.process_ring, Search.{entered, fault, fou
 use Rattle.krs_model.specs.Search.{is_answer, is_denied, is_expired, is_match, is_open, is_revoked, open_links}
 use Rattle.krs_model.specs.{Search.{requested, requested_by, searched, Searcher, searcher_with, sought}, State.State}
 use Rattle.krs_model.proofs.Hiding.{Keys.seen, Lookups.{same_links, same_possessed}}
+use Rattle.std.proofs.lemmas.Grind.{common_steps}
 
 -- one who searches keys with their payloads hidden
 abbrev hid : Hiding → Searcher → Searcher
@@ -39,8 +40,7 @@ same_sought hide by name serials =
 
 same_found_by : (hide : Hiding) (by : Searcher) (head : ℕ) (name : Name)
     → found_by (hid hide by) head name ≡ found_by by head name
-same_found_by hide by head name =
-    same_sought hide by name (searched (hid hide by) head) ∙ ap (sought by name) (same_searched hide by head)
+same_found_by hide by head name = grind (arith, common_steps, same_sought, same_searched)
 
 same_requested_by : (hide : Hiding) (by : Searcher) (heads : List ℕ) (name : Name)
     → requested_by (hid hide by) heads name ≡ requested_by by heads name

@@ -10,6 +10,8 @@ use Rattle.krs_model.specs.{State.{Content, Key, Links, Payload, State}, Table.{
 use Rattle.krs_model.proofs.Hiding.Accepted.{blind_done, changed_blind, done_changed}
 use Rattle.krs_model.proofs.Hiding.Links.{linked_into_blind, within_blind}
 use Rattle.krs_model.proofs.Hiding.Lookups.{blind_found, look_up_blind, there_blind}
+use Rattle.std.proofs.Common.{arith}
+use Rattle.std.proofs.lemmas.Grind.{common_steps}
 
 -- a result is another, seen through h: step by step, as a search goes
 pub record IsSeen {A B : Type 0} (h : A → B) (hidden : Result B Errno) (meant : Result A Errno) : Type 0 where
@@ -36,8 +38,7 @@ seen_through g h (Err e) f k each = seen_err
 pub seen_bound : {A B C D : Type 0} (g : A → B) {h : C → D} (q : Result B Errno) (r : Result A Errno)
     (f : A → Result C Errno) (k : B → Result D Errno) → q ≡ over g r
     → ((x : A) → r ≡ Ok x → IsSeen h (k (g x)) (f x)) → IsSeen h (q >>= k) (r >>= f)
-seen_bound {D = D} g {h} q r f k same each =
-    subst (λ z. IsSeen h (z >>= k) (r >>= f)) (sym same) (seen_through g h r f k each)
+seen_bound {D = D} g {h} q r f k same each = grind (arith, common_steps, seen_through)
 
 pub is_seen : {A B : Type 0} (h : A → B) {hidden : Result B Errno} {meant : Result A Errno} → IsSeen h hidden meant
     → hidden ≡ over h meant
@@ -56,7 +57,6 @@ seen_either true x y v w e f = e
 seen_either false x y v w e f = f
 
 -- ---- one step
-
 pub seen_context : {C D : Type 0} {h : C → D} (hide : Hiding) (s : State) (client number : ℕ)
     (f : Context → Result C Errno) (k : Context → Result D Errno)
     → ((c : Context) → context_of s client number ≡ Ok c → IsSeen h (k c) (f c))
@@ -75,15 +75,13 @@ pub seen_look_up : {C D : Type 0} {h : C → D} (hide : Hiding) (s : State) (c :
     (f : ℕ × Key → Result C Errno) (k : ℕ × Key → Result D Errno)
     → ((found : ℕ × Key) → look_up s c id want ≡ Ok found → IsSeen h (k (blind_found hide found)) (f found))
     → IsSeen h (look_up (blind hide s) c id want >>= k) (look_up s c id want >>= f)
-seen_look_up hide s c id want f k each =
-    seen_bound (blind_found hide) _ (look_up s c id want) f k (look_up_blind hide s c id want) each
+seen_look_up hide s c id want f k each = grind (arith, common_steps, seen_bound, blind_found, look_up_blind)
 
 pub seen_there : {C D : Type 0} {h : C → D} (hide : Hiding) (keys : Table Key) (e : Errno) (n : ℕ)
     (f : Key → Result C Errno) (k : Key → Result D Errno)
     → ((key : Key) → or_refuse e (at keys n) ≡ Ok key → IsSeen h (k (blind_key (hide n) key)) (f key))
     → IsSeen h (or_refuse e (at (blind_keys hide keys) n) >>= k) (or_refuse e (at keys n) >>= f)
-seen_there hide keys e n f k each =
-    seen_bound (blind_key (hide n)) _ (or_refuse e (at keys n)) f k (there_blind hide keys e n) each
+seen_there hide keys e n f k each = grind (arith, common_steps, seen_bound, there_blind)
 
 pub seen_links : {C D : Type 0} {h : C → D} (g : List ℕ → List ℕ) (content : Content) (f : List ℕ → Result C Errno)
     (k : List ℕ → Result D Errno) → ((links : List ℕ) → ring_links content ≡ Ok links → IsSeen h (k links) (f links))
@@ -96,8 +94,7 @@ pub seen_linked_into : {C D : Type 0} {h : C → D} (hide : Hiding) (s : State) 
     → ((new : State) → linked_into s into found ≡ Ok new → IsSeen h (k (blind hide new)) (f new))
     → IsSeen h (linked_into (blind hide s) (blind_found hide into) (blind_found hide found) >>= k)
     (linked_into s into found >>= f)
-seen_linked_into hide s into found f k each =
-    seen_bound (blind hide) _ (linked_into s into found) f k (linked_into_blind hide s into found) each
+seen_linked_into hide s into found f k each = grind (arith, common_steps, seen_bound, linked_into_blind)
 
 -- a step of several, which gives a state
 pub seen_state : (hide : Hiding) (q r : Result State Errno) (f k : State → Outcome) → IsSeen (blind hide) q r

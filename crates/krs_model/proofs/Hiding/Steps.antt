@@ -7,10 +7,11 @@ use Rattle.krs_types.specs.Growth.{grows}
 use Rattle.krs_model.specs.Hiding.{blind, blind_answer, blind_ask, blind_event, blind_keys, blind_outcome}
 use Rattle.krs_model.specs.{Hiding.{blind_reply, FurtherEvents, Hides, Hiding, IsBlinded, NoEvents}, History.IsLegal}
 use Rattle.krs_model.specs.{Lookup.{context_of, serial_of}, Notes.{Posting.dropped_watches, Telling.about_added}}
-use Rattle.krs_model.specs.{Notes.Telling.{ended_by, named, notes_of}, Outcome.Outcome, State.{Key, raised, State}}
+use Rattle.krs_model.specs.{Notes.Telling.{ended_by, notes_of}, Outcome.Outcome, State.{Key, State}}
 use Rattle.krs_model.specs.{Step.{Ends, posts_by, Serves, Step, watches_left}, Table.Table}
 use Rattle.krs_model.proofs.Hiding.{Outcomes.outcome_blind, Sweeps.{same_there, sweep_blind}}
 use Rattle.krs_model.specs.Queues as queues
+use Rattle.std.proofs.lemmas.Grind.{common_steps}
 
 -- notes tell of serials alone
 added_notes : (hide : Hiding) (keys : Table Key) (ring : Result ℕ Errno) (answer : Answer)
@@ -23,8 +24,7 @@ same_notes : (hide : Hiding) (s : State) (client context : ℕ) (op : Op) (answe
     → notes_of (blind hide s) client context (blind_ask hide s client context op)
     (blind_answer hide s client context op answer) ≡ notes_of s client context op answer
 unfolding context_of serial_of
-same_notes hide s client context (Add type_name desc payload ring) answer =
-    added_notes hide s.keys (named s client context ring) answer
+same_notes hide s client context (Add type_name desc payload ring) answer = grind (arith, common_steps, added_notes)
 same_notes hide s client context op answer = refl
 
 same_ended : (hide : Hiding) (s : State) (client context : ℕ) (op : Op)
@@ -78,8 +78,7 @@ ends_blind :
     → Ends s client context op reply new
     → Ends (blind hide s) client context (blind_ask hide s client context op)
     (blind_reply hide s client context op reply) (blind hide new)
-ends_blind hide s new client context op (Ok answer) hides ends =
-    serves_blind hide s new client context op answer hides ends
+ends_blind hide s new client context op (Ok answer) hides ends = grind (arith, common_steps, serves_blind)
 ends_blind hide s new client context op (Err e) hides ends =
     grind (arith, nat_tests, outcome_blind, same_grows, ok_blind)
 
@@ -87,8 +86,7 @@ ends_blind hide s new client context op (Err e) hides ends =
 pub step_blind : (hide : Hiding) (old new : State) (event : Event) → Hides hide → Step old event new
     → Step (blind hide old) (blind_event hide old event) (blind hide new)
 unfolding Step
-step_blind hide old new event hides step =
-    ends_blind hide (raised old event.moment) new event.lane event.ask.context event.ask.op event.reply hides step
+step_blind hide old new event hides step = grind (arith, common_steps, ends_blind)
 
 -- each legal history has one with the payloads hidden
 pub history_blinded :

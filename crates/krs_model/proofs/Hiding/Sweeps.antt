@@ -1,10 +1,11 @@
 -- The sweep with the payloads hidden: it looks at links alone.
-use Rattle.std.proofs.Common.{◌∙◌, ◌≡◌, ap, arith, filter, is_some, IsSome, List, Option, refl, subst, sym, ℕ}
+use Rattle.std.proofs.Common.{◌∙◌, ◌≡◌, ap, arith, filter, is_some, IsSome, List, refl, sym, ℕ}
 use Rattle.std.proofs.lemmas.Bool.Decides.{nat_tests}
-use Rattle.krs_model.specs.{Hiding.{blind, blind_key, blind_keys, Hiding}, Levels.is_in, State.{Key, State}}
+use Rattle.krs_model.specs.{Hiding.{blind, blind_keys, Hiding}, Levels.is_in, State.{Key, State}}
 use Rattle.krs_model.specs.{Sweep.{Attached, IsHeld, IsSweep, Linked, live_watches}, Table.{at, Table}}
 use Rattle.krs_model.proofs.Hiding.{Keys.{at_blind, filter_blind, seen}, Links.same_links_at}
 use Rattle.krs_model.proofs.Sound.Changes.{was_mapped}
+use Rattle.std.proofs.lemmas.Grind.{common_steps}
 
 held_to : (hide : Hiding) (keys : Table Key) (attached : List ℕ) (k : ℕ) → IsHeld keys attached k
     → IsHeld (blind_keys hide keys) attached k
@@ -19,8 +20,7 @@ held_from hide keys attached _ (Linked j k held i) =
     Linked j k (held_from hide keys attached j held) (ap (is_in k) (sym (same_links_at hide keys j)) ∙ i)
 
 there_from : (hide : Hiding) (keys : Table Key) (k : ℕ) → IsSome (at (blind_keys hide keys) k) → IsSome (at keys k)
-there_from hide keys k h =
-    was_mapped (blind_key (hide k)) (at keys k) (subst (λ (o : Option Key). IsSome o) (at_blind hide keys k) h)
+there_from hide keys k h = grind (arith, common_steps, was_mapped, at_blind)
 
 pub same_there : (hide : Hiding) (keys : Table Key) (k : ℕ)
     → is_some (at (blind_keys hide keys) k) ≡ is_some (at keys k)

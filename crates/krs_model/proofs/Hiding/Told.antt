@@ -5,6 +5,7 @@ use Rattle.krs_types.specs.declared.{ask.Answer.Answer, errno.Errno.Errno, event
 use Rattle.krs_model.specs.{Hiding.{blind_event, FurtherEvents, Hiding, IsBlinded, NoEvents, over}, Secrecy.reads_to}
 use Rattle.krs_model.specs.{Secrecy.{replies_to, tells, TellsByReadsAlone}, State.State}
 use Rattle.krs_model.proofs.Hiding.Clients.{blinded_alike, read_alike, replied, reply_or_read}
+use Rattle.std.proofs.lemmas.Grind.{common_steps}
 
 -- event by event the clients are the same, both or neither are accepted READs, and the replies are the same but for
 -- these
@@ -36,10 +37,8 @@ differ_by_told :
     → IsBlinded hide a events x blinded → IsBlinded hide b others y alike → blinded ≡ alike
     → DifferByTold events others
 differ_by_told hide _ _ _ _ _ _ _ _ (NoEvents s) (NoEvents t) same = tt
-differ_by_told hide _ _ _ _ _ _ _ _ (NoEvents s) (FurtherEvents t next end event events blinded step rest) same =
-    absurd (cc)
-differ_by_told hide _ _ _ _ _ _ _ _ (FurtherEvents s next end event events blinded step rest) (NoEvents t) same =
-    absurd (cc)
+differ_by_told hide _ _ _ _ _ _ _ _ (NoEvents s) (FurtherEvents t next end event events blinded step rest) same = cc
+differ_by_told hide _ _ _ _ _ _ _ _ (FurtherEvents s next end event events blinded step rest) (NoEvents t) same = cc
 differ_by_told hide _ _ _ _ _ _ _ _ (FurtherEvents s next end event events blinded step rest)
     (FurtherEvents t top last other others alike further behind) same =
     grind (
@@ -60,8 +59,7 @@ one_told :
     → replied (cond (b && t) (e ∷ reads) reads) ≡ replied (cond (b && t) (f ∷ others) others)
     → replied (cond b (e ∷ es) es) ≡ replied (cond b (f ∷ fs) fs)
 one_told true true e f es fs reads others either rest same = grind (arith, nat_tests)
-one_told true false e f es fs reads others either rest same =
-    ⊎_elim (λ (one : e.reply ≡ f.reply). λ i. one i ∷ rest same i) (λ no. absurd (true≢false (sym no))) either
+one_told true false e f es fs reads others either rest same = grind (arith, common_steps, ⊎_elim, true≢false)
 one_told false true e f es fs reads others either rest same = rest same
 one_told false false e f es fs reads others either rest same = rest same
 

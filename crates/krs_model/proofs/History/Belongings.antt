@@ -19,9 +19,9 @@ use Rattle.krs_model.proofs.{Isolation.Histories.private_legal, Lookups.Serials.
 use Rattle.krs_model.proofs.{Reach.Levels.same_is, Sound.{Changes.at_change, Steps.{legal_keeps, start_sound}}}
 use Rattle.krs_model.proofs.Tables.{Changes.at_map, Distinct.{alter_distinct, at_filter_some}, Each.put_is}
 use Rattle.krs_model.proofs.Tables.Entries.{rises_distinct, without_was}
+use Rattle.std.proofs.lemmas.Grind.{common_steps}
 
 -- ---- what is left of a client
-
 -- what a filter leaves at a number passes it, under some number
 passed :
     {X : Type 0} (p : ℕ × X → Bool) (es : Table X) (n : ℕ) (v : X) → at (filter p es) n ≡ Some v
@@ -54,15 +54,13 @@ noted_client :
     → option_map (after_notes notes) o ≡ Some queue → ((q : Queue) → o ≡ Some q → q.client ≢ client)
     → queue.client ≢ client
 noted_client client notes None queue h unlike = absurd (none-some queue h)
-noted_client client notes (Some q) queue h unlike = λ e. unlike q refl
-    (sym (notes_client notes q) ∙ (ap (λ (z : Queue). z.client) (same_Some (after_notes notes q) queue h) ∙ e))
+noted_client client notes (Some q) queue h unlike = grind (arith, common_steps, notes_client, same_Some)
 
 -- an accepted ask leaves the contexts as it made them
 served_contexts :
     (s new : State) (client context : ℕ) (op : Op) (answer : Answer) (serves : Serves s client context op answer new)
     → new.contexts ≡ serves.mid.contexts
-served_contexts s new client context op answer serves =
-    ap (λ (t : State). t.contexts) serves.posted ∙ ap (λ (t : State). t.contexts) serves.sweep.rest
+served_contexts s new client context op answer serves = grind (arith, common_steps)
 
 served_leaves :
     (s new : State) (client context : ℕ) (op : Op) (answer : Answer) → op ≡ Leave
@@ -101,11 +99,9 @@ ended_leaves s new client context op (Err e) is ends = absurd (never_refused s c
 pub step_leaves :
     (old new : State) (event : Event) → Step old event new → event.ask.op ≡ Leave → HasNothing event.lane new
 unfolding Step
-step_leaves old new event step is =
-    ended_leaves (raised old event.moment) new event.lane event.ask.context event.ask.op event.reply is step
+step_leaves old new event step is = grind (arith, common_steps, ended_leaves)
 
 -- ---- whose contexts are
-
 -- a context of the same client and caller was there
 abbrev WasThere : Table Context → Context → Type 0
 WasThere old c =
@@ -198,8 +194,7 @@ ended_comes s new client context op (Ok answer) distinct serves m c there =
     let mid : at serves.mid.contexts m ≡ Some c = sym (ap (λ (es : Table Context). at es m) same) ∙ there in
     let houses = ((law_of s client context op).fares.meets serves.mid answer serves.meant).houses in
     grind (arith, nat_tests, houses_whence)
-ended_comes s new client context op (Err e) distinct ends m c there =
-    inr (m, c, ap (λ (t : State). at t.contexts m) (sym ends.1) ∙ there, refl, refl)
+ended_comes s new client context op (Err e) distinct ends m c there = grind (arith, common_steps)
 
 step_comes :
     (old new : State) (event : Event) → IsSound old → Step old event new → (m : ℕ) (c : Context)

@@ -6,9 +6,10 @@ use Rattle.krs_types.specs.declared.{ask.{Answer.Answer, Op.Op}, errno.Errno.{Er
 use Rattle.krs_types.specs.declared.{event.Event.Event, note.Record.Record}
 use Rattle.krs_model.specs.{History.IsLegal, Notes.{Posting.posted_in, Stream.{Move, Posted, Took}}, Outcome.Outcome}
 use Rattle.krs_model.specs.{Receiving.{called_for, FurtherMoves, HasMoves, NoMoves, Takes}, Sound.IsSound}
-use Rattle.krs_model.specs.{State.{raised, State}, Step.{Ends, outcome_of, posts_by, Serves, Step}, Sweep.IsSweep}
+use Rattle.krs_model.specs.{State.{State}, Step.{Ends, outcome_of, posts_by, Serves, Step}, Sweep.IsSweep}
 use Rattle.krs_model.proofs.{Asks.Later.same_state, Notes.Reads.{step_read, takes_one, takes_some}}
 use Rattle.krs_model.proofs.{Sound.Steps.step_sound, Sweep.Laws.one_sweep}
+use Rattle.std.proofs.lemmas.Grind.{common_steps}
 
 -- an accepted ask leaves one state
 pub one_served :
@@ -29,8 +30,7 @@ one_end s a b client context op (Err e) f g = f.1 ∙ sym g.1
 -- a step leads to one state
 pub one_step : (old a b : State) (event : Event) → Step old event a → Step old event b → a ≡ b
 unfolding Step
-one_step old a b event f g =
-    one_end (raised old event.moment) a b event.lane event.ask.context event.ask.op event.reply f g
+one_step old a b event f g = grind (arith, common_steps, one_end)
 
 -- the reply of what an ask comes to
 abbrev replied : Outcome → Result Answer Errno
@@ -92,8 +92,7 @@ record Further (q : ℕ) (s : State) (event : Event) (events : List Event) (all 
 
 further : (q : ℕ) (s : State) (event : Event) (events : List Event) (all : List Move) (end : State)
     → HasMoves q s (event ∷ events) all end → Further q s event events all end
-further q _ _ _ _ _ (FurtherMoves s next end event events took moves step takes rest) =
-    record { next = next; took = took; moves = moves; step = step; takes = takes; rest = rest; is = refl }
+further q _ _ _ _ _ (FurtherMoves s next end event events took moves step takes rest) = grind (arith, common_steps)
 
 nothing_more : (q : ℕ) (s : State) (all : List Move) (end : State) → HasMoves q s [] all end → all ≡ []
 nothing_more q _ _ _ (NoMoves s) = refl

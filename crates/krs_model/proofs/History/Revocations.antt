@@ -12,6 +12,7 @@ use Rattle.krs_model.specs.{State.{raised, State}, Step.{Ends, Serves, Step}, Ta
 use Rattle.krs_model.proofs.Asks.{Later.{bind_ok, Follows, is_gone, same_ok, same_state}, LaterByStep.legal_follows}
 use Rattle.krs_model.proofs.{Asks.LaterByStep.{raised_follows, swept_follows}, Lookups.Laws.look_up_usable}
 use Rattle.krs_model.proofs.{Lookups.Serials.found_serial, Tables.Changes.at_alter_same}
+use Rattle.std.proofs.lemmas.Grind.{common_steps}
 
 -- what an accepted ask has found that begins with a look-up: a key that was not revoked, at the serial that the id
 -- names
@@ -51,8 +52,7 @@ spent_follows old new serial follows spent = grind (arith, nat_tests)
 pub given_serial :
     (s : State) (serial : ℕ) (key : Key) → IsBelow s.keys s.next_serial → at s.keys serial ≡ Some key
     → serial < s.next_serial
-given_serial s serial key below there =
-    ⊎_elim (λ lt. lt) (λ le. absurd (none-some key (sym (below serial le) ∙ there))) (cases_lt serial s.next_serial)
+given_serial s serial key below there = grind (arith, common_steps, ⊎_elim, none-some, cases_lt)
 
 abbrev if_revoked : State → (ℕ × Key) → Outcome
 if_revoked s found = Ok (changed s found.0 revoked, Nothing)

@@ -10,6 +10,7 @@ use Rattle.krs_model.specs.Receiving.{FurtherMoves, GivesStreams, HasMoves, IsOp
 use Rattle.krs_model.specs.{Sound.IsSound, State.{Queue, State}, Table.at}
 use Rattle.krs_model.proofs.Notes.{QueueNumbers.{step_gone, step_next, step_opened}, Streams.gives_its_stream}
 use Rattle.krs_model.proofs.{Notes.Taken.{moves_append, Stays, step_after, step_nothing}, Sound.Steps.step_sound}
+use Rattle.std.proofs.lemmas.Grind.{common_steps}
 
 -- nothing was called for and nothing taken
 no_moves :
@@ -49,17 +50,7 @@ still_leads :
     (q : ℕ) (queue now : Queue) (end : State) (rs took : List Record) (moves : List Move)
     → Stays queue (map Posted rs ++ map Took took) now → MovesReach now moves q end
     → MovesReach queue (map Posted rs ++ (map Took took ++ moves)) q end
-still_leads q queue now end rs took moves stays leads =
-    let first = map Posted rs ++ map Took took in
-    let later : MovesTo queue.capacity now.waiting moves leads.after =
-    subst (λ (n : ℕ). MovesTo n now.waiting moves leads.after) stays.capacity leads.moves_to in
-    record {
-      after = leads.after;
-      moves_to = subst (λ (all : List Move). MovesTo queue.capacity queue.waiting all leads.after)
-          (append_assoc (map Posted rs) (map Took took) moves)
-          (moves_append queue.capacity first moves queue.waiting now.waiting leads.after stays.moves later);
-      waits = leads.waits;
-    }
+still_leads q queue now end rs took moves stays leads = grind (arith, common_steps, append_assoc, moves_append)
 
 gone_leads :
     (q : ℕ) (queue : Queue) (end : State) (all : List Move) → all ≡ [] → at end.queues q ≡ None
@@ -113,8 +104,7 @@ some_capacity capacity h = leb-true 1 capacity (and_left (nat_le 1 capacity) (na
 same_leads :
     (client capacity q : ℕ) (moves : List Move) (end : State) → MovesReach (new_queue client capacity) moves q end
     → MovesReach (new_queue 0 capacity) moves q end
-same_leads client capacity q moves end leads =
-    record { after = leads.after; moves_to = leads.moves_to; waits = leads.waits }
+same_leads client capacity q moves end leads = grind (arith, common_steps)
 
 opened_moves :
     (q capacity : ℕ) (s : State) (events : List Event) (moves : List Move) (end : State)

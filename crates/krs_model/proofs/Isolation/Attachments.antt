@@ -19,6 +19,7 @@ use Rattle.krs_model.proofs.Sound.{Attached.{context_keys, own_process, uid_keys
 use Rattle.krs_model.proofs.Sound.{Changes.{IsChanged, IsPut, not_there}, KeyChanges.both_in, NewContexts.placed_in}
 use Rattle.krs_model.proofs.Tables.Changes.{at_kept, at_map, at_or_apart, at_without_other}
 use Rattle.krs_model.proofs.Tables.{Distinct.at_without_same, Each.kept_is, Entries.rises_distinct}
+use Rattle.std.proofs.lemmas.Grind.{common_steps}
 
 pub is_foreign :
     (uid : ℕ) (c : Context) → c.caller.uid ≢ uid
@@ -214,8 +215,7 @@ ring_changed :
     (f : Option ℕ → Option ℕ) (o : Option (Option ℕ)) (k : ℕ) (P : Type 0)
     → ((v : Option ℕ) → f v ≡ Some k → (v ≡ Some k) ⊎ P) → AttachesTo (option_map f o) k → AttachesTo o k ⊎ P
 ring_changed f None k P was h = cc
-ring_changed f (Some v) k P was h =
-    ⊎_elim (λ (e : v ≡ Some k). inl (ap (λ (z : Option ℕ). Some z) e)) (λ p. inr p) (was v (some_some (f v) k h))
+ring_changed f (Some v) k P was h = grind (arith, common_steps, ⊎_elim, some_some)
 
 -- a changed process, which attaches nothing further but a key that is none of these
 pub process_unattached :
@@ -287,8 +287,7 @@ pub first_session_apart :
     → private k ≡ true → is_in k (option_to_list (first_session s.next_serial rings)) ≡ true → ⊥
 first_session_apart uid private s c (Some rings) k is fresh alone other m i =
     alone.uids c.uid k rings m other is (in_right k (option_to_list rings.user) (option_to_list rings.session) i)
-first_session_apart uid private s c None k is fresh alone other m i =
-    fresh (subst (λ (z : ℕ). private z ≡ true) (only_in k (s.next_serial + 1) i) m)
+first_session_apart uid private s c None k is fresh alone other m i = grind (arith, common_steps, only_in)
 
 detached_some :
     (serial k : ℕ) (o : Option ℕ) → detached serial o ≡ Some k → o ≡ Some k
@@ -303,8 +302,7 @@ foreign_without uid serial v k i = grind (arith, nat_tests, of_foreign, is_forei
 ring_detached :
     (serial : ℕ) (o : Option (Option ℕ)) (k : ℕ) → AttachesTo (option_map (detached serial) o) k → AttachesTo o k
 ring_detached serial None k h = cc
-ring_detached serial (Some v) k h =
-    ap (λ (z : Option ℕ). Some z) (detached_some serial k v (some_some (detached serial v) k h))
+ring_detached serial (Some v) k h = grind (arith, common_steps, detached_some, some_some)
 
 rings_detached :
     (serial : ℕ) (o : Option UidRings) (rings : UidRings) (k : ℕ)
@@ -363,8 +361,7 @@ was_left :
     → at (cond stays es (without es k)) q ≡ Some x → at es q ≡ Some x
 was_left es k q true x rises h = h
 was_left es k q false x rises h =
-    grind (arith, nat_tests, none-some, at_without_same, rises_distinct, at_without_other, at_or_apart) steps
-    600000
+    grind (arith, common_steps, nat_tests, none-some, at_without_same, rises_distinct, at_without_other, at_or_apart)
 
 -- one context less, and its process and its uid where they have none left
 pub exited_unattached :

@@ -1,6 +1,6 @@
 -- A new key is its maker's own, and linked from nowhere but where it was put.
-use Rattle.std.proofs.Common.{◌+◌, ◌||◌, ◌∙◌, ◌≡◌, ap, arith, Bool, Err, false, inr, IsSome, leb-true, List, nat_le}
-use Rattle.std.proofs.Common.{None, Ok, Option, refl, Result, Some, subst, sym, true, true≢false, ℕ, ℤ}
+use Rattle.std.proofs.Common.{◌+◌, ◌||◌, ◌∙◌, ◌≡◌, ap, arith, Bool, Err, false, IsSome, leb-true, List, nat_le}
+use Rattle.std.proofs.Common.{None, Ok, Option, refl, Result, Some, sym, true, true≢false, ℕ, ℤ}
 use Rattle.std.proofs.lemmas.{Bool.Decides.nat_tests, Option.same_Some}
 use Rattle.krs_types.specs.declared.ask.{Answer.Answer, Op.{Op, TheVariants.{Add, GetId, Hello, Join}}}
 use Rattle.krs_types.specs.declared.{caller.Caller.Caller, context.{Context.Context, UidRings.UidRings}}
@@ -8,22 +8,23 @@ use Rattle.krs_types.specs.declared.{errno.Errno.Errno, event.Event.Event, key_i
 use Rattle.krs_types.specs.{declared.rights.Want.TheVariants.Granted, KeyId.key_id_of, Perm.{group_byte, other_byte}}
 use Rattle.krs_types.specs.Rights.{WRITE}
 use Rattle.krs_types.proofs.KindRows.{has_row}
-use Rattle.krs_model.specs.Asks.Adding.{add, added, admitted, Made, new_key, Place, place_of, Updated}
+use Rattle.krs_model.specs.Asks.Adding.{add, added, admitted, Made, Place, place_of, Updated}
 use Rattle.krs_model.specs.Asks.{Finding.{get_id, made_where}, Hello.{hello, with_uid}, Joining.join}
 use Rattle.krs_model.specs.{Asks.Joining.{session_joined, session_ring}, Confidentiality.{ActsAs, AreEnclosed}}
 use Rattle.krs_model.specs.Confidentiality.{HasToItself, is_own, IsFor, IsGivenAway, MakesForItself, may_make}
-use Rattle.krs_model.specs.{Confidentiality.with_made, Linking.{is_named, link_named, ring_links}, Lookup.context_of}
+use Rattle.krs_model.specs.{Confidentiality.with_made, Linking.{link_named, ring_links}, Lookup.context_of}
 use Rattle.krs_model.specs.{Lookup.{look_up, serial_of}, Making.made_for, Notes.Posting.{Post, posted_in}}
 use Rattle.krs_model.specs.{Sound.IsSound, State.{Key, raised, State}, Step.{Ends, outcome_of, posts_by, Step}}
 use Rattle.krs_model.specs.{Sweep.IsSweep, Table.{at, IsBelow, put, Table}}
 use Rattle.krs_model.proofs.Asks.{Later.{bind_ok, same_ok}, Outcomes.{Meets, meets_after, meets_ok, meets_within}}
 use Rattle.krs_model.proofs.Isolation.{Growth.{of_made, same_owner, step_grows}, Guarded.lessens_keeps}
-use Rattle.krs_model.proofs.Isolation.{Keys.{changed_enclosed, KeepsOwn, kept_enclosed}, Steps.raised_alone}
+use Rattle.krs_model.proofs.Isolation.{Keys.{changed_enclosed, kept_enclosed}, Steps.raised_alone}
 use Rattle.krs_model.proofs.{Lookups.{Laws.in_by_match, Serials.found_serial}, MadeKeyring.Which.IsMade}
 use Rattle.krs_model.proofs.{MadeKeyring.Which.{made_for_is, NoneMade, ProcessMade, ThreadMade}, Reach.Levels.or_true}
 use Rattle.krs_model.proofs.{Reach.Levels.true_or, Sound.Changes.{at_put, not_there, Stands, with_linked}}
 use Rattle.krs_model.proofs.Sound.{KeyChanges.updated_lessens, Steps.{raised_sound, sound_stands, step_sound}}
 use Rattle.krs_model.proofs.Sweep.Laws.{linking_is_there}
+use Rattle.std.proofs.lemmas.Grind.{common_steps}
 
 -- these keys, and all serials that are not given yet
 abbrev or_late : (ℕ → Bool) → ℕ → ℕ → Bool
@@ -139,15 +140,7 @@ added_keeps :
 added_keeps uid set s c name payload id (Updated serial) is within next own alone =
     search (changed_enclosed, lessens_keeps, updated_lessens) depth 8
 added_keeps uid set s c name payload id (Made ring) is within next own alone =
-    let n = s.next_serial in
-    let key = new_key name payload c.caller.uid c.caller.gid in
-    let displaced : ℕ → Bool = λ k. is_named name (at s.keys k) in
-    let private : set ring ≡ true = within ring (made_named s c name id ring is) in
-    let keeps : KeepsOwn uid set ring (with_linked displaced n) = record {
-      own = λ v m h. h;
-      links = λ v k m i. inr private;
-    } in
-    grind (arith, nat_tests, changed_enclosed, put_own, made_own, has_row)
+    grind (arith, common_steps, made_named, with_linked, nat_tests, changed_enclosed, put_own, made_own, has_row)
 
 add_keeps :
     (uid : ℕ) (set : ℕ → Bool) (s : State) (client context : ℕ) (type_name desc payload : List ℕ) (ring : ℤ)
@@ -193,8 +186,7 @@ makes_may :
     → MakesForItself uid private (raised s moment) client context op
     → (may_make op ≡ true) × IsFor uid s client context op
 makes_may uid private s moment client context (Hello caller) makes = (refl, makes)
-makes_may uid private s moment client context (GetId id create) makes =
-    (makes.0, same_acts uid s moment client context makes.1)
+makes_may uid private s moment client context (GetId id create) makes = grind (arith, common_steps, same_acts)
 makes_may uid private s moment client context (Join name) makes = (refl, same_acts uid s moment client context makes)
 makes_may uid private s moment client context (Add type_name desc payload ring) makes =
     (refl, same_acts uid s moment client context makes.0)
@@ -203,8 +195,7 @@ makes_may uid private s moment client context op makes = absurd makes
 swept_keeps :
     (uid : ℕ) (set : ℕ → Bool) (old new : State) → IsSweep old new → AreEnclosed uid set old.keys
     → AreEnclosed uid set new.keys
-swept_keeps uid set old new s alone =
-    subst (AreEnclosed uid set) (sym s.keys) (kept_enclosed uid set old.keys s.kept alone)
+swept_keeps uid set old new s alone = grind (arith, common_steps, kept_enclosed)
 
 posted_keys : (ps : List Post) (s : State) → (posted_in ps s).keys ≡ s.keys
 posted_keys ps s = refl

@@ -5,6 +5,7 @@ use Rattle.krs_model.specs.{Confidentiality.{HasToItself, KeepsPrivate, LeavesAl
 use Rattle.krs_model.specs.{Sound.IsSound, State.{starting_at, State}}
 use Rattle.krs_model.proofs.Isolation.{Growth.goes_alone, Stays.step_unchanged, Steps.{none_alone, reads_own}}
 use Rattle.krs_model.proofs.Sound.Steps.{start_sound, step_sound}
+use Rattle.std.proofs.lemmas.Grind.{common_steps}
 
 -- it is a legal history
 pub private_legal :
@@ -45,13 +46,11 @@ keeps_from_nothing uid n = keeps_to_itself uid (λ k. false) (starting_at n) (st
 pub end_alone :
     (uid : ℕ) (private last : ℕ → Bool) (start end : State) (events : List Event) → IsSound start
     → HasToItself uid private start → KeepsPrivate uid private start events end last → HasToItself uid last end
-end_alone uid private last start end events sound alone held =
-    let r = withheld_alone uid private start events end last sound alone held in r.1
+end_alone uid private last start end events sound alone held = grind (arith, common_steps, withheld_alone)
 
 -- nobody else changes them, or drops one
 pub leaves_alone :
     (uid : ℕ) (private : ℕ → Bool) (start : State) → IsSound start → HasToItself uid private start
     → LeavesAlone uid private start
 leaves_alone uid private start sound alone before old last held event new step none =
-    let r = withheld_alone uid private start before old last sound alone held in
-    step_unchanged uid last old new event r.0 r.1 step none
+    grind (arith, common_steps, withheld_alone, step_unchanged)

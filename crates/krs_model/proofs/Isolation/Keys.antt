@@ -11,6 +11,7 @@ use Rattle.krs_model.specs.Table.{map_values, put, Table}
 use Rattle.krs_model.proofs.{Lookups.{Laws.look_up_usable, Rights.one_byte}, Reach.Levels.{in_flat, in_level}}
 use Rattle.krs_model.proofs.{Sound.Changes.{at_change, at_put, IsChanged, LinksTo}, Tables.Changes.{at_kept, at_map}}
 use Rattle.krs_model.proofs.Tables.Each.{kept_is}
+use Rattle.std.proofs.lemmas.Grind.{common_steps}
 
 -- a change of a key of its own leaves it its own, where the key may be one of these
 pub record KeepsOwn (uid : ℕ) (private : ℕ → Bool) (n : ℕ) (f : Key → Key) : Type 0 where
@@ -23,8 +24,7 @@ own_mapped :
     → ((v : Key) → is_own uid v ≡ true → is_own uid (f v) ≡ true)
     → ((v : Key) → o ≡ Some v → is_own uid v ≡ true) → option_map f o ≡ Some key → is_own uid key ≡ true
 own_mapped uid f None key keeps was h = cc
-own_mapped uid f (Some v) key keeps was h =
-    let same : f v ≡ key = cc in subst (λ (z : Key). is_own uid z ≡ true) same (keeps v (was v refl))
+own_mapped uid f (Some v) key keeps was h = grind (arith, common_steps)
 
 links_mapped :
     (P : Type 0) (f : Key → Key) (o : Option Key) (k : ℕ)
@@ -54,7 +54,7 @@ pub mapped_enclosed :
     → is_in k (links_of_content v.content) ≡ true)
     → AreEnclosed uid private es → AreEnclosed uid private (map_values f es)
 mapped_enclosed uid private es f keeps less alone = record {
-  own = λ k key m there. own_mapped uid f (at es k) key keeps (λ v h. alone.own k v m h) (sym (at_map f es k) ∙ there);
+  own = grind (arith, common_steps, own_mapped, at_map);
   linked = λ j k m i. ⊎_elim (λ (was : LinksTo k (at es j)). alone.linked j k m was) (λ (no : ⊥). absurd no)
       (links_mapped ⊥ f (at es j) k (λ v h. inl (less v k h)) (subst (LinksTo k) (at_map f es j) i));
 }
@@ -133,8 +133,4 @@ pub not_found :
     → AreEnclosed uid private s.keys → AttachesNone private s c → c.caller.uid ≢ uid → allows want 0 false ≡ false
     → look_up s c id want ≡ Ok found → private found.0 ≡ true → ⊥
 not_found uid private s c id want found alone none other wants is m =
-    let usable = look_up_usable s c id want found is in
-    let rights = no_rights uid private s c found.0 found.1 alone none other m usable.there in
-    let refused : allows want (rights_on found.1 c.caller (possessed s c found.0)) (possessed s c found.0) ≡ false =
-    ap (λ (n : ℕ). allows want n (possessed s c found.0)) rights.1 ∙ (ap (allows want 0) rights.0 ∙ wants) in
-    true≢false (sym usable.granted ∙ refused)
+    let usable = look_up_usable s c id want found is in grind (arith, common_steps, no_rights, true≢false)

@@ -20,9 +20,10 @@ use Rattle.krs_model.proofs.Isolation.{Steps.same_context, Untouched.{AreSame, K
 use Rattle.krs_model.proofs.{Lookups.Serials.{found_serial, own_there}, Reach.Levels.{in_left, in_one, in_right}}
 use Rattle.krs_model.proofs.{Reach.Levels.{only_in, same_is}, Sound.Attached.{attached_at, attached_by}}
 use Rattle.krs_model.proofs.Sound.Attached.{attached_entry, context_keys, in_context, in_process, in_uid, uid_keys}
-use Rattle.krs_model.proofs.Sound.{Changes.{at_change, at_put, IsChanged, was_mapped}, Steps.raised_sound}
+use Rattle.krs_model.proofs.Sound.{Changes.{at_change, at_put, was_mapped}, Steps.raised_sound}
 use Rattle.krs_model.proofs.{Sound.Steps.sound_stands, Tables.{Changes.{at_kept, at_map}, Entries.entry_passes}}
 use Rattle.krs_model.proofs.Tables.Entries.{filter_still, IsEntry, rises_distinct, still_unless}
+use Rattle.std.proofs.lemmas.Grind.{common_steps}
 
 -- no context of the uid asks, nor leaves
 pub record IsOutside (uid : ℕ) (s : State) (client context : ℕ) (op : Op) : Type 0 where
@@ -36,8 +37,7 @@ put_stays es n k x v none there = grind (arith, nat_tests, none-some, at_put)
 alter_stays :
     {X : Type 0} (es : Table X) (n k : ℕ) (f : X → X) (v : X) → (k ≡ n → ⊥) → at es k ≡ Some v
     → at (alter es n f) k ≡ Some v
-alter_stays es n k f v apart there =
-    ⊎_elim (λ (r : IsChanged es n f k). absurd (apart r.0)) (λ same. same ∙ there) (at_change es n k f)
+alter_stays es n k f v apart there = grind (arith, common_steps, ⊎_elim, at_change)
 
 -- what attaches one of these keys is of the uid
 own_context :
@@ -339,8 +339,7 @@ ended_unchanged uid private s new client context op (Ok answer) sound alone outs
     ⊎_elim (λ (same : AreSame private s.keys new.keys). inl same)
     (λ (out : IsTakenOut private s client context op new.keys). inr (refl, out))
     (served_unchanged uid private s new client context op answer sound alone outside serves)
-ended_unchanged uid private s new client context op (Err e) sound alone outside ends =
-    inl (λ k m. ap (λ (z : State). at z.keys k) ends.1)
+ended_unchanged uid private s new client context op (Err e) sound alone outside ends = grind (arith, common_steps)
 
 context_is :
     (s : State) (client n : ℕ) (c : Context) → at s.contexts n ≡ Some c → c.client ≡ client

@@ -12,6 +12,7 @@ use Rattle.krs_model.proofs.{Asks.{Later.same_ok, Laws.law_of}, Hiding.Readers.r
 use Rattle.krs_model.proofs.Isolation.{Attachments.{attaches_none, same_unattached}, Guarded.{alone_guarded, Guarded}}
 use Rattle.krs_model.proofs.Isolation.{Guarded.{Holds, NotBy}, Keys.{kept_enclosed, no_rights}}
 use Rattle.krs_model.proofs.{Lookups.Serials.own_there, Sound.Steps.{raised_sound, sound_stands}}
+use Rattle.std.proofs.lemmas.Grind.{common_steps}
 
 sweep_guarded :
     (uid : ℕ) (private : ℕ → Bool) (P : Type 0) (old new : State) → IsSweep old new → Guarded uid private P old
@@ -68,13 +69,7 @@ step_guarded uid private old new event sound alone step =
 pub not_given :
     (uid : ℕ) (private : ℕ → Bool) (keys : Table Key) → (IsGivenAway uid private keys → ⊥)
     → AreEnclosed uid private keys
-not_given uid private keys none = record {
-  own = grind (arith, nat_tests);
-  linked = λ j k m i. elim (private j) as (λ b. private j ≡ b → b ≡ true) [
-    | true ↦ λ t. refl
-    | false ↦ λ t. absurd (none (record { serial = k; own = m; how = inr (j, t, i) }))
-  ] refl;
-}
+not_given uid private keys none = grind (arith, common_steps, nat_tests)
 
 -- and keys that are so are not given away
 pub alone_not_given :

@@ -1,5 +1,5 @@
 -- What links to a thread or process keyring that is made, and what is added to it.
-use Rattle.std.proofs.Common.{◌∙◌, ◌≡◌, ◌≢◌, ap, arith, cond, Err, IsSome, List, nat_lt, None, Ok, Option, refl}
+use Rattle.std.proofs.Common.{◌≡◌, ◌≢◌, arith, cond, Err, IsSome, List, nat_lt, None, Ok, refl}
 use Rattle.std.proofs.{Common.{Result, Some, ℕ, ℤ}, lemmas.Bool.Decides.nat_tests}
 use Rattle.krs_types.specs.declared.{ask.Answer.TheVariants.{Nothing, Number}, context.Context.Context}
 use Rattle.krs_types.specs.declared.errno.Errno.{Errno, TheVariants.{EDEADLK, ELOOP, ENOKEY, ENOSPC}}
@@ -8,12 +8,13 @@ use Rattle.krs_types.specs.Rights.{LINK}
 use Rattle.krs_model.specs.Asks.{Adding.{Made, place_of}, Changing.changed, Finding.{found_into, got, if_linkable}}
 use Rattle.krs_model.specs.Asks.{Finding.{requested_into, sought_into}, Linked.{linked, linked_into, name_of, unless}}
 use Rattle.krs_model.specs.{Linking.{linking, ring_links}, Lookup.{look_up, serial_of}, Making.special_ring}
-use Rattle.krs_model.specs.{Outcome.Outcome, Reach.{has_chain, nesting_depth}, Search.{found, requested}}
+use Rattle.krs_model.specs.{Reach.{has_chain, nesting_depth}, Search.{found, requested}}
 use Rattle.krs_model.specs.{Sound.{AllLinked, IsSound}, State.{Key, State}, Table.at}
 use Rattle.krs_model.proofs.MadeKeyring.Lookups.{look_up_new, possessed_other, rights_new, there_new}
 use Rattle.krs_model.proofs.MadeKeyring.{Nesting.{nestable_other, nestable_self}, Searches.{AreThere, attached_there}}
 use Rattle.krs_model.proofs.MadeKeyring.{Searches.{found_other, there_is}, State.HasMade}
 use Rattle.krs_model.proofs.Sound.NewContexts.{own_process_there}
+use Rattle.std.proofs.lemmas.Grind.{common_steps}
 
 -- a new keyring has room
 after_room :
@@ -59,15 +60,7 @@ pub found_into_new :
     → found_into t d (s.next_serial, special_ring desc c.caller) (Ok k)
     ≡ (or_refuse ENOKEY (at s.keys k) >>= (λ key. if_linkable s c k key >>= (λ linkable.
     linked_into t (s.next_serial, special_ring desc c.caller) linkable >>= (λ new. Ok (new, Number k)))))
-found_into_new s t c d desc before after k made none other =
-    let linked : ℕ × Key → Outcome = λ linkable.
-    linked_into t (s.next_serial, special_ring desc c.caller) linkable >>= (λ new. Ok (new, Number k)) in
-    let same : (key : Key) → if_linkable t d k key ≡ if_linkable s c k key = λ key.
-    linkable_other s t c d desc before after k key made none other in
-    ap (λ (o : Option Key). or_refuse ENOKEY o >>= (λ key. if_linkable t d k key >>= linked))
-    (there_is s t c d desc before after k made other)
-    ∙ ap (λ (if_key : Key → Result (ℕ × Key) Errno). or_refuse ENOKEY (at s.keys k) >>= (λ key. if_key key >>= linked))
-    (λ i key. same key i)
+found_into_new s t c d desc before after k made none other = grind (arith, common_steps, linkable_other, there_is)
 
 -- the new keyring that was found is not linked to itself
 pub found_into_self :

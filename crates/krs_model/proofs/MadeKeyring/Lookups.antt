@@ -1,6 +1,6 @@
 -- What is possessed and what a look-up meets where a thread or process keyring is made.
 use Rattle.std.proofs.Common.{[], ⊎_elim, ◌&&◌, ◌++◌, ◌==◌, ◌∙◌, ◌∷◌, ◌≡◌, ◌≢◌, ◌⊎◌, ap, arith, Bool, cond, Err}
-use Rattle.std.proofs.Common.{false, flat_map, inl, inr, List, None, Ok, Option, refl, Result, Some, suc, sym, true}
+use Rattle.std.proofs.Common.{false, flat_map, inr, List, None, Ok, Option, refl, Result, Some, suc, sym, true}
 use Rattle.std.proofs.{Common.{zero, ℕ, ℤ}, lemmas.{Bool.Decides.nat_tests, Grind.flat_map-append}}
 use Rattle.std.proofs.lemmas.List.Folds.{list_any-append}
 use Rattle.krs_types.specs.declared.{caller.Caller.Caller, context.Context.Context, errno.Errno.Errno}
@@ -13,6 +13,7 @@ use Rattle.krs_model.specs.{Possession.{followed, followed_in, links_of_content,
 use Rattle.krs_model.specs.Table.{at, put, Table}
 use Rattle.krs_model.proofs.{MadeKeyring.State.{at_other, either_at, HasMade, StandsFor}, Reach.Acyclic.heads_first}
 use Rattle.krs_model.proofs.{Reach.Levels.{in_right, same_is}, Tables.Changes.at_put_same}
+use Rattle.std.proofs.lemmas.Grind.{common_steps}
 
 pub none_followed : (b : Bool) (links : List ℕ) → links ≡ [] → cond b links [] ≡ []
 none_followed true links empty = empty
@@ -93,8 +94,7 @@ serial_by :
     → ((named >>= (λ x. or_refuse ENOKEY (attachment t d x))) ≡ Ok s.next_serial) ⊎
     ((named >>= (λ x. or_refuse ENOKEY (attachment t d x))) ≡ (named >>= (λ x. or_refuse ENOKEY (attachment s c x))))
 serial_by s t c d (Err e) stands_for = inr refl
-serial_by s t c d (Ok id) stands_for =
-    ⊎_elim (λ e. inl (ap (or_refuse ENOKEY) e)) (λ e. inr (ap (or_refuse ENOKEY) e)) (stands_for id)
+serial_by s t c d (Ok id) stands_for = grind (arith, common_steps, ⊎_elim)
 
 -- an id stands for the new keyring, or for what it stood for
 pub serial_either :

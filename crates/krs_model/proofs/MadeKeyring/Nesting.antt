@@ -3,13 +3,14 @@ use Rattle.std.proofs.Common.{[], ⊎_elim, ◌∙◌, ◌∷◌, ◌≡◌, ◌
 use Rattle.std.proofs.{Common.{nat_cmp, None, Option, refl, subst, suc, sym, true, ℕ}, lemmas.Bool.Decides.nat_tests}
 use Rattle.std.specs.{declared.cmp.Ordering.TheVariants.{Equal, Greater, Less}, Ordering.match_ordering}
 use Rattle.krs_types.specs.declared.errno.Errno.TheVariants.{EDEADLK, ELOOP}
-use Rattle.krs_model.specs.{Asks.Linked.{linked, nestable, unless}, Levels.{is_in, level, levels}}
-use Rattle.krs_model.specs.{Possession.links_of_content, Reach.{closes, has_chain, is_ring, is_some_in}}
+use Rattle.krs_model.specs.{Asks.Linked.{linked, nestable, unless}, Levels.{is_in, levels}}
+use Rattle.krs_model.specs.{Possession.links_of_content, Reach.{closes, has_chain, is_ring}}
 use Rattle.krs_model.specs.{Reach.{links_of_key_at, nested_in, nesting_depth}, Sound.AllLinked, State.Key}
 use Rattle.krs_model.specs.{Sweep.links_of_key, Table.{at, put, Table}}
 use Rattle.krs_model.proofs.{MadeKeyring.State.{at_other, either_at}, Reach.Acyclic.heads_first}
 use Rattle.krs_model.proofs.{Reach.Levels.{levels_linked, only_in, same_is}, Sound.Changes.not_there}
 use Rattle.krs_model.proofs.Tables.Tests.{AgreeOn, filter_agree}
+use Rattle.std.proofs.lemmas.Grind.{common_steps}
 
 -- what is linked is not the new keyring
 pub linked_other :
@@ -45,8 +46,7 @@ pub same_chain :
     (es : Table Key) (n k count : ℕ) (v : Key) → AllLinked es → at es n ≡ None → links_of_content v.content ≡ []
     → has_chain (put es n v) k count ≡ has_chain es k count
 unfolding has_chain
-same_chain es n k count v linked none empty =
-    ap (λ (nested : ℕ → List ℕ). is_some_in (level nested (k ∷ []) count)) (same_nested es n v linked none empty)
+same_chain es n k count v linked none empty = grind (arith, common_steps, same_nested)
 
 -- a link from the new keyring to another key closes no cycle
 pub closes_other :
@@ -78,10 +78,7 @@ put_more (e ∷ es) n v =
 -- a link from the new keyring to itself does
 pub closes_self : (es : Table Key) (n : ℕ) (v : Key) → closes (put es n v) n n ≡ true
 unfolding closes
-closes_self es n v =
-    let keys = put es n v in
-    let more = put_more es n v in
-    rw (more.1, heads_first (links_of_key_at keys) (n ∷ []) more.0 n (rw (same_is n n refl) refl))
+closes_self es n v = grind (arith, common_steps, heads_first, same_is, put_more es n v)
 
 -- another key is nested in the new keyring where no chain is too long
 pub nestable_other :

@@ -8,7 +8,7 @@ use Rattle.krs_types.specs.declared.{context.Context.Context, errno.Errno.{Errno
 use Rattle.krs_types.specs.Refusing.{or_refuse}
 use Rattle.krs_model.specs.{Access.is_over, Asks.Linked.linked, Laws.in_turn, Levels.{is_in, level, levels}}
 use Rattle.krs_model.specs.{Levels.search_depth, Linking.is_named, Making.special_ring, Possession.attached}
-use Rattle.krs_model.specs.{Possession.{links_of_content, possessed, process_ring}, Search.{entered, fault, found}}
+use Rattle.krs_model.specs.{Possession.{links_of_content, possessed}, Search.{entered, fault, found}}
 use Rattle.krs_model.specs.Search.{grants_search, is_answer, is_denied, is_expired, is_match, is_open, is_revoked}
 use Rattle.krs_model.specs.Search.{open_links, or_next, requested, searched, Searcher, searcher_of, sought}
 use Rattle.krs_model.specs.{Sound.{AllAttached, AllLinked}, State.{Key, State}, Sweep.{links_of_key, process_roots}}
@@ -19,6 +19,7 @@ use Rattle.krs_model.proofs.Reach.Levels.{in_flat, in_left, in_one, in_right, le
 use Rattle.krs_model.proofs.{Reach.Searches.{in_turn_flat, sought_append}, Sound.Attached.{attached_at, context_keys}}
 use Rattle.krs_model.proofs.{Sound.{Attached.{in_context, in_process}, Changes.not_there}, Tables.Changes.at_put_same}
 use Rattle.krs_model.proofs.Tables.Tests.{AgreeOn, any_agree, find_agree}
+use Rattle.std.proofs.lemmas.Grind.{common_steps}
 
 -- another key grants SEARCH as it did
 grants_other :
@@ -163,9 +164,7 @@ pub attached_there :
 attached_there s number c is attached k h =
     let of_context : is_in k (context_keys c) ≡ true → IsSome (at s.keys k) = λ i.
     attached k (in_context s k (attached_at context_keys s.contexts number c k is i)) in
-    let of_process : is_in k (option_to_list (process_ring s c.process)) ≡ true → IsSome (at s.keys k) = λ i.
-    attached k (in_process s k (process_root s.processes c.process k i)) in
-    grind (arith, nat_tests, in_left, in_right, in_one)
+    grind (arith, common_steps, option_to_list, in_process, process_root, nat_tests, in_left, in_right, in_one)
 
 heads_others :
     (by : Searcher) (n : ℕ) (heads : List ℕ) → AllLinked by.keys → at by.keys n ≡ None → AreOthers n heads

@@ -7,6 +7,7 @@ use Rattle.krs_types.specs.declared.note.KeyEvent.{KeyEvent, TheVariants.{Cleare
 use Rattle.krs_types.specs.declared.note.{KeyEvent.TheVariants.{Revoked, Setattr, Unlinked, Updated}, Record.Record}
 use Rattle.krs_types.specs.declared.note.Record.TheVariants.{Key, Loss, Removal}
 use Rattle.krs_model.specs.Notes.Bytes.{AllFit, bytes_of, bytes_of_all, event_number, Fits}
+use Rattle.std.proofs.lemmas.Grind.{common_steps}
 
 -- the two words in front of every record
 header_is : (t n s w : ℕ) (tail : List ℕ) → t < 256 → n < 256 → s < 256 → w < 256 →
@@ -26,8 +27,7 @@ event_small Setattr = omega arith
 
 pub bytes_of-Key : (e : KeyEvent) (w k a : ℕ) → w < 256 →
     bytes_of (Key e w k a) ≡ 1 ∷ 0 ∷ 0 ∷ event_number e ∷ 16 ∷ w ∷ 0 ∷ 0 ∷ (to_le_bytes w32 k ++ to_le_bytes w32 a)
-bytes_of-Key e w k a h = header_is 1 (event_number e) 16 w (to_le_bytes w32 k ++ to_le_bytes w32 a) (omega arith)
-    (event_small e) (omega arith) h
+bytes_of-Key e w k a h = grind (arith, common_steps, header_is, w32, event_small)
 
 pub bytes_of-Removal : (w id : ℕ) → w < 256 → bytes_of (Removal w id)
     ≡ 0 ∷ 0 ∷ 0 ∷ 0 ∷ 16 ∷ w ∷ 0 ∷ 0 ∷ to_le_bytes w64 id

@@ -12,6 +12,7 @@ use Rattle.krs_model.proofs.Asks.Effects.{Closes, Effect, effect_of, Filters, Le
 use Rattle.krs_model.proofs.{Asks.Effects.Watches, Notes.{Fitting.{each_filter, each_on}, Posts.at_post_all}}
 use Rattle.krs_model.proofs.{Notes.Posts.records_for-append, Sound.{Queues.ended_watch, Watches.each_with}}
 use Rattle.krs_model.proofs.{Sound.Watches.each_without, Sweep.Laws.{one_sweep, swept_sweep}}
+use Rattle.std.proofs.lemmas.Grind.{common_steps}
 
 -- nothing is posted to a queue that is not there
 none_of_note :
@@ -75,8 +76,7 @@ dropped_is :
     (meant : Result (State × Answer) Errno) (mid : State) (answer : Answer) (keys : Table Key)
     → meant ≡ Ok (mid, answer)
     → dropped_watches keys (watches_left meant) ≡ dropped_watches keys mid.watches
-dropped_is meant mid answer keys is =
-    ap (λ (m : Result (State × Answer) Errno). dropped_watches keys (watches_left m)) is
+dropped_is meant mid answer keys is = grind (arith, common_steps)
 
 -- an accepted ask calls for nothing of a queue that was not there
 pub none_called :

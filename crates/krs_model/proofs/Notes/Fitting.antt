@@ -1,11 +1,12 @@
 -- Records whose numbers fit their fields, and which are no losses.
-use Rattle.std.proofs.Common.{[], ◌++◌, ◌-◌, ◌<◌, ◌^◌, ◌∷◌, ◌≡◌, arith, Bool, cond, eqb-true, false, filter, flat_map}
-use Rattle.std.proofs.{Common.{length, List, map, nat_le, true, ℕ}, lemmas.Bool.Decides.nat_tests}
+use Rattle.std.proofs.Common.{[], ◌++◌, ◌-◌, ◌<◌, ◌^◌, ◌∷◌, ◌≡◌, arith, Bool, eqb-true, false, filter, flat_map}
+use Rattle.std.proofs.{Common.{length, List, map, nat_le, ℕ}, lemmas.Bool.Decides.nat_tests}
 use Rattle.krs_types.specs.declared.note.Record.{Record}
 use Rattle.krs_model.specs.Notes.{Bytes.{AllFit, bytes_of, Fits, is_loss}, Front.{behind, front}, Posting.after_note}
 use Rattle.krs_model.specs.Notes.Posting.{after_notes, Note, note_for, Post, posts, posts_of, records_for}
 use Rattle.krs_model.specs.{Notes.{Posting.{removal_for, watches_at}, Waiting.after_post}, Orderly.{Each, IsQueue}}
 use Rattle.krs_model.specs.{Orderly.IsWatch, Queues.{Queues, Watch}, State.Queue, Table.Table}
+use Rattle.std.proofs.lemmas.Grind.{common_steps}
 
 pub each_filter : (P : Watch → Type 0) (p : Watch → Bool) (ws : List Watch) → Each P ws → Each P (filter p ws)
 each_filter P p [] h = tt
@@ -92,17 +93,9 @@ after_notes_fit (note ∷ notes) queue h is =
 pub front_fit : (room : ℕ) (notes : List Record) → AllFit notes → AllFit (front room notes)
 front_fit room [] h = tt
 front_fit room (note ∷ notes) h =
-    elim (nat_le (length (bytes_of note)) room) as
-    (λ b. AllFit (cond b (note ∷ front (room - length (bytes_of note)) notes) [])) [
-      | true ↦ (h.0, front_fit (room - length (bytes_of note)) notes h.1)
-      | false ↦ tt
-    ]
+    grind (arith, common_steps, nat_le, front_fit (room - length (bytes_of note)) notes h.1)
 
 pub behind_fit : (room : ℕ) (notes : List Record) → AllFit notes → AllFit (behind room notes)
 behind_fit room [] h = tt
 behind_fit room (note ∷ notes) h =
-    elim (nat_le (length (bytes_of note)) room) as
-    (λ b. AllFit (cond b (behind (room - length (bytes_of note)) notes) (note ∷ notes))) [
-      | true ↦ behind_fit (room - length (bytes_of note)) notes h.1
-      | false ↦ h
-    ]
+    grind (arith, common_steps, nat_le, behind_fit (room - length (bytes_of note)) notes h.1)

@@ -8,6 +8,7 @@ use Rattle.krs_model.specs.Notes.{Bytes.bytes_of_all, Front.{behind, front, IsLo
 use Rattle.krs_model.specs.{Queues.{queue_of, Queues, queues_of, with_queues}, State.State, Table.{alter, at}}
 use Rattle.krs_model.proofs.Asks.{Effects.{queue_there, readable_is}, Later.{bind_ok, same_ok}}
 use Rattle.krs_model.proofs.Tables.Changes.{at_alter_other, at_alter_same, at_or_apart}
+use Rattle.std.proofs.lemmas.Grind.{common_steps}
 
 -- a front fits its room
 pub front_size : (room : ℕ) (rs : List Record) → length (bytes_of_all (front room rs)) ≤ room
@@ -54,8 +55,7 @@ longest room (n ∷ ns) (x ∷ some) others e h =
 -- no longer front fits
 pub longest_front :
     (room : ℕ) (notes : List Record) → IsLongestFront room notes (front room notes) (behind room notes)
-longest_front room notes =
-    record { whole = whole room notes; fits = front_size room notes; longest = longest room notes }
+longest_front room notes = grind (arith, common_steps, whole, front_size, longest)
 
 not_empty : (note : Record) (notes : List Record) → (note ∷ notes) ≢ []
 not_empty note notes = λ e. absurd cc

@@ -1,26 +1,25 @@
 -- Queues that are opened: a number is given once.
-use Rattle.std.proofs.Common.{◌<◌, ◌∙◌, ◌≡◌, ◌≤◌, ap, arith, Err, List, None, Ok, option_map, refl, Result, Some, sym}
-use Rattle.std.proofs.{Common.{true≢false, ℕ}, lemmas.Bool.Decides.nat_tests}
+use Rattle.std.proofs.Common.{◌<◌, ◌∙◌, ◌≡◌, ◌≤◌, ap, arith, Err, List, None, Ok, option_map, refl, Result, Some}
+use Rattle.std.proofs.{Common.{ℕ}, lemmas.Bool.Decides.nat_tests}
 use Rattle.krs_types.specs.declared.ask.{Answer.{Answer, TheVariants.Number}, Op.{Op, TheVariants.OpenQueue}}
 use Rattle.krs_types.specs.declared.{errno.Errno.Errno, event.Event.Event, note.Record.Record}
 use Rattle.krs_model.specs.Asks.{Leaving.left, Watching.{after_read, new_queue, with_filter}}
-use Rattle.krs_model.specs.{Notes.Posting.{after_notes, records_for}, Queues.Queues, Receiving.IsOpening}
+use Rattle.krs_model.specs.{Notes.Posting.{after_notes, records_for}, Receiving.IsOpening}
 use Rattle.krs_model.specs.{Sound.IsSound, State.{raised, State}, Step.{Ends, posts_by, Step}, Table.at}
-use Rattle.krs_model.proofs.Asks.Effects.{Closes, Effect, effect_of, Filters, is_of_queues, Leaves, OfKeys, Opens}
+use Rattle.krs_model.proofs.Asks.Effects.{Closes, Effect, effect_of, Filters, Leaves, OfKeys, Opens}
 use Rattle.krs_model.proofs.{Asks.{Effects.{Reads, Unwatches, Watches}, Later.same_ok}, Notes.Called.none_called}
 use Rattle.krs_model.proofs.{Notes.Called.{served_at, served_next}, Sound.Steps.raised_sound}
 use Rattle.krs_model.proofs.Tables.Changes.{at_alter_none, at_filter_none, at_or_apart, at_put_other, at_put_same}
 use Rattle.krs_model.proofs.Tables.Changes.{at_without_none}
+use Rattle.std.proofs.lemmas.Grind.{common_steps}
 
 -- a number that was given is not given again
 effect_gone :
     (s : State) (client context : ℕ) (op : Op) (mid : State) (answer : Answer) (q : ℕ) → q < s.next_queue
     → at s.queues q ≡ None → Effect s client context op mid answer → at mid.queues q ≡ None
 unfolding left
-effect_gone s client context _ _ _ q lt none (OfKeys op mid answer other comes stays) =
-    ap (λ (x : Queues). at x.queues q) comes.queues ∙ none
-effect_gone s client context _ _ _ q lt none (Opens capacity fits) =
-    grind (arith, nat_tests, at_put_other, at_or_apart)
+effect_gone s client context _ _ _ q lt none (OfKeys op mid answer other comes stays) = grind (arith, common_steps)
+effect_gone s client context _ _ _ q lt none (Opens capacity fits) = grind (arith, nat_tests, at_put_other, at_or_apart)
 effect_gone s client context _ _ _ q lt none (Filters number entries queue there) =
     at_alter_none s.queues number q (with_filter entries) none
 effect_gone s client context _ _ _ q lt none (Reads number room queue there) =
@@ -44,8 +43,7 @@ pub step_gone :
     (old new : State) (event : Event) (q : ℕ) → Step old event new → q < old.next_queue → at old.queues q ≡ None
     → at new.queues q ≡ None
 unfolding Step
-step_gone old new event q step lt none =
-    ends_gone (raised old event.moment) new event.lane event.ask.context event.ask.op event.reply q step lt none
+step_gone old new event q step lt none = grind (arith, common_steps, ends_gone)
 
 -- numbers rise
 effect_next :
@@ -74,8 +72,7 @@ ends_next s new client context op (Err e) ends = grind (arith, nat_tests)
 pub step_next :
     (old new : State) (event : Event) → Step old event new → old.next_queue ≤ new.next_queue
 unfolding Step
-step_next old new event step =
-    ends_next (raised old event.moment) new event.lane event.ask.context event.ask.op event.reply step
+step_next old new event step = grind (arith, common_steps, ends_next)
 
 -- a queue that is opened gets the next number, and nothing waits in it
 record Opened (s mid : State) (client q capacity : ℕ) : Type 0 where
@@ -86,16 +83,15 @@ opened_by :
     (s : State) (client context : ℕ) (op : Op) (mid : State) (answer : Answer) (q capacity : ℕ)
     → op ≡ OpenQueue capacity → answer ≡ Number q → Effect s client context op mid answer
     → Opened s mid client q capacity
-opened_by s client context _ _ _ q capacity asked gave (OfKeys op mid answer other comes stays) =
-    absurd (true≢false (sym (ap is_of_queues asked) ∙ other))
+opened_by s client context _ _ _ q capacity asked gave (OfKeys op mid answer other comes stays) = cc
 opened_by s client context _ _ _ q capacity asked gave (Opens other fits) = grind (arith, nat_tests, at_put_same)
 opened_by s client context _ _ _ q capacity asked gave (Filters number entries queue there) = absurd cc
 opened_by s client context _ _ _ q capacity asked gave (Reads number other queue there) = absurd cc
 opened_by s client context _ _ _ q capacity asked gave (Closes number queue there) = absurd cc
-opened_by s client context _ _ _ q capacity asked gave (Watches id watch_id number key n queue here there is small) =
-    absurd cc
+opened_by s client context _ _ _ q capacity asked gave (Watches id watch_id number key n queue here there is small) = cc
 opened_by s client context _ _ _ q capacity asked gave
-    (Unwatches id watch_id number key n queue here names there is has) = absurd cc
+    (Unwatches id watch_id number key n queue here names there is has) =
+    absurd cc
 opened_by s client context _ _ _ q capacity asked gave Leaves = absurd cc
 
 ends_opened :

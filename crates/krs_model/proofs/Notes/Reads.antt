@@ -1,5 +1,5 @@
 -- What the reply of an accepted read spells.
-use Rattle.std.proofs.Common.{[], ⊎_elim, ◌∙◌, ◌≡◌, ap, Err, List, Ok, refl, Result, sym, true≢false, ℕ}
+use Rattle.std.proofs.Common.{[], ⊎_elim, ◌∙◌, ◌≡◌, ap, arith, Err, List, Ok, refl, Result, sym, true≢false, ℕ}
 use Rattle.krs_types.specs.declared.ask.{Answer.{Answer, TheVariants.Bytes}, Op.{Op, TheVariants.ReadQueue}}
 use Rattle.krs_types.specs.declared.{errno.Errno.Errno, event.Event.Event, note.Record.Record}
 use Rattle.krs_model.specs.{Notes.{Bytes.{AllFit, bytes_of_all}, Front.front}, Receiving.{IsRead, Takes}}
@@ -8,6 +8,7 @@ use Rattle.krs_model.proofs.Asks.Effects.{Closes, Effect, effect_of, Filters, is
 use Rattle.krs_model.proofs.{Asks.{Effects.{Reads, Unwatches, Watches}, Later.same_ok}, Notes.Bytes.spelled_once}
 use Rattle.krs_model.proofs.Notes.{Fitting.front_fit, Taken.{bytes_given, no_other, not_both, queue_read}}
 use Rattle.krs_model.proofs.{Sound.Steps.raised_sound, Tables.Changes.at_or_apart}
+use Rattle.std.proofs.lemmas.Grind.{common_steps}
 
 -- whether an ask is an accepted read of a queue
 pub data Reading (q : ℕ) (op : Op) (answer : Answer) : Type 0 where
@@ -22,16 +23,14 @@ effect_reading :
 effect_reading s client context _ _ _ q sound (OfKeys op mid answer other comes stays) =
     NotReading (λ room bytes asked gave. true≢false (sym (ap is_of_queues asked) ∙ other))
 effect_reading s client context _ _ _ q sound (Opens capacity fits) = NotReading (λ room bytes asked gave. absurd cc)
-effect_reading s client context _ _ _ q sound (Filters number entries queue there) =
-    NotReading (λ room bytes asked gave. absurd cc)
+effect_reading s client context _ _ _ q sound (Filters number entries queue there) = grind (arith, common_steps)
 effect_reading s client context _ _ _ q sound (Reads number room queue there) =
     let fits = front_fit room queue.waiting (sound.orderly.queues number queue there).fit in
     ⊎_elim (λ (e : q ≡ number).
     IsReading room (front room queue.waiting) (ap (λ (k : ℕ). ReadQueue k room) (sym e)) fits refl)
     (λ apart. NotReading (λ other bytes asked gave. no_other q number (ap queue_read asked) apart))
     (at_or_apart q number)
-effect_reading s client context _ _ _ q sound (Closes number queue there) =
-    NotReading (λ room bytes asked gave. absurd cc)
+effect_reading s client context _ _ _ q sound (Closes number queue there) = grind (arith, common_steps)
 effect_reading s client context _ _ _ q sound (Watches id watch_id number key n queue here there is small) =
     NotReading (λ room bytes asked gave. absurd cc)
 effect_reading s client context _ _ _ q sound (Unwatches id watch_id number key n queue here names there is has) =

@@ -19,6 +19,7 @@ use Rattle.krs_model.proofs.{Notes.Fitting.{front_fit, posts_for}, Sound.{Queues
 use Rattle.krs_model.proofs.{Sound.Steps.raised_sound, Tables.Changes.{at_alter_other, at_alter_same, at_or_apart}}
 use Rattle.krs_model.proofs.Tables.{Changes.{at_put_other, at_without_other, is_at_same}, Distinct.at_filter_some}
 use Rattle.krs_model.proofs.Tables.Distinct.{at_without_same}
+use Rattle.std.proofs.lemmas.Grind.{common_steps}
 
 -- moves one after the other
 pub moves_append :
@@ -98,8 +99,7 @@ bytes_given (Bytes bytes) = bytes
 bytes_given answer = []
 
 pub no_other : (q number : ℕ) → number ≡ q → is_at (nat_cmp q) number ≡ false → ⊥
-no_other q number same apart =
-    true≢false (sym (is_at_same q) ∙ subst (λ (k : ℕ). is_at (nat_cmp q) k ≡ false) same apart)
+no_other q number same apart = grind (arith, common_steps, true≢false, is_at_same, nat_cmp)
 
 -- a queue that was there
 effect_after :
@@ -216,8 +216,7 @@ not_both reply answer e ok err = absurd cc
 
 refused_takes :
     (q : ℕ) (event : Event) (took : List Record) (e : Errno) → Takes q event took → event.reply ≡ Err e → took ≡ []
-refused_takes q event took e takes reply =
-    takes.nothing (λ bytes read. not_both event.reply (Bytes bytes) e read.gave reply)
+refused_takes q event took e takes reply = grind (arith, common_steps, not_both)
 
 -- a queue that is there before a step
 pub step_after :
@@ -231,25 +230,20 @@ step_after old new event q queue took sound step takes there =
 unread :
     (s : State) (client context : ℕ) (op : Op) (mid : State) (answer : Answer) (q room : ℕ) → op ≡ ReadQueue q room
     → at s.queues q ≡ None → Effect s client context op mid answer → ⊥
-unread s client context _ _ _ q room asked none (OfKeys op mid answer other comes stays) =
-    true≢false (sym (ap is_of_queues asked) ∙ other)
+unread s client context _ _ _ q room asked none (OfKeys op mid answer other comes stays) = cc
 unread s client context _ _ _ q room asked none (Opens capacity fits) = absurd cc
 unread s client context _ _ _ q room asked none (Filters number entries queue there) = absurd cc
-unread s client context _ _ _ q room asked none (Reads number other queue there) =
-    none-some queue (sym none ∙ subst (λ (k : ℕ). at s.queues k ≡ Some queue) (ap queue_read asked) there)
+unread s client context _ _ _ q room asked none (Reads number other queue there) = cc
 unread s client context _ _ _ q room asked none (Closes number queue there) = absurd cc
-unread s client context _ _ _ q room asked none (Watches id watch_id number key n queue here there is small) =
-    absurd cc
-unread s client context _ _ _ q room asked none (Unwatches id watch_id number key n queue here names there is has) =
-    absurd cc
+unread s client context _ _ _ q room asked none (Watches id watch_id number key n queue here there is small) = absurd cc
+unread s client context _ _ _ q room asked none (Unwatches id watch_id number key n queue here names there is has) = cc
 unread s client context _ _ _ q room asked none Leaves = absurd cc
 
 -- nor is anything called for of it
 ends_nothing :
     (s new : State) (client context : ℕ) (op : Op) (reply : Result Answer Errno) (q : ℕ) → IsSound s
     → Ends s client context op reply new → at s.queues q ≡ None → called q s client context op reply new.keys ≡ []
-ends_nothing s new client context op (Ok answer) q sound serves none =
-    none_called s serves.mid client context op answer new.keys q sound serves.meant none
+ends_nothing s new client context op (Ok answer) q sound serves none = grind (arith, common_steps, none_called)
 ends_nothing s new client context op (Err e) q sound ends none = refl
 
 answer_unread :

@@ -4,6 +4,7 @@ use Rattle.std.proofs.Common.{length, List, not, refl, subst, suc, sym, true, tr
 use Rattle.std.proofs.lemmas.Bool.Decides.{nat_tests}
 use Rattle.krs_model.specs.{Levels.{is_in, level, levels}, Reach.{Directly, Further, IsAcyclic, Reaches}}
 use Rattle.krs_model.proofs.Reach.Levels.{in_flat, in_left, in_one, in_right, or_true, same_is, true_or}
+use Rattle.std.proofs.lemmas.Grind.{common_steps}
 
 -- along links and then along more
 pub reaches_on : (links : ℕ → List ℕ) (a b c : ℕ) → Reaches links a b → Reaches links b c → Reaches links a c
@@ -176,8 +177,7 @@ levels_shift links heads (suc n) k h =
 pub heads_first : (links : ℕ → List ℕ) (heads : List ℕ) (n : ℕ) → AllIn heads (levels links heads (suc n))
 unfolding level levels
 heads_first links heads zero k h = h
-heads_first links heads (suc n) k h =
-    in_left k (levels links heads (suc n)) (level links heads (suc n)) (heads_first links heads n k h)
+heads_first links heads (suc n) k h = grind (arith, common_steps, in_left, heads_first links heads n k h)
 
 -- what keys of a list link is in the list
 abbrev pub IsClosed : (ℕ → List ℕ) → List ℕ → Type 0
@@ -194,8 +194,7 @@ fewer_past links a = λ j k h. (less_in a k (links j) h).0
 pub reached_in_levels :
     (n : ℕ) (links : ℕ → List ℕ) (heads ks : List ℕ) (a b : ℕ) → length ks ≤ n → is_in a ks ≡ true → IsClosed links ks
     → is_in a heads ≡ true → From links a b → is_in b (levels links heads n) ≡ true
-reached_in_levels zero links heads ks a b few there closed head reached =
-    let some : length (less a ks) < length ks = length_less a ks there in absurd (omega arith)
+reached_in_levels zero links heads ks a b few there closed head reached = grind (arith, common_steps, length_less)
 reached_in_levels (suc n) links heads ks a b few there closed head reached =
     ⊎_elim (λ (e : a ≡ b). heads_first links heads n b (subst (λ (z : ℕ). is_in z heads ≡ true) e head))
     (λ (r : Onward links a b).
@@ -212,15 +211,11 @@ reached_in_levels (suc n) links heads ks a b few there closed head reached =
 pub closed_levels :
     (links : ℕ → List ℕ) (ks : List ℕ) (a b : ℕ) → is_in a ks ≡ true → IsClosed links ks → From links a b
     → is_in b (levels links (a ∷ []) (length ks)) ≡ true
-closed_levels links ks a b there closed reached =
-    reached_in_levels (length ks) links (a ∷ []) ks a b (omega arith) there closed (rw (same_is a a refl) refl) reached
+closed_levels links ks a b there closed reached = grind (arith, common_steps, reached_in_levels, same_is)
 
 level_reached : (links : ℕ → List ℕ) (a b n : ℕ) → is_in b (level links (a ∷ []) n) ≡ true → From links a b
 unfolding level
-level_reached links a b zero h =
-    ⊎_elim (λ (e : (a == b) ≡ true). inl (grind (arith, nat_tests)))
-    (λ (no : false ≡ true). absurd (true≢false (sym no)))
-    (true_or (a == b) false h)
+level_reached links a b zero h = grind (arith, common_steps, ⊎_elim, nat_tests, true≢false, true_or)
 level_reached links a b (suc n) h =
     let r = in_flat links (level links (a ∷ []) n) b h in
     inr (one_more links a r.0 b (level_reached links a r.0 n r.1) r.2)

@@ -1,12 +1,13 @@
 -- The test of LINK for cycles says what is reached.
-use Rattle.std.proofs.Common.{[], ◌∷◌, ◌≡◌, arith, Bool, false, IsSome, length, Ok, refl, Result, subst, sym, true}
+use Rattle.std.proofs.Common.{[], ◌∷◌, ◌≡◌, arith, Bool, false, IsSome, length, Ok, refl, Result, sym, true}
 use Rattle.std.proofs.{Common.{true≢false, ℕ}, lemmas.{Bool.Decides.nat_tests, List.length-map}}
 use Rattle.std.specs.Map.{keys_of}
-use Rattle.krs_types.specs.{declared.errno.Errno.{Errno, TheVariants.{EDEADLK, ELOOP}}, Refusing.◌>>=◌}
-use Rattle.krs_model.specs.{Asks.Linked.{nestable, unless}, Levels.{is_in, levels}, Reach.{closes, has_chain}}
-use Rattle.krs_model.specs.{Reach.{links_of_key_at, nesting_depth}, Sound.AllLinked, State.Key, Table.{at, Table}}
+use Rattle.krs_types.specs.{declared.errno.Errno.{Errno, TheVariants.{EDEADLK}}, Refusing.◌>>=◌}
+use Rattle.krs_model.specs.{Asks.Linked.{nestable, unless}, Levels.{is_in}, Reach.{closes}}
+use Rattle.krs_model.specs.{Reach.{links_of_key_at}, Sound.AllLinked, State.Key, Table.{at, Table}}
 use Rattle.krs_model.proofs.Reach.{Acyclic.{closed_levels, From, IsClosed, levels_reached}, Levels.{or_true, same_is}}
 use Rattle.krs_model.proofs.Tables.Changes.{same_at}
+use Rattle.std.proofs.lemmas.Grind.{common_steps}
 
 -- a key that is there is in the list of serials
 pub there_in : (keys : Table Key) (k : ℕ) → IsSome (at keys k) → is_in k (keys_of keys) ≡ true
@@ -26,7 +27,7 @@ unfolding closes
 from_closes keys key ring linked there reached =
     let closed : IsClosed (links_of_key_at keys) (keys_of keys) = λ j k i h. there_in keys k (linked j k h) in
     let found = closed_levels (links_of_key_at keys) (keys_of keys) key ring (there_in keys key there) closed reached in
-    subst (λ (n : ℕ). is_in ring (levels (links_of_key_at keys) (key ∷ []) n) ≡ true) (length-map keys (λ e. e.0)) found
+    grind (arith, common_steps, length-map)
 
 -- a link that may be nested closes no cycle
 opens :
@@ -39,5 +40,4 @@ pub nests_opens :
     (keys : Table Key) (ring serial : ℕ) (x : Unit {0}) → nestable keys ring serial ≡ Ok x
     → closes keys serial ring ≡ false
 unfolding nestable
-nests_opens keys ring serial x h =
-    opens (closes keys serial ring) (unless (has_chain keys serial nesting_depth) ELOOP) x h
+nests_opens keys ring serial x h = grind (arith, common_steps, opens)

@@ -11,6 +11,7 @@ use Rattle.krs_model.specs.{Laws.{HasNoAnswer, in_turn, IsBefore, IsFault, IsFir
 use Rattle.krs_model.specs.{Levels.{levels, search_depth}, Possession.{attached, possessed}, Search.{entered, fault}}
 use Rattle.krs_model.specs.Search.{found, found_by, is_answer, is_denied, is_expired, is_revoked, or_next, requested}
 use Rattle.krs_model.specs.{Search.{searched, Searcher, searcher_of, sought, weightier}, State.State}
+use Rattle.std.proofs.lemmas.Grind.{common_steps}
 
 -- the weightier of two faults is that of the matches of both
 faults_join : (r e d r2 e2 d2 : Bool) → weightier (fault r e d) (fault r2 e2 d2) ≡ fault (r || r2) (e || e2) (d || d2)
@@ -80,13 +81,7 @@ first_passes : (p : ℕ → Bool) (xs : List ℕ) (k : ℕ) → find p xs ≡ So
 first_passes p [] k h = absurd (none-some k h)
 first_passes p (x ∷ xs) k h =
     elim (p x) as (λ b. p x ≡ b → cond b (Some x) (find p xs) ≡ Some k → IsFirst p (x ∷ xs) k) [
-      | true ↦ λ t e. record {
-        place = 0;
-        passes = ap p (sym (same_Some x k e))
-            ∙ t;
-        stands = e;
-        before = λ i j lt. absurd (omega arith);
-      }
+      | true ↦ grind (arith, common_steps, same_Some)
       | false ↦ λ t e. let r = first_passes p xs k e in
           record {
             place = suc r.place;
@@ -146,10 +141,7 @@ least_passes p links heads (suc n) k h =
       passes = r.passes;
       bound = omega arith;
       stands = r.stands;
-      first = λ m i j before at. ⊎_elim (λ (less : m < n). none_above p links heads n m i j here.0 less at)
-          (λ (same : (m ≡ n) × (i < r.place)). r.before i j same.1
-          (ap (λ (z : ℕ). slice_get (level links heads z) i) (sym same.0) ∙ at))
-          before;
+      first = grind (arith, common_steps, ⊎_elim, none_above, slice_get);
     })
     (option_parts (find p (levels links heads n)) (find p (level links heads n)) k
     (sym (find-append p (levels links heads n) (level links heads n)) ∙ h))

@@ -16,6 +16,7 @@ use Rattle.krs_model.proofs.Tables.Changes.{at_or_apart, at_put_other, at_put_sa
 use Rattle.krs_model.proofs.Tables.Counts.{count_on, in_with_link, IsPart, none_part, one_linked, part_in}
 use Rattle.krs_model.proofs.Tables.{Each.{every_alter, every_kept, every_map, every_put}, Rising.alter_rises}
 use Rattle.krs_model.proofs.Tables.Rising.{filter_rises, map_rises, put_rises}
+use Rattle.std.proofs.lemmas.Grind.{common_steps}
 
 -- sound but for the sweep
 pub record Stands (s : State) : Type 0 where
@@ -260,8 +261,7 @@ at_put es n k v = grind (arith, nat_tests, at_put_same, at_put_other, at_or_apar
 -- a number where something is has it still, when something is put
 pub there_put :
     {X : Type 0} (es : Table X) (n k : ℕ) (v : X) → IsSome (at es k) → IsSome (at (put es n v) k)
-there_put es n k v h =
-    ⊎_elim (λ (r : IsPut es n v k). rw r.1 refl) (λ same. subst IsSome (sym same) h) (at_put es n k v)
+there_put es n k v h = grind (arith, common_steps, ⊎_elim, at_put)
 
 pub not_there : {X : Type 0} (o : Option X) → IsSome o → o ≡ None → ⊥
 not_there None h e = true≢false (sym h)

@@ -20,6 +20,7 @@ use Rattle.krs_model.proofs.Tables.Changes.{at_alter_none, at_filter_none, at_or
 use Rattle.krs_model.proofs.Tables.{Changes.{at_without_other, below_put}, Distinct.{alter_distinct, at_filter_some}}
 use Rattle.krs_model.proofs.Tables.Distinct.{filter_distinct, has_entry, put_distinct, without_distinct}
 use Rattle.krs_model.proofs.Tables.{Each.{every_alter, every_put, mapped_is}, Entries.without_was}
+use Rattle.std.proofs.lemmas.Grind.{common_steps}
 
 each_filter_on :
     (P Q : Watch → Type 0) (p : Watch → Bool) (ws : List Watch) → ((w : Watch) → p w ≡ true → P w → Q w) → Each P ws
@@ -113,8 +114,7 @@ pub effect_orderly :
     → Effect s client context op mid answer → IsBelow s.keys 2147483648 → AreOrderly (queues_of s)
     → AreOrderly (queues_of mid)
 unfolding left
-effect_orderly s client context _ _ _ (OfKeys op new answer other comes none) few orderly =
-    subst AreOrderly (sym comes.queues) orderly
+effect_orderly s client context _ _ _ (OfKeys op new answer other comes none) few orderly = grind (arith, common_steps)
 effect_orderly s client context _ _ _ (Opens capacity fits) few orderly =
     opened_orderly (queues_of s) client capacity fits orderly
 effect_orderly s client context _ _ _ (Filters number entries queue there) few orderly =

@@ -14,6 +14,7 @@ use Rattle.krs_model.proofs.Sound.{Changes.{same_stands, Stands, sweep_stands}, 
 use Rattle.krs_model.proofs.Sound.Queues.{effect_orderly, ended_watch, posted_orderly, sweep_orderly}
 use Rattle.krs_model.proofs.Sweep.Laws.{sweep_swept}
 use Rattle.krs_model.specs.Queues as queues
+use Rattle.std.proofs.lemmas.Grind.{common_steps}
 
 posted_stands : (ps : List Post) (s : State) → Stands s → Stands (posted_in ps s)
 posted_stands ps s stands = same_stands s _ refl refl stands.attached stands.placed stands.housed stands
@@ -136,8 +137,7 @@ pub legal_keeps :
     → (start end : State) (past events : List Event) → IsSound start → P start past → IsLegal start events end
     → P end (past ++ events)
 unfolding IsLegal
-legal_keeps P step start end past [] sound known legal =
-    subst (P end) (sym (append-nil past)) (subst (λ (s : State). P s past) legal known)
+legal_keeps P step start end past [] sound known legal = grind (arith, common_steps, append-nil)
 legal_keeps P step start end past (event ∷ events) sound known legal =
     subst (P end) (append_assoc past (event ∷ []) events)
     (legal_keeps P step legal.0 end (past ++ event ∷ []) events (step_sound start legal.0 event sound legal.1)

@@ -1,10 +1,10 @@
 -- Watches by rising key, then queue.
-use Rattle.std.proofs.Common.{[], ◌∙◌, ◌∷◌, ◌≡◌, ap, arith, Bool, filter, is_eq, List, nat_cmp, refl, sym, ℕ}
+use Rattle.std.proofs.Common.{[], ◌∷◌, ◌≡◌, ap, arith, Bool, filter, is_eq, List, nat_cmp, refl, ℕ}
 use Rattle.std.proofs.lemmas.{Bool.Decides.nat_tests, Cmp.nat_cmp_total}
 use Rattle.std.specs.{declared.cmp.Ordering.TheVariants.{Equal, Greater, Less}, Ordering.match_ordering}
-use Rattle.std.specs.Ordering.{ordering_then}
 use Rattle.krs_model.specs.{Orderly.{AreRising, Each}, Queues.{place_cmp, Watch, with_watch, without_watch}}
 use Rattle.krs_model.proofs.{Notes.Fitting.{each_filter, each_on}, Tables.Changes.same_at}
+use Rattle.std.proofs.lemmas.Grind.{common_steps}
 
 abbrev IsAfter : Watch → Watch → Type 0
 IsAfter w v = place_cmp w.0 v.0 ≡ Less
@@ -34,26 +34,7 @@ same_number a b h = same_at a b (ap is_eq h)
 
 -- the order of places is one
 place_trans : (x y z : ℕ × ℕ) → place_cmp x y ≡ Less → place_cmp y z ≡ Less → place_cmp x z ≡ Less
-place_trans x y z h k =
-    let by : nat_cmp x.0 z.0 ≡ Less → place_cmp x z ≡ Less = λ e. ap (λ o. ordering_then o (nat_cmp x.1 z.1)) e in
-    elim (nat_cmp x.0 y.0) as
-    (λ a. nat_cmp x.0 y.0 ≡ a → ordering_then a (nat_cmp x.1 y.1) ≡ Less → place_cmp x z ≡ Less) [
-      | Less ↦ λ first low. elim (nat_cmp y.0 z.0) as
-          (λ b. nat_cmp y.0 z.0 ≡ b → ordering_then b (nat_cmp y.1 z.1) ≡ Less → place_cmp x z ≡ Less) [
-            | Less ↦ λ second high. by (nat_cmp_total.trans x.0 y.0 z.0 first second)
-            | Equal ↦ λ second high. by (ap (nat_cmp x.0) (sym (same_number y.0 z.0 second)) ∙ first)
-            | Greater ↦ λ second no. cc
-          ] refl k
-      | Equal ↦ λ first low. elim (nat_cmp y.0 z.0) as
-          (λ b. nat_cmp y.0 z.0 ≡ b → ordering_then b (nat_cmp y.1 z.1) ≡ Less → place_cmp x z ≡ Less) [
-            | Less ↦ λ second high. by (nat_cmp_total.congr x.0 y.0 z.0 first ∙ second)
-            | Equal ↦ λ second high.
-                ap (λ o. ordering_then o (nat_cmp x.1 z.1)) (nat_cmp_total.congr x.0 y.0 z.0 first ∙ second)
-                ∙ nat_cmp_total.trans x.1 y.1 z.1 low high
-            | Greater ↦ λ second no. cc
-          ] refl k
-      | Greater ↦ λ first no. cc
-    ] refl h
+place_trans x y z h k = grind (arith, common_steps, nat_cmp, same_number)
 
 place_flip : (x y : ℕ × ℕ) → place_cmp x y ≡ Greater → place_cmp y x ≡ Less
 place_flip x y h = grind (arith, nat_tests, nat_cmp_total)

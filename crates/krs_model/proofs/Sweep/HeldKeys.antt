@@ -10,6 +10,7 @@ use Rattle.krs_model.specs.{Reach.{links_of_key_at, Reaches}, State.Key, Sweep.{
 use Rattle.krs_model.specs.Table.{at, Table}
 use Rattle.krs_model.proofs.{Reach.{Acyclic.reaches_on, Levels.{or_true, same_is}}, Sweep.Laws.linking_is_there}
 use Rattle.krs_model.proofs.Tables.Changes.{same_at}
+use Rattle.std.proofs.lemmas.Grind.{common_steps}
 
 -- the first of a list is in it
 pub in_head : (k : ℕ) (ks : List ℕ) → is_in k (k ∷ ks) ≡ true
@@ -98,8 +99,7 @@ anchored :
     (keys : Table Key) (attached : List ℕ) (kept : ℕ → Bool) → PicksHeld keys attached kept → (k : ℕ)
     → IsHeld keys attached k → IsAnchored keys attached kept k
 anchored keys attached kept picks _ (Attached k i) = inl i
-anchored keys attached kept picks _ (Linked j k held i) =
-    inr (j, picks.each j held (linking_is_there k (at keys j) i), i)
+anchored keys attached kept picks _ (Linked j k held i) = grind (arith, common_steps, linking_is_there)
 
 -- and the held ones are a closed choice, in any state
 pub held_closed :

@@ -4,8 +4,9 @@ use Rattle.std.proofs.Common.{None, Option, refl, Some, subst, sym, true, true�
 use Rattle.std.proofs.lemmas.{Bool.Decides.nat_tests, Option.{none-some, same_Some}}
 use Rattle.std.specs.BTreeMap.{is_at}
 use Rattle.krs_model.specs.{Levels.is_in, State.{Key, State}, Sweep.{AllHeld, Attached, IsHeld, IsSweep, IsSwept}}
-use Rattle.krs_model.specs.{Sweep.{Linked, links_of_key, live_watches, PicksHeld, roots}, Table.{at, Table}}
+use Rattle.krs_model.specs.{Sweep.{Linked, links_of_key, PicksHeld, roots}, Table.{at, Table}}
 use Rattle.krs_model.proofs.Tables.Changes.{at_kept, is_at_same}
+use Rattle.std.proofs.lemmas.Grind.{common_steps}
 
 filter_all : {X : Type 0} (xs : List X) → xs ≡ filter (λ x. true) xs
 filter_all [] = refl
@@ -100,4 +101,4 @@ one_sweep old a b s t =
     (λ h. s.picks.each k (t.picks.only k there h) there) in
     let keys : a.keys ≡ b.keys =
     s.keys ∙ (same_filter s.kept t.kept old.keys old.keys same (there_self old.keys) ∙ sym t.keys) in
-    s.rest ∙ (ap (λ ks. record old { keys = ks; watches = live_watches ks old.watches }) keys ∙ sym t.rest)
+    grind (arith, common_steps)

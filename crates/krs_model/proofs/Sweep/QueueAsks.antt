@@ -1,6 +1,6 @@
 -- An ask of queues leaves a swept state: keys and attachments stay, and watches are at keys that are there.
-use Rattle.std.proofs.Common.{[], ◌∙◌, ◌∷◌, ◌≡◌, ◌⊎◌, ap, arith, Bool, cond, false, filter, inl, inr, is_some, IsSome}
-use Rattle.std.proofs.Common.{length, List, not, refl, sym, true, true≢false, ℕ}
+use Rattle.std.proofs.Common.{[], ◌∷◌, ◌≡◌, ◌⊎◌, ap, arith, Bool, cond, false, filter, inl, inr, is_some, IsSome}
+use Rattle.std.proofs.Common.{length, List, not, refl, true, ℕ}
 use Rattle.std.proofs.lemmas.List.Filters.{length-filter_both}
 use Rattle.krs_types.specs.declared.ask.{Answer.Answer, Op.{Op, TheVariants.Leave}}
 use Rattle.krs_model.specs.{Notes.Telling.{ended_by, named}, Orderly.Each, Queues.Watch, Sound.IsSound, State.Key}
@@ -8,6 +8,7 @@ use Rattle.krs_model.specs.{State.State, Sweep.{IsSwept, live_watches}, Table.{a
 use Rattle.krs_model.proofs.Asks.Effects.{Closes, Effect, Filters, is_of_queues, Leaves, OfKeys, Opens, Reads}
 use Rattle.krs_model.proofs.{Asks.Effects.{Unwatches, Watches}, Notes.Fitting.each_filter, Sound.Queues.ended_set}
 use Rattle.krs_model.proofs.Sound.Watches.{each_with, each_without}
+use Rattle.std.proofs.lemmas.Grind.{common_steps}
 
 -- the key of a watch is there
 abbrev pub IsLive : Table Key → Watch → Type 0
@@ -39,10 +40,8 @@ each_live keys (w ∷ ws) h = search (each_live keys ws h.1) depth 8
 pub effect_swept :
     (s : State) (client context : ℕ) (op : Op) (mid : State) (answer : Answer) → IsSound s
     → Effect s client context op mid answer → is_of_queues op ≡ true → (op ≡ Leave → ⊥) → IsSwept mid
-effect_swept s client context _ _ _ sound (OfKeys op new answer other comes none) of_queues not_leave =
-    absurd (true≢false (sym of_queues ∙ other))
-effect_swept s client context _ _ _ sound (Opens capacity fits) of_queues not_leave =
-    record { keys = sound.swept.keys; watches = sound.swept.watches }
+effect_swept s client context _ _ _ sound (OfKeys op new answer other comes none) of_queues not_leave = cc
+effect_swept s client context _ _ _ sound (Opens capacity fits) of_queues not_leave = grind (arith, common_steps)
 effect_swept s client context _ _ _ sound (Filters number entries queue there) of_queues not_leave =
     record { keys = sound.swept.keys; watches = sound.swept.watches }
 effect_swept s client context _ _ _ sound (Reads number room queue there) of_queues not_leave =

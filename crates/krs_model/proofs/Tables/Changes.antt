@@ -1,9 +1,10 @@
 -- Laws of tables: what is at a number after a change there.
-use Rattle.std.proofs.Common.{[], ◌+◌, ◌<◌, ◌==◌, ◌∙◌, ◌∷◌, ◌≡◌, ◌⊎◌, ap, arith, Bool, cond, false, filter, inl, inr}
+use Rattle.std.proofs.Common.{[], ◌+◌, ◌<◌, ◌==◌, ◌∙◌, ◌∷◌, ◌≡◌, ◌⊎◌, ap, arith, Bool, cond, false, filter}
 use Rattle.std.proofs.Common.{nat_cmp, None, option_map, refl, Some, subst, sym, true, ℕ}
 use Rattle.std.proofs.lemmas.{Bool.Decides.nat_tests, Map.Entries.lookup-filter-keys}
 use Rattle.std.specs.{BTreeMap.is_at, Cmp.unsigned_tied, Map.set_value}
 use Rattle.krs_model.specs.Table.{alter, at, IsBelow, map_values, put, Table, without}
+use Rattle.std.proofs.lemmas.Grind.{common_steps}
 
 -- the two tests of one number agree
 pub same_test : (q k : ℕ) → is_at (nat_cmp q) k ≡ (k == q)
@@ -38,8 +39,7 @@ at_put_other [] k q v h = rw h refl
 at_put_other (e ∷ es) k q v h = grind (arith, nat_tests, at_put_other es k q v h)
 
 pub at_put_none : {X : Type 0} (es : Table X) (k q : ℕ) (v : X) → k < q → at es q ≡ None → at (put es k v) q ≡ None
-at_put_none es k q v lt h = let apart : is_at (nat_cmp q) k ≡ false = grind (arith, nat_tests, unsigned_tied q k) in
-    at_put_other es k q v apart ∙ h
+at_put_none es k q v lt h = grind (arith, common_steps, nat_cmp, nat_tests, at_put_other)
 
 -- what is put where nothing was is taken out again
 pub without_put : {X : Type 0} (es : Table X) (k : ℕ) (v : X) → at es k ≡ None → without (put es k v) k ≡ es
@@ -111,8 +111,7 @@ at_kept kept es k = lookup-filter-keys (is_at (nat_cmp k)) kept (kept k) (λ q t
 
 -- two numbers are one, or neither is at the other
 pub at_or_apart : (q k : ℕ) → (q ≡ k) ⊎ (is_at (nat_cmp q) k ≡ false)
-at_or_apart q k = elim (is_at (nat_cmp q) k) as (λ b. is_at (nat_cmp q) k ≡ b → (q ≡ k) ⊎ (b ≡ false))
-    [ true ↦ λ t. inl (same_at q k t) | false ↦ λ t. inr refl ] refl
+at_or_apart q k = grind (arith, common_steps, nat_cmp, same_at)
 
 -- what is taken out leaves what was not there
 pub at_without_none : {X : Type 0} (es : Table X) (k q : ℕ) → at es q ≡ None → at (without es k) q ≡ None

@@ -1,22 +1,18 @@
 -- Tables in which no number stands twice.
 pub use Rattle.krs_model.proofs.Tables.Changes.{same_test}
-use Rattle.std.proofs.Common.{[], ◌==◌, ◌||◌, ◌∙◌, ◌∷◌, ◌≡◌, ap, arith, Bool, cond, false, filter, is_some, nat_cmp}
-use Rattle.std.proofs.{Common.{None, option_map, refl, Some, true, ℕ}, lemmas.Bool.Decides.nat_tests}
+use Rattle.std.proofs.Common.{[], ◌==◌, ◌∷◌, ◌≡◌, arith, Bool, cond, false, filter, is_some, nat_cmp}
+use Rattle.std.proofs.{Common.{None, option_map, refl, Some, ℕ}, lemmas.Bool.Decides.nat_tests}
 use Rattle.std.proofs.lemmas.Option.{none-some}
 use Rattle.std.specs.{BTreeMap.is_at, List.list_any}
 use Rattle.krs_model.specs.Table.{alter, at, IsDistinct, put, Table, without}
 use Rattle.krs_model.proofs.Tables.Changes.{at_alter_none, at_alter_other, at_alter_same, at_filter_none, at_or_apart}
 use Rattle.krs_model.proofs.Tables.Changes.{at_put_other, at_without_none, same_at, same_test}
+use Rattle.std.proofs.lemmas.Grind.{common_steps}
 
 -- a table has something at a number where one of its entries is of that number
 pub has_entry : {X : Type 0} (es : Table X) (q : ℕ) → is_some (at es q) ≡ list_any (λ e. e.0 == q) es
 has_entry [] q = refl
-has_entry (e ∷ es) q =
-    ap (λ b. is_some (cond b (Some e.1) (at es q))) (same_test q e.0)
-    ∙ elim (e.0 == q) as (λ b. is_some (cond b (Some e.1) (at es q)) ≡ (b || list_any (λ d. d.0 == q) es)) [
-      | true ↦ refl
-      | false ↦ has_entry es q
-    ]
+has_entry (e ∷ es) q = grind (arith, common_steps, is_some, same_test, has_entry es q)
 
 -- what is at a number after a change at that one or another
 pub at_alter :
@@ -35,11 +31,7 @@ filter_distinct p (e ∷ es) h = grind (arith, nat_tests, at_filter_none, filter
 
 pub without_distinct : {X : Type 0} (es : Table X) (k : ℕ) → IsDistinct es → IsDistinct (without es k)
 without_distinct [] k h = tt
-without_distinct (e ∷ es) k h =
-    elim (is_at (nat_cmp k) e.0) as (λ b. IsDistinct (cond b es (e ∷ without es k))) [
-      | true ↦ h.1
-      | false ↦ (at_without_none es k e.0 h.0, without_distinct es k h.1)
-    ]
+without_distinct (e ∷ es) k h = grind (arith, common_steps, nat_cmp, at_without_none, without_distinct es k h.1)
 
 -- nothing is left of a number
 pub at_without_same : {X : Type 0} (es : Table X) (k : ℕ) → IsDistinct es → at (without es k) k ≡ None

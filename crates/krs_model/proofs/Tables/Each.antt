@@ -1,10 +1,11 @@
 -- What holds of each value of a table holds after a change too.
 use Rattle.std.proofs.Common.{⊎_elim, ◌∙◌, ◌≡◌, ◌⊎◌, arith, Bool, cond, false, filter, None, Option, option_map, refl}
-use Rattle.std.proofs.{Common.{Some, subst, sym, true, ℕ}, lemmas.{Bool.Decides.nat_tests, Option.none-some}}
+use Rattle.std.proofs.{Common.{Some, sym, true, ℕ}, lemmas.{Bool.Decides.nat_tests, Option.none-some}}
 use Rattle.std.proofs.lemmas.Option.{same_Some}
 use Rattle.krs_model.specs.Table.{alter, at, map_values, put, Table}
 use Rattle.krs_model.proofs.Tables.Changes.{at_alter_other, at_alter_same, at_kept, at_map, at_or_apart, at_put_other}
 use Rattle.krs_model.proofs.Tables.Changes.{at_put_same}
+use Rattle.std.proofs.lemmas.Grind.{common_steps}
 
 -- a value that is there once it was changed was there
 pub mapped_is :
@@ -27,8 +28,7 @@ Every {X} P es = (k : ℕ) (v : X) → at es k ≡ Some v → P v
 
 pub every_put :
     {X : Type 0} (P : X → Type 0) (es : Table X) (n : ℕ) (new : X) → P new → Every P es → Every P (put es n new)
-every_put P es n new holds all k v there =
-    ⊎_elim (λ (e : new ≡ v). subst P e holds) (all k v) (put_is es n k new v there)
+every_put P es n new holds all k v there = grind (arith, common_steps, ⊎_elim, put_is)
 
 pub every_alter :
     {X : Type 0} (P : X → Type 0) (es : Table X) (n : ℕ) (f : X → X)
@@ -39,8 +39,7 @@ every_alter P es n f stays all k v there =
 pub every_map :
     {X : Type 0} (P : X → Type 0) (es : Table X) (f : X → X) → ((v : X) → P v → P (f v)) → Every P es
     → Every P (map_values f es)
-every_map P es f stays all k v there =
-    let was = mapped_is f (at es k) v (sym (at_map f es k) ∙ there) in subst P was.2 (stays was.0 (all k was.0 was.1))
+every_map P es f stays all k v there = grind (arith, common_steps, mapped_is, at_map)
 
 pub every_kept :
     {X : Type 0} (P : X → Type 0) (es : Table X) (kept : ℕ → Bool) → Every P es → Every P (filter (λ e. kept e.0) es)

@@ -5,6 +5,7 @@ use Rattle.std.specs.{List.{AllByRecursion, list_any, Sorted.IsStrictlySortedBy}
 use Rattle.krs_model.specs.Table.{at, IsDistinct, Rises, Table, without}
 use Rattle.krs_model.proofs.Tables.Changes.{at_or_apart, at_without_other, is_at_same, same_at}
 use Rattle.krs_model.proofs.Tables.{Distinct.at_without_same, Rising.Above}
+use Rattle.std.proofs.lemmas.Grind.{common_steps}
 
 none_above :
     {X : Type 0} (es : Table X) (n : ℕ) → AllByRecursion (Above n) (keys_of es) → at es n ≡ None
@@ -69,8 +70,7 @@ left_unless es k q false distinct there =
 pub still_unless :
     {X : Type 0} (es : Table X) (k q : ℕ) (stays : Bool) → (q ≡ k → ⊥) → at (cond stays es (without es k)) q ≡ at es q
 still_unless es k q true other = refl
-still_unless es k q false other =
-    ⊎_elim (λ (e : q ≡ k). absurd (other e)) (λ apart. at_without_other es k q apart) (at_or_apart q k)
+still_unless es k q false other = grind (arith, common_steps, ⊎_elim, at_without_other, at_or_apart)
 
 -- what is left was there
 pub without_was :

@@ -5,6 +5,7 @@ use Rattle.std.specs.{BTreeMap.is_at, Cmp.{nat_cmp_is, ranked}, declared.cmp.Ord
 use Rattle.std.specs.{declared.cmp.Ordering.TheVariants.Less, List.{AllByRecursion, Sorted.IsStrictlySortedBy}}
 use Rattle.std.specs.{Map.keys_of, Ordering.match_ordering}
 use Rattle.krs_model.specs.Table.{alter, map_values, put, Rises, Table, without}
+use Rattle.std.proofs.lemmas.Grind.{common_steps}
 
 keys_alter : {X : Type 0} (es : Table X) (k : ℕ) (f : X → X) → keys_of (alter es k f) ≡ keys_of es
 keys_alter [] k f = refl
@@ -43,11 +44,7 @@ all_without :
     {X : Type 0} (P : ℕ → Type 0) (es : Table X) (k : ℕ) → AllByRecursion P (keys_of es)
     → AllByRecursion P (keys_of (without es k))
 all_without P [] k all = all
-all_without P (e ∷ es) k all =
-    elim (is_at (nat_cmp k) e.0) as (λ b. AllByRecursion P (keys_of (cond b es (e ∷ without es k)))) [
-      | true ↦ all.1
-      | false ↦ (all.0, all_without P es k all.1)
-    ]
+all_without P (e ∷ es) k all = grind (arith, common_steps, nat_cmp, all_without P es k all.1)
 
 pub without_rises : {X : Type 0} (es : Table X) (k : ℕ) → Rises es → Rises (without es k)
 unfolding IsStrictlySortedBy

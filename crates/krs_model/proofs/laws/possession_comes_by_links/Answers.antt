@@ -2,6 +2,7 @@ use Rattle.std.proofs.Common.{arith, suc}
 use Rattle.krs_model.specs.{Levels.search_depth, Possession.{attached, followed_in, possessed}}
 use Rattle.krs_model.proofs.Reach.Levels.{in_level, levels_linked, of_level}
 use Rattle.krs_model.proofs.laws.possession_comes_by_links.Goals as goal
+use Rattle.std.proofs.lemmas.Grind.{common_steps}
 
 pub returns-clause-links : goal.returns-clause-links
 unfolding possessed
@@ -9,7 +10,4 @@ returns-clause-links c = λ s x k h. levels_linked (followed_in s x) (attached s
 
 pub returns-clause-levels : goal.returns-clause-levels
 unfolding possessed
-returns-clause-levels c = λ s x k. (
-  λ h. let r = in_level (followed_in s x) (attached s x) k (suc search_depth) h in (r.0, omega (arith, r.1), r.2),
-  λ r. of_level (followed_in s x) (attached s x) k r.0 (suc search_depth) (omega (arith, r.1)) r.2,
-)
+returns-clause-levels c = grind (arith, common_steps, in_level, of_level)
