@@ -225,12 +225,14 @@ static bool read_out(struct pipe *pipe) {
     return false;
 }
 
+/* One stands at the end already where there is no room for it. */
 static void hold_loss(struct pipe *pipe) {
     static const uint8_t loss[LOSS] = { 0, 0, 0, 1, LOSS };
     if (pipe->start > 0) drop_front(pipe->held, &pipe->end, pipe->start);
+    pipe->start = 0;
+    if (pipe->end + LOSS > sizeof pipe->held) return;
     memcpy(pipe->held + pipe->end, loss, LOSS);
     pipe->end += LOSS;
-    pipe->start = 0;
 }
 
 /* The old queue is read out once the new one watches. */
