@@ -303,6 +303,7 @@ static int wear(int updates) {
         long key = add("worn");
         for (int i = 0; i < PIPES; i++) wrong += (ends[i] = make_pipe(512)) < 0 || watch(key, ends[i], 7) < 0;
         for (int i = 0; i < updates; i++) {
+            usleep(20000); /* queues are polled meanwhile, and their connection is worn */
             wrong += update(key) < 0;
             for (int j = 0; j < PIPES; j++) wrong += !is_note(ends[j], UPDATED, key, 0);
         }
@@ -381,6 +382,10 @@ static int fill(void) {
     if (watch(key, end, 7) < 0) return 2;
     for (int i = 0; i < 2000; i++)
         if (update(key) < 0) return 2;
+    for (int i = 0; i < 15; i++)
+        if (watch(key, make_pipe(512), 7) < 0) return 2;
+    for (int i = 0; i < 20; i++) /* others wear the connection more than once meanwhile */
+        if (usleep(100000) < 0 || update(key) < 0) return 2;
     count(end, &updates, &losses, &others);
     bool is_later = update(key) == 0 && is_note(end, UPDATED, key, 0);
     printf("%s, %s, %d other, then %s\n", updates >= 100 && updates < 2000 ? "some" : "none or all",
