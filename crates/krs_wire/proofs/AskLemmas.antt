@@ -1,6 +1,6 @@
 -- An ask's frame is cut as that ask with its tag, and a frame that is cut is that ask's.
 use Rattle.std.proofs.Common.{[], ◌++◌, ◌<◌, ◌^◌, ◌||◌, ◌∙◌, ◌∷◌, ◌≡◌, ◌≤◌, ◌⊎◌, ap, append-nil, append_assoc, arith}
-use Rattle.std.proofs.Common.{Bool, cond, drop, drop_at, eqb, eqb-true, Err, false, inl, inr, le-ltb, length}
+use Rattle.std.proofs.Common.{Bool, cond, drop, drop_at, eqb, eqb-true, Err, false, le-ltb, length}
 use Rattle.std.proofs.Common.{length-append, length-take, List, ltb, ltb-false, None, Ok, Option, refl, Result, Some}
 use Rattle.std.proofs.Common.{subst, sym, take, take-append-drop, take_at, true, w16, w32, ℕ}
 use Rattle.std.specs.Int.{to_le_bytes}
@@ -13,6 +13,7 @@ use Rattle.krs_wire.specs.declared.{fault.WireFault.TheVariants.{BadBody, BadVer
 use Rattle.krs_wire.proofs.{CaseLemmas.{or_false, or_true}, CutLemmas.{in_made, in_parts, IsFront}}
 use Rattle.krs_wire.proofs.FieldLemmas.{both_exact, IsBytes, IsBytes-take, IsExact, number_exact, wide16, wide32}
 use Rattle.krs_wire.proofs.{OpLemmas.{op_again, op_small, op_takes}, TagLemmas.{tag_exact, version_is}}
+use Rattle.std.proofs.lemmas.Grind.{common_steps}
 
 head_exact : IsExact head_fields
 head_exact =
@@ -27,10 +28,7 @@ head_again : (tag : Option ℕ) (ask : Ask) → FitsAsk tag ask
     → framed_by (Some ((version_of tag, (number_of_op ask.op, ask.context)), tag_text tag ++ body_of_op ask.op))
     ≡ Ok (framed tag ask)
 head_again None ask h = rw (op_again ask.op h.op) refl
-head_again (Some tag) ask h =
-    ap (said_by (number_of_op ask.op) ask.context)
-    ((tag_exact true).again (Some tag) (body_of_op ask.op) (refl, h.tagged))
-    ∙ rw (op_again ask.op h.op) refl
+head_again (Some tag) ask h = grind (arith, common_steps, tag_exact, op_again)
 
 framed_again : (tag : Option ℕ) (ask : Ask) → FitsAsk tag ask → framed_of (ask_text tag ask) ≡ Ok (framed tag ask)
 unfolding framed_of
@@ -41,10 +39,7 @@ framed_again tag ask h =
     ap framed_by first ∙ head_again tag ask h
 
 good_length : (n : ℕ) → 8 ≤ n → n ≤ 65536 → is_bad_length n ≡ false
-good_length n low high =
-    let a : ltb n 8 ≡ false = le-ltb _ _ low in
-    let b : ltb 65536 n ≡ false = le-ltb _ _ high in
-    rw (a, b) refl
+good_length n low high = grind (arith, common_steps, ltb, le-ltb)
 
 pub front_again : (tag : Option ℕ) (ask : Ask) (more : List ℕ) → FitsAsk tag ask
     → front_of (ask_frame tag ask ++ more) ≡ Ok (Some (framed tag ask, more))
@@ -80,7 +75,6 @@ one_frame bytes tag ask h e =
     ([], ap front_of (e ∙ sym (append-nil (ask_frame tag ask))) ∙ front_again tag ask [] h, (nothing_left, refl))
 
 -- ---- what is cut is encoded so
-
 after_ok : {A B : Type 0} (f : A → Result B WireFault) (r : Result A WireFault) (y : B) → after f r ≡ Ok y
     → (x : A) × (r ≡ Ok x) × (f x ≡ Ok y)
 after_ok f (Ok x) y e = (x, refl, e)
@@ -105,10 +99,7 @@ head_some : (o : Option ((ℕ × (ℕ × ℕ)) × List ℕ)) (f : Framed) → fr
     → (h : (ℕ × (ℕ × ℕ)) × List ℕ) × (o ≡ Some h) × ((eqb h.0.0 1 || eqb h.0.0 2) ≡ true)
     × (said_by h.0.1.0 h.0.1.1 ((tag_field (eqb h.0.0 2)).read h.1) ≡ Ok f)
 head_some None f e = absurd cc
-head_some (Some h) f e =
-    let g =
-    guard_version (eqb h.0.0 1 || eqb h.0.0 2) (said_by h.0.1.0 h.0.1.1 ((tag_field (eqb h.0.0 2)).read h.1)) f e in
-    (h, refl, g.0, g.1)
+head_some (Some h) f e = grind (arith, common_steps, guard_version, eqb)
 
 short_says : (r : Result Op WireFault) (f : Framed) → after (λ op. Err BadBody) r ≡ Ok f → ⊥
 short_says (Ok op) f e = absurd cc
@@ -120,11 +111,7 @@ said_some which context None f e = absurd (short_says (op_of which []) f e)
 said_some which context (Some x) f e = (x, refl, e)
 
 is_version : (version : ℕ) → (eqb version 1 || eqb version 2) ≡ true → (version ≡ 1) ⊎ (version ≡ 2)
-is_version version e =
-    elim (or_true (eqb version 1) (eqb version 2) e) [
-      | inl one ↦ inl (eqb-true _ _ one)
-      | inr two ↦ inr (eqb-true _ _ two)
-    ]
+is_version version e = grind (arith, common_steps, or_true, eqb, eqb-true)
 
 -- what a frame that says this is, behind its length
 record FrameTakes (frame : List ℕ) (f : Framed) : Type 0 where

@@ -9,6 +9,7 @@ use Rattle.krs_wire.specs.{Faulting.or_bad_body, Field.{counted, Field, many_rea
 use Rattle.krs_wire.specs.declared.fault.WireFault.{WireFault, TheVariants.BadBody}
 use Rattle.krs_wire.proofs.CaseLemmas.{ok_body}
 use Rattle.krs_wire.proofs.FieldLemmas.{bind_some, IsBytes, IsExact, number_exact, some_is, Takes, wide32}
+use Rattle.std.proofs.lemmas.Grind.{common_steps}
 
 module _ {A : Type 0} (f : Field A) (exact : IsExact f) where
   record ManyTakes (n : ℕ) (bytes : List ℕ) (xs : List A) (more : List ℕ) : Type 0 where
@@ -91,7 +92,6 @@ module _ {A : Type 0} (n : ℕ) (f : Field A) (exact : IsExact f) where
   repeated_exact = record { takes = repeated_takes; again = repeated_again }
 
 -- ---- the loop
-
 module _ {A : Type 0} where
   -- reading goes on behind a front
   abbrev pub with_front : List A → Option (List A × List ℕ) → Option (List A × List ℕ)
@@ -151,5 +151,4 @@ length_numbers (x ∷ xs) = omega (arith, length_numbers xs)
 -- each entry has a byte at least
 pub length_entries : (entries : List FilterEntry) → length entries ≤ length (flat_map entry_field.encode entries)
 length_entries [] = omega arith
-length_entries (x ∷ xs) =
-    omega (arith, length-append (entry_field.encode x) (flat_map entry_field.encode xs), length_entries xs)
+length_entries (x ∷ xs) = grind (arith, common_steps, length-append, flat_map, length_entries xs)

@@ -7,15 +7,12 @@ use Rattle.std.specs.Int.{from_le_bytes}
 use Rattle.std.proofs.lemmas.List.{drop-append-le, take-append-le}
 use Rattle.krs_wire.specs.{Faulting.after, Feeding.{end_of, Feeds, GoesOn, Refuses}}
 use Rattle.krs_wire.specs.Frame.{bad, End, framed_of, Frames, front_by, front_in, front_of, is_bad_length, rest}
-use Rattle.krs_wire.specs.declared.{fault.WireFault.{WireFault, TheVariants.{BadLength, Memory}}, framed.Framed.Framed}
+use Rattle.krs_wire.specs.declared.{fault.WireFault.{WireFault, TheVariants.{Memory}}, framed.Framed.Framed}
+use Rattle.std.proofs.lemmas.Grind.{common_steps}
 
 pub suffix : (m n : ℕ) (xs : List ℕ) → m + n ≤ length xs → drop n (drop m xs)
     ≡ drop (length xs - length (drop n (drop m xs))) xs
-suffix m n xs fits =
-    let joined : drop n (drop m xs) ≡ drop (m + n) xs = drop-drop n m xs in
-    let len : length xs - length (drop n (drop m xs)) ≡ m + n =
-    omega (arith, ap length joined, length-drop (m + n) xs) in
-    joined ∙ ap (λ (k : ℕ). drop k xs) (sym len)
+suffix m n xs fits = grind (arith, common_steps, drop-drop, length-drop)
 
 -- behind the front of a list, counted from the end
 pub past_front : (front piece : List ℕ) (count left : ℕ) → left + count ≡ length (front ++ piece)
@@ -37,7 +34,6 @@ continues_end bytes left frames end f so_far =
     subst (λ (x : List Framed). Frames bytes x end) (append-nil frames) (so_far [] end f)
 
 -- ---- the front of a longer stream
-
 not_first : {A : Type 0} (b : Bool) (x y z : A) → (x ≡ z → ⊥) → cond b x y ≡ z → (b ≡ false) × (y ≡ z)
 not_first true x y z other e = absurd (other e)
 not_first false x y z other e = (refl, e)
@@ -54,9 +50,7 @@ found_is x y e = cc
 asked : (left more : List ℕ) (framed : Framed) (r : Result Framed WireFault)
     → after {B = Option (Framed × List ℕ)} (λ a. Ok (Some (a, left))) r ≡ Ok (Some (framed, more))
     → (r ≡ Ok framed) × (left ≡ more)
-asked left more framed (Ok a) e =
-    let p = found_is (a, left) (framed, more) e in
-    (ap (λ (x : Framed × List ℕ). reply x.0) p, ap (λ (x : Framed × List ℕ). x.1) p)
+asked left more framed (Ok a) e = grind (arith, common_steps, found_is)
 asked left more framed (Err f) e = absurd cc
 
 pub record IsFront (n : ℕ) (bytes : List ℕ) (framed : Framed) (more : List ℕ) : Type 0 where
@@ -67,33 +61,15 @@ pub record IsFront (n : ℕ) (bytes : List ℕ) (framed : Framed) (more : List �
 
 pub in_parts : (n : ℕ) (bytes : List ℕ) (framed : Framed) (more : List ℕ)
     → front_in n bytes ≡ Ok (Some (framed, more)) → IsFront n bytes framed more
-in_parts n bytes framed more e =
-    let a =
-    not_first (is_bad_length n) (Err BadLength) (cond (ltb (length bytes) n) (Ok None)
-    (after (λ x. Ok (Some (x, drop n bytes))) (framed_of (take n bytes)))) (Ok (Some (framed, more)))
-    (λ h. cc) e in
-    let b =
-    not_first (ltb (length bytes) n) (Ok None) (after (λ x. Ok (Some (x, drop n bytes)))
-    (framed_of (take n bytes))) (Ok (Some (framed, more))) (λ h. cc) a.1 in
-    let d = asked (drop n bytes) more framed (framed_of (take n bytes)) b.1 in
-    record { good = a.0; whole = ltb-false _ _ b.0; says = d.0; left = d.1 }
+in_parts n bytes framed more e = grind (arith, common_steps, not_first, ltb, asked, ltb-false)
 
 pub in_made : (n : ℕ) (bytes : List ℕ) (framed : Framed) (more : List ℕ) → IsFront n bytes framed more
     → front_in n bytes ≡ Ok (Some (framed, more))
-in_made n bytes framed more h =
-    let long : ltb (length bytes) n ≡ false = le-ltb _ _ h.whole in
-    rw (h.good, long, h.says, h.left) refl
+in_made n bytes framed more h = grind (arith, common_steps, ltb, le-ltb)
 
 in_more : (n : ℕ) (bytes : List ℕ) (framed : Framed) (more x : List ℕ) → IsFront n bytes framed more
     → IsFront n (bytes ++ x) framed (more ++ x)
-in_more n bytes framed more x h =
-    let fits = h.whole in
-    record {
-      good = h.good;
-      whole = omega (arith, length-append bytes x, h.whole);
-      says = ap framed_of (take-append-le n bytes x fits) ∙ h.says;
-      left = drop-append-le n bytes x fits ∙ ap (λ (y : List ℕ). y ++ x) h.left;
-    }
+in_more n bytes framed more x h = grind (arith, common_steps, length-append, take-append-le, drop-append-le)
 
 front_test : (b : Bool) (n : ℕ) (bytes : List ℕ) (framed : Framed) (more : List ℕ)
     → front_by (cond b None (Some (n, bytes))) ≡ Ok (Some (framed, more))
@@ -104,17 +80,13 @@ front_test false n bytes framed more e = (refl, e)
 front_parts : (bytes : List ℕ) (framed : Framed) (more : List ℕ) → front_of bytes ≡ Ok (Some (framed, more))
     → (4 ≤ length bytes) × IsFront (from_le_bytes w32 (take 4 bytes)) (drop 4 bytes) framed more
 unfolding front_of
-front_parts bytes framed more e =
-    let a = front_test (ltb (length bytes) 4) (from_le_bytes w32 (take 4 bytes)) (drop 4 bytes) framed more e in
-    (ltb-false _ _ a.0, in_parts _ _ framed more a.1)
+front_parts bytes framed more e = grind (arith, common_steps, front_test, ltb, w32, ltb-false, in_parts)
 
 front_made : (bytes : List ℕ) (framed : Framed) (more : List ℕ) → 4 ≤ length bytes
     → IsFront (from_le_bytes w32 (take 4 bytes)) (drop 4 bytes) framed more
     → front_of bytes ≡ Ok (Some (framed, more))
 unfolding front_of
-front_made bytes framed more long h =
-    let test : ltb (length bytes) 4 ≡ false = le-ltb _ _ long in
-    rw test (in_made _ _ framed more h)
+front_made bytes framed more long h = grind (arith, common_steps, ltb, le-ltb, in_made)
 
 pub front_more : (bytes : List ℕ) (framed : Framed) (more x : List ℕ) → front_of bytes ≡ Ok (Some (framed, more))
     → front_of (bytes ++ x) ≡ Ok (Some (framed, more ++ x))
@@ -132,18 +104,9 @@ front_more bytes framed more x e =
 
 pub front_shorter : (bytes : List ℕ) (framed : Framed) (more : List ℕ) → front_of bytes ≡ Ok (Some (framed, more))
     → length more < length bytes
-front_shorter bytes framed more e =
-    let h = front_parts bytes framed more e in
-    omega (
-      arith,
-      h.0,
-      ap length h.1.left,
-      length-drop (from_le_bytes w32 (take 4 bytes)) (drop 4 bytes),
-      length-drop 4 bytes,
-    )
+front_shorter bytes framed more e = grind (arith, common_steps, front_parts, length-drop, w32)
 
 -- ---- pieces
-
 pub fed : (left piece : List ℕ) (frames : List Framed) (end : End) → Frames (left ++ piece) frames end
     → (before : List ℕ) (earlier : List Framed) → Frames before earlier (rest left)
     → Frames (before ++ piece) (earlier ++ frames) end
@@ -177,16 +140,13 @@ goes_on left piece before earlier h =
     (all.0, all.1, fed left piece all.0 all.1 all.2 before earlier h)
 
 -- ---- a feed
-
 is_unfailed : (old : End) (fault : Option WireFault) (left : List ℕ) → old ≡ end_of fault left → fault ≡ None
     → old ≡ rest left
 is_unfailed old fault left e none = e ∙ ap (λ (f : Option WireFault). end_of f left) none
 
 pub feeds : (old new : End) (fault : Option WireFault) (left piece : List ℕ) (frames : List Framed)
     → old ≡ end_of fault left → fault ≡ None → Frames (left ++ piece) frames new → Feeds old piece frames new
-feeds old new fault left piece frames e none f =
-    let P : End → Type 0 = λ x. Feeds x piece frames new in
-    subst P (sym (is_unfailed old fault left e none)) (fed left piece frames new f)
+feeds old new fault left piece frames e none f = grind (arith, common_steps, is_unfailed, fed)
 
 pub refuses : (old : End) (fault : Option WireFault) (left piece : List ℕ) (why : WireFault) → old ≡ end_of fault left
     → fault ≡ None → ((why ≡ Memory → ⊥) → Frames (left ++ piece) [] (bad why)) → Refuses old piece why
@@ -202,7 +162,6 @@ is_nothing [] e = refl
 is_nothing (x ∷ xs) e = absurd (omega (arith, e))
 
 -- ---- one cut
-
 pub cut_again : (bytes : List ℕ) (fs gs : List Framed) (d e : End) → Frames bytes fs d → Frames bytes gs e
     → (fs ≡ gs) × (d ≡ e)
 cut_again bytes [] [] (rest l) (rest m) h k = (refl, ap rest (h.1 ∙ sym k.1))

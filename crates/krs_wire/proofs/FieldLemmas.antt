@@ -1,7 +1,7 @@
 -- Each field is exact: what is read is encoded so, and what is encoded is read.
 use Rattle.std.proofs.Common.{[], ◌++◌, ◌+◌, ◌<◌, ◌^◌, ◌∙◌, ◌∷◌, ◌≡◌, ◌≤◌, ap, append-nil, append_assoc, arith, Bool}
 use Rattle.std.proofs.Common.{cond, drop, drop_at, eqb, eqb-true, false, FitsSigned, get_or, get_or-drop, get_or-take}
-use Rattle.std.proofs.Common.{inl, inr, le-ltb, length, length-append, length-take, List, ltb, ltb-false, None, Option}
+use Rattle.std.proofs.Common.{le-ltb, length, length-append, length-take, List, ltb, ltb-false, None, Option}
 use Rattle.std.proofs.Common.{option_and_then, refl, Some, subst, suc, sym, take, take-append-drop, take_at, true, w16}
 use Rattle.std.proofs.Common.{w32, w64, ℕ, ℤ}
 use Rattle.std.specs.Int.{byte_len, cast_signed, cast_unsigned, from_le_bytes, to_le_bytes, Width}
@@ -10,6 +10,7 @@ use Rattle.std.proofs.lemmas.{Bool.cases_lt, Int.{of_z-to_z, to_z-of_z}, List.{g
 use Rattle.std.proofs.lemmas.Nat.{from_le_bytes-to_le_bytes_2, from_le_bytes-to_le_bytes_4, from_le_bytes-to_le_bytes_8}
 use Rattle.std.proofs.lemmas.Nat.{le_bytes_2, le_bytes_4, le_bytes_8}
 use Rattle.krs_wire.specs.Field.{both, built, Field, flag, nothing, number, signed, sized, whole}
+use Rattle.std.proofs.lemmas.Grind.{common_steps}
 
 abbrev pub IsBytes : List ℕ → Type 0
 IsBytes bytes = (i : ℕ) → get_or bytes i 0 < 256
@@ -18,11 +19,7 @@ IsBytes-drop : (n : ℕ) (bytes : List ℕ) → IsBytes bytes → IsBytes (drop 
 IsBytes-drop n bytes h i = rw get_or-drop (h (n + i))
 
 pub IsBytes-take : (n : ℕ) (bytes : List ℕ) → IsBytes bytes → IsBytes (take n bytes)
-IsBytes-take n bytes h i =
-    elim (cases_lt i n) [
-      | inl lt ↦ rw (get_or-take n bytes i 0 lt) (h i)
-      | inr le ↦ rw (get_or_past (take n bytes) i 0 (omega (arith, length-take n bytes))) (omega arith)
-    ]
+IsBytes-take n bytes h i = grind (arith, common_steps, cases_lt, get_or-take, get_or_past, length-take)
 
 -- what a field took from the front
 pub record Takes {A : Type 0} (f : Field A) (bytes : List ℕ) (x : A) (more : List ℕ) : Type 0 where
@@ -53,7 +50,6 @@ pub some_is : {A : Type 0} (x y : A) → done x ≡ done y → x ≡ y
 some_is x y e = cc
 
 -- ---- numbers
-
 pub record IsWide (w : Width) : Type 0 where
   pub len : (n : ℕ) → length (to_le_bytes w n) ≡ byte_len w
   pub back : (bytes : List ℕ) → length bytes ≡ byte_len w → IsBytes bytes
@@ -62,12 +58,7 @@ pub record IsWide (w : Width) : Type 0 where
   pub below : (bytes : List ℕ) → IsBytes bytes → from_le_bytes w bytes < 256 ^ byte_len w
 
 pub wide16 : IsWide w16
-wide16 = record {
-  len = λ n. refl;
-  back = λ bytes len fits. le_bytes_2 bytes _ len fits refl;
-  again = λ n lt. from_le_bytes-to_le_bytes_2 n lt;
-  below = λ bytes fits. omega (arith, fits 0, fits 1);
-}
+wide16 = grind (arith, common_steps, le_bytes_2, from_le_bytes-to_le_bytes_2)
 
 pub wide32 : IsWide w32
 wide32 = record {
@@ -117,22 +108,12 @@ number_takes w wide bytes n more fits e =
 
 number_again : (w : Width) → IsWide w → (n : ℕ) (more : List ℕ) → n < 256 ^ byte_len w
     → (number w).read (to_le_bytes w n ++ more) ≡ Some (n, more)
-number_again w wide n more lt =
-    let len = wide.len n in
-    let long : ltb (length (to_le_bytes w n ++ more)) (byte_len w) ≡ false =
-    le-ltb _ _ (omega (arith, length-append (to_le_bytes w n) more)) in
-    rw (
-      long,
-      take_at (to_le_bytes w n) more (byte_len w) len,
-      drop_at (to_le_bytes w n) more (byte_len w) len,
-      wide.again n lt,
-    ) refl
+number_again w wide n more lt = grind (arith, common_steps, ltb, le-ltb, length-append, take_at, drop_at)
 
 pub number_exact : (w : Width) → IsWide w → IsExact (number w)
 number_exact w wide = record { takes = number_takes w wide; again = number_again w wide }
 
 -- ---- signed numbers
-
 signed_takes : (bytes : List ℕ) (z : ℤ) (more : List ℕ) → IsBytes bytes → (signed w32).read bytes ≡ Some (z, more)
     → Takes (signed w32) bytes z more
 signed_takes bytes z more fits e =
@@ -159,7 +140,6 @@ pub signed_exact : IsExact (signed w32)
 signed_exact = record { takes = signed_takes; again = signed_again }
 
 -- ---- bytes behind their length
-
 sized_takes : (w : Width) → IsWide w → (bytes text more : List ℕ) → IsBytes bytes
     → (sized w).read bytes ≡ Some (text, more) → Takes (sized w) bytes text more
 sized_takes w wide bytes text more fits e =
@@ -200,7 +180,6 @@ pub sized_exact : (w : Width) → IsWide w → IsExact (sized w)
 sized_exact w wide = record { takes = sized_takes w wide; again = sized_again w wide }
 
 -- ---- flags
-
 abbrev no_flag : Option (Bool × List ℕ)
 no_flag = None
 
@@ -212,12 +191,8 @@ FlagTaken n bytes flagged = (n ∷ bytes ≡ flag.encode flagged.0 ++ flagged.1)
 flag_some : (n : ℕ) (bytes : List ℕ) (is_no is_yes b : Bool) (more : List ℕ)
     → cond is_no (Some (false, bytes)) (cond is_yes (Some (true, bytes)) no_flag) ≡ Some (b, more)
     → eqb n 0 ≡ is_no → eqb n 1 ≡ is_yes → FlagTaken n bytes (b, more)
-flag_some n bytes true is_yes b more e zero one =
-    let byte : n ∷ bytes ≡ 0 ∷ bytes = ap (λ (k : ℕ). k ∷ bytes) (eqb-true _ _ zero) in
-    subst (FlagTaken n bytes) (some_is (false, bytes) (b, more) e) (byte, refl)
-flag_some n bytes false true b more e zero one =
-    let byte : n ∷ bytes ≡ 1 ∷ bytes = ap (λ (k : ℕ). k ∷ bytes) (eqb-true _ _ one) in
-    subst (FlagTaken n bytes) (some_is (true, bytes) (b, more) e) (byte, refl)
+flag_some n bytes true is_yes b more e zero one = grind (arith, common_steps, eqb-true, some_is)
+flag_some n bytes false true b more e zero one = grind (arith, common_steps, eqb-true, some_is)
 flag_some n bytes false false b more e zero one = absurd cc
 
 flag_takes : (bytes : List ℕ) (b : Bool) (more : List ℕ) → IsBytes bytes → flag.read bytes ≡ Some (b, more)
@@ -235,15 +210,8 @@ pub flag_exact : IsExact flag
 flag_exact = record { takes = flag_takes; again = λ b more h. flag_again b more }
 
 -- ---- fields together
-
 pub nothing_exact : IsExact nothing
-nothing_exact = record {
-  takes = λ bytes x more fits e.
-      let p = some_is (tt, bytes) (x, more) e in
-      let q : bytes ≡ more = ap (λ (y : Unit {0} × List ℕ). y.1) p in
-      record { parts = q; fits = tt; more_fits = subst IsBytes q fits };
-  again = λ x more h. refl;
-}
+nothing_exact = grind (arith, common_steps, some_is)
 
 module _ {A B : Type 0} (f : Field A) (g : Field B) (exact_f : IsExact f) (exact_g : IsExact g) where
   both_takes : (bytes : List ℕ) (x : A × B) (more : List ℕ) → IsBytes bytes → (both f g).read bytes ≡ Some (x, more)
@@ -275,7 +243,6 @@ module _ {A B : Type 0} (f : Field A) (g : Field B) (exact_f : IsExact f) (exact
   both_exact = record { takes = both_takes; again = both_again }
 
 -- ---- a value by its parts
-
 module _ {A B : Type 0} (f : Field A) (make : A → B) (parts_of : B → A) (exact : IsExact f)
     (parts_again : (a : A) → parts_of (make a) ≡ a) (made_again : (b : B) → make (parts_of b) ≡ b) where
   built_takes : (bytes : List ℕ) (x : B) (more : List ℕ) → IsBytes bytes
@@ -302,7 +269,6 @@ module _ {A B : Type 0} (f : Field A) (make : A → B) (parts_of : B → A) (exa
   built_exact = record { takes = built_takes; again = built_again }
 
 -- ---- all of the bytes
-
 guard_none : {A : Type 0} (b : Bool) (x y : A) → cond b (Some x) None ≡ Some y → (b ≡ true) × (x ≡ y)
 guard_none true x y e = (refl, cc)
 guard_none false x y e = absurd cc

@@ -6,7 +6,7 @@ use Rattle.krs_types.specs.declared.ask.Op.{Op, TheVariants.{GetId, Thread}}
 use Rattle.krs_wire.specs.Bodies.{a_blob, a_caller, a_filter, a_flag, a_number, a_text, an_id, body_of_op, caller_field}
 use Rattle.krs_wire.specs.Bodies.{caller_of, caller_parts, entry_field, entry_of, entry_parts, field_of, fields_of}
 use Rattle.krs_wire.specs.Bodies.{FitsOp, Form, groups_field, number_of_op, Of, Parts}
-use Rattle.krs_wire.specs.{Faulting.or_bad_body, Field.{both, counted, number, repeated, whole}}
+use Rattle.krs_wire.specs.{Faulting.or_bad_body, Field.{both, number, repeated, whole}}
 use Rattle.krs_wire.specs.Frame.{by, op_of, read_by, Reading, readings}
 use Rattle.krs_wire.proofs.CaseLemmas.{chosen, ok_body}
 use Rattle.krs_wire.proofs.{CountLemmas.{counted_exact, repeated_exact}, FieldLemmas.both_exact}

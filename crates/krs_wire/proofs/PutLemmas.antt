@@ -7,20 +7,19 @@ use Rattle.std.proofs.lemmas.List.{flat_map_more, take_more}
 use Rattle.krs_types.specs.Rows.{Value}
 use Rattle.krs_wire.specs.{Bodies.{encoded, size_of, written}, Encoding.IsTooLong, Field.Field}
 use Rattle.krs_wire.specs.declared.fault.WireFault.{WireFault, TheVariants.{BadLength, Memory}}
+use Rattle.std.proofs.lemmas.Grind.{common_steps}
 
 -- the next bytes stand behind all that were put before them
 pub then_put : {T E : Type 0} (r : Result T E) (out front next mid new : List ℕ)
     → mid ≡ out ++ front → OnOk r (new ≡ mid ++ next) → OnOk r (new ≡ out ++ (front ++ next))
-then_put (Ok x) out front next mid new before put =
-    put ∙ ap (λ (bytes : List ℕ). bytes ++ next) before ∙ append_assoc out front next
+then_put (Ok x) out front next mid new before put = grind (arith, common_steps, append_assoc)
 then_put (Err x) out front next mid new before put = tt
 
 -- what is too long is too long behind other bytes
 pub long_behind : {T : Type 0} (r : Result T WireFault) (least : ℕ) (front next : List ℕ)
     → IfErr r (IsTooLong least next) → IfErr r (IsTooLong least (front ++ next))
 long_behind (Ok x) least front next long = tt
-long_behind (Err fault) least front next long =
-    λ other. ((long other).0, omega (arith, length-append front next, (long other).1))
+long_behind (Err fault) least front next long = grind (arith, common_steps, length-append)
 
 all_one : {A : Type 0} (P : A → Type 0) (xs : List A) (x : A) → AllByRecursion P xs → P x
     → AllByRecursion P (xs ++ x ∷ [])
@@ -53,7 +52,6 @@ module _ {A : Type 0} (f : Field A) (xs : List A) (i : ℕ) (d : A) (low : i < l
       (all_one f.Fits (take i xs) (get_or xs i d) all last)
 
 -- ---- the fields of a row
-
 -- what is put field by field stands behind the bytes before it
 fields_put : (out : List ℕ) (vs : List Value) → written out vs ≡ out ++ flat_map encoded vs
 fields_put out [] = sym (append-nil out)

@@ -4,10 +4,10 @@ use Rattle.std.proofs.Common.{eqb, eqb-true, Err, false, find, inl, inr, is_some
 use Rattle.std.proofs.Common.{length-take, List, ltb, ltb-false, None, Ok, Option, option_and_then, option_map, refl}
 use Rattle.std.proofs.Common.{Result, Some, subst, sym, take, take-append-drop, take_at, true, w32, ℕ}
 use Rattle.std.specs.Int.{to_le_bytes}
-use Rattle.krs_types.specs.Errno.{errnos, number_of}
+use Rattle.krs_types.specs.Errno.{number_of}
 use Rattle.krs_types.specs.declared.ask.Answer.{Answer, TheVariants.{Bytes, Nothing, Number}}
 use Rattle.krs_types.specs.declared.{errno.Errno.{Errno, TheVariants.EPERM}, shape.Shape.Shape}
-use Rattle.krs_wire.specs.{Faulting.{after, GivesRead, or_bad_body}, Field.{nothing, number, whole}}
+use Rattle.krs_wire.specs.{Faulting.{after, GivesRead}, Field.{number, whole}}
 use Rattle.krs_wire.specs.Reply.{accepted, answer_of, body_of, errno_of, error_of, Finds, Found, HasShape}
 use Rattle.krs_wire.specs.Reply.{is_bad_reply_length, IsAtFront, IsFound, refused, reply_by, reply_frame, reply_front}
 use Rattle.krs_wire.specs.{Reply.{reply_in, reply_of, status_fields, status_of}, Tag.{tag_field, tag_size, tag_text}}
@@ -16,6 +16,7 @@ use Rattle.krs_wire.proofs.CaseLemmas.{chosen, ok_body, or_false}
 use Rattle.krs_wire.proofs.FieldLemmas.{both_exact, IsBytes, IsBytes-take, IsExact, nothing_exact, number_exact}
 use Rattle.krs_wire.proofs.{FieldLemmas.{whole_again, whole_takes, wide32}, TagLemmas.{tag_exact, tag_length}}
 use Rattle.krs_types.specs.declared.shape.Shape.TheVariants as shapes
+use Rattle.std.proofs.lemmas.Grind.{common_steps}
 
 -- each error is found by its number
 error_again : (shape : Shape) (e : Errno) → reply_of shape (number_of e) [] ≡ Ok (refused e)
@@ -30,8 +31,7 @@ by_again : (shape : Shape) (reply : Result Answer Errno) → HasShape shape repl
     → reply_of shape (status_of reply) (body_of reply) ≡ Ok reply
 by_again shape (Err e) h = error_again shape e
 by_again shapes.Nothing (Ok Nothing) h = refl
-by_again shapes.Number (Ok (Number n)) h =
-    ap or_bad_body (whole_again (number w32) (number_exact w32 wide32) (λ k. accepted (Number k)) n h)
+by_again shapes.Number (Ok (Number n)) h = grind (arith, common_steps, whole_again, w32, number_exact, wide32)
 by_again shapes.Bytes (Ok (Bytes bytes)) h = refl
 by_again shapes.Nothing (Ok (Number n)) h = absurd h
 by_again shapes.Nothing (Ok (Bytes bytes)) h = absurd h
@@ -66,13 +66,7 @@ text_of tag status body = (to_le_bytes w32 status ++ tag_text tag) ++ body
 
 text_length : (is_tagged : Bool) (tag : Option ℕ) (status : ℕ) (body : List ℕ) → is_some tag ≡ is_tagged
     → length (text_of tag status body) ≡ 4 + tag_size is_tagged + length body
-text_length is_tagged tag status body has =
-    omega (
-      arith,
-      length-append (to_le_bytes w32 status ++ tag_text tag) body,
-      length-append (to_le_bytes w32 status) (tag_text tag),
-      tag_length is_tagged tag has,
-    )
+text_length is_tagged tag status body has = grind (arith, common_steps, length-append, w32, tag_length)
 
 size_small : (is_tagged : Bool) → tag_size is_tagged ≤ 8
 size_small true = omega arith
@@ -100,10 +94,7 @@ sized_reply n x = Ok (Some (x.0, x.1, 4 + n))
 
 is_good_length : (is_tagged : Bool) (n : ℕ) → 4 + tag_size is_tagged ≤ n → n ≤ 262144 + tag_size is_tagged
     → is_bad_reply_length is_tagged n ≡ false
-is_good_length is_tagged n low high =
-    let a : ltb n (4 + tag_size is_tagged) ≡ false = le-ltb _ _ low in
-    let b : ltb (262144 + tag_size is_tagged) n ≡ false = le-ltb _ _ high in
-    rw (a, b) refl
+is_good_length is_tagged n low high = grind (arith, common_steps, ltb, le-ltb)
 
 in_again : (is_tagged : Bool) (shape : Shape) (n : ℕ) (text more : List ℕ) (status : ℕ) (tag : Option ℕ) (body : List ℕ)
     (reply : Result Answer Errno) → length text ≡ n → is_bad_reply_length is_tagged n ≡ false
@@ -111,13 +102,7 @@ in_again : (is_tagged : Bool) (shape : Shape) (n : ℕ) (text more : List ℕ) (
     → reply_in is_tagged shape (Some (n, text ++ more)) ≡ whole_reply (reply, tag, 4 + n)
 unfolding reply_in
 in_again is_tagged shape n text more status tag body reply len good read says =
-    let long : ltb (length (text ++ more)) n ≡ false = le-ltb _ _ (omega (arith, length-append text more, len)) in
-    rw (good, long) (
-    ap (λ (x : List ℕ). after (sized_reply n) (reply_by shape ((status_fields is_tagged).read x)))
-    (take_at text more n len)
-    ∙ ap (λ (o : Option ((ℕ × Option ℕ) × List ℕ)). after (sized_reply n) (reply_by shape o)) read
-    ∙ ap (λ (r : Result (Result Answer Errno) WireFault). after (sized_reply n) (after (λ x. said (x, tag)) r)) says
-    )
+    grind (arith, common_steps, ltb, le-ltb, length-append, take_at)
 
 pub reply_again : (is_tagged : Bool) (shape : Shape) (reply : Result Answer Errno) (tag : Option ℕ) (more : List ℕ)
     → HasShape shape reply → (tag_field is_tagged).Fits tag
@@ -140,7 +125,6 @@ reply_again is_tagged shape reply tag more h fits =
     ∙ ap (λ (k : ℕ). whole_reply (reply, tag, k)) (sym all)
 
 -- ---- what is read is encoded so
-
 abbrev given : Result Answer Errno → Result (Result Answer Errno) WireFault
 given r = Ok r
 
@@ -154,13 +138,7 @@ record ByTakes (shape : Shape) (status : ℕ) (body : List ℕ) (reply : Result 
 
 answer_takes : (shape : Shape) (body : List ℕ) (reply : Result Answer Errno) → IsBytes body → length body ≤ 262140
     → answer_of shape body ≡ Ok reply → ByTakes shape 0 body reply
-answer_takes shapes.Nothing body reply bytes small e =
-    let t =
-    whole_takes nothing nothing_exact (λ x. accepted Nothing) body reply bytes
-    (ok_body (whole nothing (λ x. accepted Nothing) body) reply e) in
-    let made : ByTakes shapes.Nothing 0 body (accepted Nothing) =
-    record { status-is = refl; body-is = t.1; has = tt } in
-    subst (λ (r : Result Answer Errno). ByTakes shapes.Nothing 0 body r) t.3 made
+answer_takes shapes.Nothing body reply bytes small e = grind (arith, common_steps, whole_takes, nothing_exact, ok_body)
 answer_takes shapes.Number body reply bytes small e =
     let t =
     whole_takes (number w32) (number_exact w32 wide32) (λ k. accepted (Number k)) body reply bytes
@@ -168,10 +146,7 @@ answer_takes shapes.Number body reply bytes small e =
     let made : ByTakes shapes.Number 0 body (accepted (Number t.0)) =
     record { status-is = refl; body-is = t.1; has = t.2 } in
     subst (λ (r : Result Answer Errno). ByTakes shapes.Number 0 body r) t.3 made
-answer_takes shapes.Bytes body reply bytes small e =
-    let made : ByTakes shapes.Bytes 0 body (accepted (Bytes body)) =
-    record { status-is = refl; body-is = refl; has = small } in
-    subst (λ (r : Result Answer Errno). ByTakes shapes.Bytes 0 body r) (given_is (accepted (Bytes body)) reply e) made
+answer_takes shapes.Bytes body reply bytes small e = grind (arith, common_steps, given_is)
 
 same_some : {X : Type 0} (a b : X) → Some a ≡ Some b → a ≡ b
 same_some a b h = cc
@@ -189,15 +164,7 @@ error_takes : (shape : Shape) (status : ℕ) (body : List ℕ) (o : Option Errno
     → IsBytes body → errno_of status ≡ o → error_of o body ≡ Ok reply → ByTakes shape status body reply
 error_takes shape status body None reply bytes number e = absurd cc
 error_takes shape status body (Some d) reply bytes numbered e =
-    let t =
-    whole_takes nothing nothing_exact (λ x. refused d) body reply bytes
-    (ok_body (whole nothing (λ x. refused d) body) reply e) in
-    let made : ByTakes shape status body (refused d) =
-    record { status-is = number_is status d numbered; body-is = t.1; has = tt } in
-    subst (λ (r : Result Answer Errno). ByTakes shape status body r) t.3 made
-  where
-    number_is : (n : ℕ) (d : Errno) → errno_of n ≡ Some d → n ≡ number_of d
-    number_is n d h = sym (eqb-true _ _ (find_passes (λ (e : Errno). eqb (number_of e) n) errnos d h))
+    grind (arith, common_steps, whole_takes, nothing_exact, ok_body, eqb-true, find_passes, eqb)
 
 by_takes : (shape : Shape) (status : ℕ) (body : List ℕ) (reply : Result Answer Errno) → IsBytes body
     → length body ≤ 262140 → reply_of shape status body ≡ Ok reply → ByTakes shape status body reply
@@ -210,8 +177,7 @@ by_takes shape status body reply bytes small e =
 
 after_reply : (r : Result (Result Answer Errno) WireFault) (tag : Option ℕ) (x : Said)
     → after (λ reply. said (reply, tag)) r ≡ Ok x → (r ≡ Ok x.0) × (tag ≡ x.1)
-after_reply (Ok reply) tag x e =
-    let p = said_is (reply, tag) x e in (ap (λ (y : Said). given y.0) p, ap (λ (y : Said). y.1) p)
+after_reply (Ok reply) tag x e = grind (arith, common_steps, said_is)
 after_reply (Err fault) tag x e = absurd cc
 
 status_some : (shape : Shape) (o : Option ((ℕ × Option ℕ) × List ℕ)) (x : Said) → reply_by shape o ≡ Ok x
@@ -232,9 +198,7 @@ not_first false x y z other e = (refl, e)
 
 after_whole : (r : Result Said WireFault) (n : ℕ) (found : Found) → after (sized_reply n) r ≡ whole_reply found
     → (r ≡ said (found.0, found.1)) × (4 + n ≡ found.2)
-after_whole (Ok a) n found e =
-    let p = whole_reply_is (a.0, a.1, 4 + n) found e in
-    (ap (λ (x : Found). said (x.0, x.1)) p, ap (λ (x : Found). x.2) p)
+after_whole (Ok a) n found e = grind (arith, common_steps, whole_reply_is)
 after_whole (Err f) n found e = absurd cc
 
 in_some : (is_tagged : Bool) (shape : Shape) (o : Option (ℕ × List ℕ)) (found : Found)
@@ -305,7 +269,6 @@ reply_takes is_tagged shape bytes found fits e =
     }
 
 -- ---- what the decoder answers
-
 -- what is found in frames without a tag has none
 pub found_untagged : (shape : Shape) (bytes : List ℕ) (found : Found) → IsBytes bytes
     → reply_front false shape bytes ≡ Ok (Some found)
@@ -359,10 +322,4 @@ pub found_in : (is_tagged : Bool) (shape : Shape) (read : Option (ℕ × List �
     → read ≡ Some (n, bytes) → 4 + tag_size is_tagged ≤ n → n ≤ 262144 + tag_size is_tagged → n ≤ length bytes
     → IsOk (reply_by shape ((status_fields is_tagged).read (take n bytes))) → IsFound (reply_in is_tagged shape read)
 unfolding reply_in
-found_in is_tagged shape read n bytes is low high long ok =
-    rw (
-      is,
-      le-ltb n (4 + tag_size is_tagged) low,
-      le-ltb (262144 + tag_size is_tagged) n high,
-      le-ltb (length bytes) n long,
-    ) (found_after n _ ok)
+found_in is_tagged shape read n bytes is low high long ok = grind (arith, common_steps, le-ltb, found_after)

@@ -1,9 +1,10 @@
 -- What the fields of a row make, by the row of its number.
 use Rattle.std.proofs.Common.{◌∙◌, ◌≡◌, ap, Bool, cond, eqb, Err, false, length, List, None, Ok, Option}
-use Rattle.std.proofs.Common.{option_and_then, refl, Result, Some, subst, sym, true, ℕ}
+use Rattle.std.proofs.Common.{arith, option_and_then, refl, Result, Some, sym, true, ℕ}
 use Rattle.krs_types.specs.declared.ask.Op.{Op}
 use Rattle.krs_wire.specs.Faulting.{after, GivesRead, Makes, or_bad_body}
 use Rattle.krs_wire.specs.{Field.{Field, whole}, Frame.op_of, declared.fault.WireFault.WireFault}
+use Rattle.std.proofs.lemmas.Grind.{common_steps}
 
 module _ {A : Type 0} (make : A → Op) where
   made_by : (b : Bool) (x : A)
@@ -32,6 +33,4 @@ pub row_gives : {A : Type 0} (field : Field A) (make : A → Op) (which no-of : 
     (answer : Result Op WireFault) → which ≡ no-of → op_of no-of bytes ≡ or_bad_body (whole field make bytes)
     → Makes (λ x op. op ≡ make x) answer (or_bad_body (whole field (λ x. x) bytes))
     → GivesRead (λ op. op) answer (op_of which bytes)
-row_gives field make which no-of bytes answer is row-is h =
-    subst (λ (r : Result Op WireFault). GivesRead (λ op. op) answer r)
-    (sym (ap (λ (n : ℕ). op_of n bytes) is ∙ row-is)) (made_gives make field bytes answer h)
+row_gives field make which no-of bytes answer is row-is h = grind (arith, common_steps)

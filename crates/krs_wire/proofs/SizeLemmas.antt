@@ -1,11 +1,11 @@
 -- How many bytes a field has at least, so that a count of more than there can be is refused before any is read.
-use Rattle.std.proofs.Common.{[], ◌*◌, ◌+◌, ◌<◌, ◌∷◌, ◌≡◌, ◌≤◌, ap, arith, cond, drop, false, length, length-drop, List}
-use Rattle.std.proofs.Common.{nat_lt, None, Option, option_and_then, refl, Some, suc, take, true, w32, zero, ℕ}
-use Rattle.std.specs.Int.{from_le_bytes}
+use Rattle.std.proofs.Common.{◌*◌, ◌+◌, ◌<◌, ◌∷◌, ◌≡◌, ◌≤◌, ap, arith, length, length-drop, List}
+use Rattle.std.proofs.Common.{nat_lt, None, Option, option_and_then, refl, Some, suc, w32, zero, ℕ}
 use Rattle.std.proofs.lemmas.Bool.Decides.{nat_tests}
 use Rattle.krs_wire.specs.Bodies.{entry_field, entry_of, entry_parts}
 use Rattle.krs_wire.specs.Field.{both, built, Field, many_read, number, repeated}
 use Rattle.krs_wire.proofs.FieldLemmas.{bind_some, some_is}
+use Rattle.std.proofs.lemmas.Grind.{common_steps}
 
 -- what is read has so many bytes at least
 abbrev pub IsLong : {A : Type 0} → Field A → ℕ → Type 0
@@ -13,17 +13,7 @@ IsLong {A} f size = (bytes : List ℕ) (x : A) (more : List ℕ) → f.read byte
     → size + length more ≤ length bytes
 
 pub number_long : IsLong (number w32) 4
-number_long bytes x more e =
-    elim (nat_lt (length bytes) 4) as (λ b. nat_lt (length bytes) 4 ≡ b
-    → cond {A = Option (ℕ × List ℕ)} b None (Some (from_le_bytes w32 (take 4 bytes), drop 4 bytes)) ≡ Some (x, more)
-    → 4 + length more ≤ length bytes) [
-      | true ↦ λ t h. absurd cc
-      | false ↦ λ t h.
-          let rest : length (drop 4 bytes) ≡ length more =
-          ap (λ (p : ℕ × List ℕ). length p.1) (some_is (from_le_bytes w32 (take 4 bytes), drop 4 bytes) (x, more) h) in
-          let enough : 4 ≤ length bytes = grind (arith, nat_tests) in
-          omega (arith, rest, enough, length-drop 4 bytes)
-    ] refl e
+number_long bytes x more e = grind (arith, common_steps, nat_lt, w32, some_is, nat_tests, length-drop)
 
 pub both_long : {A B : Type 0} (f : Field A) (g : Field B) (m n : ℕ) → IsLong f m → IsLong g n
     → IsLong (both f g) (m + n)
@@ -38,10 +28,7 @@ both_long {A} {B} f g m n lf lg bytes x more e =
 many_long : {A : Type 0} (f : Field A) (size : ℕ) → IsLong f size → (n : ℕ) (bytes : List ℕ) (xs : List A)
     (more : List ℕ) → many_read f n bytes ≡ Some (xs, more) → size * n + length more ≤ length bytes
 unfolding many_read
-many_long {A} f size long zero bytes xs more e =
-    let rest : length bytes ≡ length more =
-    ap (λ (p : List A × List ℕ). length p.1) (some_is ([], bytes) (xs, more) e) in
-    omega (arith, rest)
+many_long {A} f size long zero bytes xs more e = grind (arith, common_steps, some_is)
 many_long {A} f size long (suc n) bytes xs more e =
     let a = bind_some (f.read bytes) (λ (a : A × List ℕ). option_and_then (λ (b : List A × List ℕ).
     Some (a.0 ∷ b.0, b.1)) (many_read f n a.1)) (xs, more) e in

@@ -1,8 +1,9 @@
 -- A tag is exact: what is read is encoded so, and what is encoded is read.
 use Rattle.std.proofs.Common.{◌++◌, ◌==◌, ◌∙◌, ◌≡◌, ◌⊎◌, ap, Bool, false, inl, inr, is_some, length, List, None, Option}
-use Rattle.std.proofs.Common.{option_and_then, refl, Some, subst, true, w64, ℕ}
+use Rattle.std.proofs.Common.{arith, option_and_then, refl, Some, subst, true, w64, ℕ}
 use Rattle.krs_wire.specs.{Field.number, Tag.{tag_field, tag_size, tag_text, version_of}}
 use Rattle.krs_wire.proofs.FieldLemmas.{bind_some, done, IsBytes, IsExact, number_exact, some_is, Takes, wide64}
+use Rattle.std.proofs.lemmas.Grind.{common_steps}
 
 number64_exact : IsExact (number w64)
 number64_exact = number_exact w64 wide64
@@ -20,16 +21,11 @@ tag_takes bytes tag more fits e =
 tag_again : (tag : Option ℕ) (more : List ℕ) → (tag_field true).Fits tag
     → (tag_field true).read (tag_text tag ++ more) ≡ Some (tag, more)
 tag_again None more h = absurd (cc h.0)
-tag_again (Some tag) more h =
-    ap (option_and_then (λ (n : ℕ × List ℕ). done (done n.0, n.1))) (number64_exact.again tag more h.1)
+tag_again (Some tag) more h = grind (arith, common_steps, option_and_then, done)
 
 none_takes : (bytes : List ℕ) (tag : Option ℕ) (more : List ℕ) → IsBytes bytes
     → (tag_field false).read bytes ≡ Some (tag, more) → Takes (tag_field false) bytes tag more
-none_takes bytes tag more fits e =
-    let none : Option ℕ = None in
-    let made : Takes (tag_field false) bytes none bytes =
-    record { parts = refl; fits = (refl, tt); more_fits = fits } in
-    subst (λ (p : Option ℕ × List ℕ). Takes (tag_field false) bytes p.0 p.1) (some_is (none, bytes) (tag, more) e) made
+none_takes bytes tag more fits e = grind (arith, common_steps, some_is)
 
 none_again : (tag : Option ℕ) (more : List ℕ) → (tag_field false).Fits tag
     → (tag_field false).read (tag_text tag ++ more) ≡ Some (tag, more)

@@ -2,6 +2,7 @@ use Rattle.std.proofs.Common.{[], ◌++◌, ◌+◌, ◌-◌, ◌∷◌, ◌≡�
 use Rattle.krs_wire.specs.{Faulting.or_bad_body, Field.{many_read, number}}
 use Rattle.krs_wire.proofs.{CountLemmas.{many_done, many_ends, many_on, with_front}, SizeLemmas.{number_long, too_many}}
 use Rattle.krs_wire.proofs.fields.numbers_at.Goals as goal
+use Rattle.std.proofs.lemmas.Grind.{common_steps}
 
 pub loop-preserved : goal.loop-preserved
 loop-preserved c =
@@ -13,9 +14,7 @@ loop-preserved c =
     c.in-Ok.after.now) ≡ many_read (number w32) c.args.count c.args.bytes.now) (sym pushed) next
 
 pub returns-clause-read : goal.returns-clause-read
-returns-clause-read c =
-    ap (λ o. or_bad_body o) (many_done (number w32) c.loop.numbers.items c.args.count c.loop.counter c.loop.rest.now _
-    c.loop-test.false c.loop.invariant)
+returns-clause-read c = grind (arith, common_steps, many_done, w32)
 
 pub returns-in-Err-clause-read : goal.returns-in-Err-clause-read
 returns-in-Err-clause-read c =

@@ -3,6 +3,7 @@ use Rattle.krs_types.specs.declared.note.FilterEntry.{FilterEntry}
 use Rattle.krs_wire.specs.{Bodies.entry_field, Faulting.or_bad_body, Field.many_read}
 use Rattle.krs_wire.proofs.{CountLemmas.{many_done, many_ends, many_on, with_front}, SizeLemmas.{entry_long, too_many}}
 use Rattle.krs_wire.proofs.fields.so_many_entries_at.Goals as goal
+use Rattle.std.proofs.lemmas.Grind.{common_steps}
 
 pub loop-preserved : goal.loop-preserved
 loop-preserved c =
@@ -14,9 +15,7 @@ loop-preserved c =
     ≡ many_read entry_field c.args.count c.args.bytes.now) (sym pushed) next
 
 pub returns-clause-read : goal.returns-clause-read
-returns-clause-read c =
-    ap (λ o. or_bad_body o) (many_done entry_field c.loop.entries.items c.args.count c.loop.counter c.loop.rest.now _
-    c.loop-test.false c.loop.invariant)
+returns-clause-read c = grind (arith, common_steps, many_done)
 
 pub returns-in-Err-clause-read : goal.returns-in-Err-clause-read
 returns-in-Err-clause-read c = λ other.

@@ -1,8 +1,10 @@
-use Rattle.std.proofs.Common.{◌+◌, ◌-◌, ◌<◌, ◌∙◌, ◌≡◌, ap, length, length-set, List, subst, sym, take, take_all, w32, ℕ}
+use Rattle.std.proofs.Common.{◌+◌, ◌-◌, ◌<◌, ◌∙◌, ◌≡◌, length, length-set, List, subst, sym, take, take_all, w32, ℕ}
 use Rattle.std.proofs.lemmas.List.{take_more_set}
-use Rattle.krs_wire.specs.{Faulting.or_bad_body, Field.{many_read, number}}
+use Rattle.krs_wire.specs.{Field.{many_read, number}}
 use Rattle.krs_wire.proofs.CountLemmas.{many_done, many_ends, many_on, with_front}
 use Rattle.krs_wire.proofs.fields.subtypes_at.Goals as goal
+use Rattle.std.proofs.Common.{arith}
+use Rattle.std.proofs.lemmas.Grind.{common_steps}
 
 pub loop-place-preserved : goal.loop-place-preserved
 loop-place-preserved c =
@@ -18,14 +20,7 @@ loop-place-preserved c =
     )
 
 pub returns : goal.returns
-returns c =
-    let words = c.loop-place.words in
-    let all : take c.loop-place.place words ≡ words = take_all c.loop-place.place words
-    (rw c.loop-place.invariant.0 c.loop-place-test.false) in
-    ap (λ o. or_bad_body o) (many_done (number w32) words 8 c.loop-place.place c.loop-place.rest.now _
-    c.loop-place-test.false
-    (subst (λ (xs : List ℕ). with_front xs (many_read (number w32) (8 - c.loop-place.place) c.loop-place.rest.now)
-    ≡ many_read (number w32) 8 c.args.bytes.now) all c.loop-place.invariant.1))
+returns c = grind (arith, common_steps, take_all, many_done, w32, with_front)
 
 pub returns-in-Err : goal.returns-in-Err
 returns-in-Err c =

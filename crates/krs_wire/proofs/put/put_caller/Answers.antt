@@ -1,8 +1,9 @@
-use Rattle.std.proofs.Common.{◌++◌, w32}
+use Rattle.std.proofs.Common.{◌++◌, arith, w32}
 use Rattle.std.specs.Int.{to_le_bytes}
 use Rattle.krs_wire.specs.Bodies.{groups_field}
 use Rattle.krs_wire.proofs.PutLemmas.{long_behind, then_put}
 use Rattle.krs_wire.proofs.put.put_caller.Goals as goal
+use Rattle.std.proofs.lemmas.Grind.{common_steps}
 
 pub returns-clause-ok : goal.returns-clause-ok
 returns-clause-ok c =
@@ -17,9 +18,4 @@ returns-clause-ok c =
     (then_put c.put_groups.result first gid groups second all c.in_ok-put_u32-2.ensures.ok c.put_groups.ensures.ok)
 
 pub returns-clause-long : goal.returns-clause-long
-returns-clause-long c =
-    let uid = to_le_bytes w32 c.args.caller.now.uid in
-    let gid = to_le_bytes w32 c.args.caller.now.gid in
-    let groups = groups_field.encode c.args.caller.now.groups in
-    long_behind c.put_groups.result 65536 uid (gid ++ groups)
-    (long_behind c.put_groups.result 65536 gid groups c.put_groups.ensures.long)
+returns-clause-long c = grind (arith, common_steps, w32, long_behind)

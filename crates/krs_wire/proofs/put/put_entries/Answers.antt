@@ -1,8 +1,9 @@
-use Rattle.std.proofs.Common.{◌++◌, ◌<◌, arith, length, refl, rules, w32}
+use Rattle.std.proofs.Common.{◌++◌, arith, length, w32}
 use Rattle.std.specs.Int.{to_le_bytes}
 use Rattle.krs_wire.specs.Bodies.{entry_field}
 use Rattle.krs_wire.proofs.{CountLemmas.length_entries, PutLemmas.{fit_one, then_one}}
 use Rattle.krs_wire.proofs.put.put_entries.Goals as goal
+use Rattle.std.proofs.lemmas.Grind.{common_steps}
 
 pub loop-line-preserved : goal.loop-line-preserved
 loop-line-preserved c =
@@ -17,6 +18,4 @@ loop-line-preserved c =
     }
 
 pub returns-then-lines-gt-MAX_LENGTH-clause-long : goal.returns-then-lines-gt-MAX_LENGTH-clause-long
-returns-then-lines-gt-MAX_LENGTH-clause-long c =
-    let long : 65536 < length c.args.entries.now = search rules in
-    λ other. (refl, omega (arith, length_entries c.args.entries.now, long))
+returns-then-lines-gt-MAX_LENGTH-clause-long c = grind (arith, common_steps, length_entries)
