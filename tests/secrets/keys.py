@@ -90,4 +90,6 @@ with bus():
             compare("nothing is put there", "Failed", one.create(opened, {}, b"s3cret"))
     with daemon(), secrets(), Caller() as one:
         compare("a new daemon has none", ([], []), one.search({}))
+    with secrets() as process:
+        compare("no daemon at the start", True, b"where no daemon is: unset it" in process.stderr.readline())
 conclude()

@@ -14,6 +14,7 @@ from jeepney import (
     DBusAddress, HeaderFields, Message, MessageFlag, MessageType, new_error, new_method_return, new_signal,
 )
 
+from .. import Client
 from . import secret_items as items
 from .helper import PR_SET_DUMPABLE, complain, version_of, words_of
 from .secret_bus import Bus, field
@@ -377,6 +378,14 @@ def keep_unseen() -> None:
         raise OSError(ctypes.get_errno(), "PR_SET_DUMPABLE")
 
 
+def look_for_daemon() -> None:
+    """Says where there is none, which a unit has in its journal. Each call says so too."""
+    try:
+        Client(timeout=1).close()
+    except OSError as error:
+        complain(f"{PROGRAM}: {words_of(error)}")
+
+
 def main(words: Optional[Sequence[str]] = None) -> int:
     """Answers the exit status."""
     parser = argparse.ArgumentParser(PROGRAM, description="Secrets of the session bus, kept by keyretaind(8).")
@@ -391,6 +400,7 @@ def main(words: Optional[Sequence[str]] = None) -> int:
     try:
         keep_unseen()
         bus = Bus(NAME)
+        look_for_daemon()
         service = Service(bus, seconds, given.default)
         while True:
             message = bus.receive(service.patience())
