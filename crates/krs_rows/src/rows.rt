@@ -7,9 +7,8 @@ ghost use Rattle.krs_rows.specs.Rows.Keyrings.{cycles, nesting, displacement, ke
 ghost use Rattle.krs_rows.specs.Rows.Keyrings.{order_of_a_link, order_of_an_unlink, closed, moves, order_of_a_move};
 ghost use Rattle.krs_rows.specs.Rows.Contexts.{contexts_of_processes, sessions_by_name, joined_as_others};
 ghost use Rattle.krs_rows.specs.Rows.Contexts.{contexts_at_most};
-ghost use Rattle.krs_rows.specs.Rows.Contexts.{callers, others_contexts, last_link, last_context, last_of_a_process};
-ghost use Rattle.krs_rows.specs.Rows.Contexts.{leaving};
-ghost use Rattle.krs_rows.specs.Rows.Contexts.{invalidated, made_and_refused};
+ghost use Rattle.krs_rows.specs.Rows.Contexts.{callers, others_contexts, others_stay, last_link, last_context};
+ghost use Rattle.krs_rows.specs.Rows.Contexts.{last_of_a_process, leaving, invalidated, made_and_refused};
 ghost use Rattle.krs_rows.specs.Rows.Searches.{nearest_match, search_depth, requests_in_turn, faults_of_a_search};
 ghost use Rattle.krs_rows.specs.Rows.Searches.{keyrings_that_are_not_entered, possession, found_and_linked};
 ghost use Rattle.krs_rows.specs.Rows.Records.{removals, watch_ids, loss, loss_in_one_read, invalidation, filters};
@@ -57,6 +56,7 @@ pub fn rows_of_contexts()
     ensures contexts_at_most { AreDue contexts_at_most }
     ensures callers { AreDue callers }
     ensures others_contexts { AreDue others_contexts }
+    ensures others_stay { AreDue others_stay }
     ensures last_link { AreDue last_link }
     ensures last_context { AreDue last_context }
     ensures last_of_a_process { AreDue last_of_a_process }

@@ -61,6 +61,17 @@ others_contexts =
     Exit ⇒ Err ESRCH ∷ Exec ⇒ Err ESRCH ∷ From 1 0 9 ∷ Thread ⇒ Err ESRCH ∷ Leave ⇒ done ∷ From 0 0 1 ∷
     Read (key 5) ⇒ text "s3" ∷ []
 
+-- EXEC, EXIT and READ of one client end nothing that another has
+abbrev pub others_stay : List Line
+others_stay =
+    hello 1000 1000 [] ⇒ number 1 ∷ add "user" "k" "x" user ⇒ number 5 ∷ OpenQueue 4 ⇒ number 1 ∷
+    Watch (key 5) 1 (pos 1) ⇒ done ∷ From 1 0 1 ∷ hello 1000 1000 [] ⇒ number 2 ∷ From 1 0 2 ∷ OpenQueue 4 ⇒ number 2 ∷
+    Watch (key 5) 2 (pos 2) ⇒ done ∷ Read (key 5) ⇒ text "x" ∷ Thread ⇒ number 3 ∷ Exec ⇒ done ∷
+    GetId session false ⇒ number 4 ∷ From 1 0 3 ∷ GetId session false ⇒ Err ESRCH ∷ From 1 0 2 ∷ Exit ⇒ done ∷
+    From 0 0 1 ∷ GetId session false ⇒ number 4 ∷ Read (key 5) ⇒ text "x" ∷ update (key 5) "y" ⇒ done ∷
+    ReadQueue 1 64 ⇒ hex "01000001100100000500000000000000" ∷ From 1 0 1 ∷
+    ReadQueue 2 64 ⇒ hex "01000001100200000500000000000000" ∷ []
+
 -- what nothing links goes
 abbrev pub last_link : List Line
 last_link =

@@ -26,6 +26,10 @@ pub returns-clause-others_contexts : goal.returns-clause-others_contexts
 unfolding each_definition
 returns-clause-others_contexts c = refl
 
+pub returns-clause-others_stay : goal.returns-clause-others_stay
+unfolding each_definition
+returns-clause-others_stay c = refl
+
 pub returns-clause-last_link : goal.returns-clause-last_link
 unfolding each_definition
 returns-clause-last_link c = refl
