@@ -91,24 +91,28 @@ static bool tell(const struct session *session, struct admission_session *told) 
 enum { LOOKS = 3 };
 
 /* What a runtime has begun for all of a container is above all in it. */
-struct admitted admission_admit(const struct task *task, const struct admission_process *process) {
+struct admitted admission_admit(const struct task *task, const struct asker *asker, uint32_t uid) {
     struct admission_arrival arrival = { 0 };
     const struct process *process_above = find_above(task->process->id, &arrival.knows_above);
     for (int i = 1; i < LOOKS && !arrival.knows_above; i++)
         process_above = find_above(task->process->id, &arrival.knows_above);
     struct session *above = process_above ? process_above->first->session : is_in_container ? sessions_first() : NULL;
-    arrival.process = *process;
+    arrival.process = asker->process;
+    arrival.uid = uid;
+    arrival.has_joined = task->has_joined;
+    arrival.revokes = asker->revokes;
     arrival.has_limit = proc_read_locks(task->process->id, &arrival.soft);
     struct session *tagged = arrival.has_limit ? session_of_tag(arrival.soft) : NULL;
     arrival.has_held = tell(task->session, &arrival.held);
     arrival.has_tagged = tell(tagged, &arrival.tagged);
     arrival.has_above = tell(above, &arrival.above);
     switch (krs_admission_c_admit(&arrival)) {
-    case ADMISSION_USER_SESSION: return (struct admitted){ NULL, false };
-    case ADMISSION_HELD: return (struct admitted){ task->session, false };
-    case ADMISSION_TAGGED: return (struct admitted){ tagged, false };
-    case ADMISSION_ABOVE: return (struct admitted){ above, false };
-    default: return (struct admitted){ NULL, true };
+    case ADMISSION_USER_SESSION: return (struct admitted){ 0 };
+    case ADMISSION_HELD: return (struct admitted){ .session = task->session };
+    case ADMISSION_TAGGED: return (struct admitted){ .session = tagged };
+    case ADMISSION_ABOVE: return (struct admitted){ .session = above };
+    case ADMISSION_JOINED: return (struct admitted){ .session = task->session, .is_joined = true };
+    default: return (struct admitted){ .is_lost = true };
     }
 }
 

@@ -144,10 +144,10 @@ unsigned entries_sweep(unsigned left);
  * A thread has one for each identity in which it has asked. It is given up for another's where it has no thread and no
  * process keyring, and made anew at the thread's next ask. */
 
-/* In which session a thread asks: in this one, in none, or in a lost one. */
+/* In which session a thread asks: in this one, which it has joined itself or not, in none, or in a lost one. */
 struct admitted {
     struct session *session;
-    bool is_lost;
+    bool is_lost, is_joined;
 };
 
 /* Who asks: what is judged of the process, whether it is in another user namespace than the one that is served, and
@@ -211,8 +211,8 @@ void admission_put_identity(struct kr_identity *identity, const struct proc_stat
 /* Whose the first session of a container is. */
 void admission_put_first(struct kr_identity *identity);
 
-/* In which session a thread asks that is run so. */
-struct admitted admission_admit(const struct task *task, const struct admission_process *process);
+/* In which session a thread asks that is run so, and asks as this uid. */
+struct admitted admission_admit(const struct task *task, const struct asker *asker, uint32_t uid);
 
 /* Whether a process keeps a session from its end whose tag it has; whether an entry that has nothing to lose may be
  * given up. */

@@ -39,9 +39,12 @@ struct admission_arrival {
     struct admission_session tagged; /* whose tag its limit is */
     struct admission_session above;  /* of the nearest process above that is known */
     uint64_t soft;                   /* its limit RLIMIT_LOCKS */
+    uint32_t uid;                    /* as which it asks */
     bool has_limit;                  /* it could be read */
     bool has_held, has_tagged, has_above;
     bool knows_above; /* each process above could be looked at, up to that one or to the first */
+    bool has_joined;  /* it has itself joined the session that it holds, and has executed nothing since */
+    bool revokes;     /* it revokes that session */
 };
 
 /* The parent of a process that gives it its session. */
@@ -57,7 +60,7 @@ struct admission_parent {
 static_assert(sizeof(struct admission_ids) == 16, "struct admission_ids");
 static_assert(sizeof(struct admission_process) == 36, "struct admission_process");
 static_assert(sizeof(struct admission_session) == 88, "struct admission_session");
-static_assert(sizeof(struct admission_arrival) == 320, "struct admission_arrival");
+static_assert(sizeof(struct admission_arrival) == 328, "struct admission_arrival");
 static_assert(sizeof(struct admission_parent) == 168, "struct admission_parent");
 
 /* A tag is one of these numbers: the lowest, and how many there are. */
@@ -69,7 +72,8 @@ enum admission_place {
     ADMISSION_USER_SESSION, /* none, so that it has the user-session keyring of its uid */
     ADMISSION_HELD,
     ADMISSION_TAGGED,
-    ADMISSION_ABOVE
+    ADMISSION_ABOVE,
+    ADMISSION_JOINED
 };
 
 /* Which session it is in. */

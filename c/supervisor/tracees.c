@@ -124,26 +124,17 @@ void tracees_leave(void) {
 /* All threads ask in the context of the first until some call names a thread keyring. */
 static struct task *who_stands(struct task *task) { return task->process->has_threads ? task : task->process->first; }
 
-/* What it has joined itself it is in, while it is of that user: also where its context was given up meanwhile. */
-static bool is_in_joined(const struct task *task, const struct user *user) {
-    uint32_t uid = user->identity.uid;
-    return task->has_joined && task->session->user->identity.uid == uid && !session_is_lost(task->session) &&
-           krs_admission_c_stays(&all.asker.process, uid, all.asker.revokes);
-}
-
 /* What is read by number is the notified thread's where the notification still waits afterwards. What it has begun for
  * another user, as a login does, is what its children look for: it goes on to hold that. */
 static struct standing *have_new_standing(struct task *task, struct user *user) {
-    bool is_in = is_in_joined(task, user);
-    struct admitted admitted = is_in ? (struct admitted){ task->session, false }
-                                     : admission_admit(task, &all.asker.process);
+    struct admitted admitted = admission_admit(task, &all.asker, user->identity.uid);
     if (!all.is_valid()) return fail_as(ENOSYS), NULL;
     admitted.is_lost |= !admitted.session && all.asker.is_elsewhere; /* its user-session keyring is another */
     session_use(admitted.session); /* what is given up to make room isn't this one */
     if (admitted.session && admitted.session != task->session && !task->has_joined)
         set_session(task, admitted.session);
     struct standing *standing = have_standing(task, user, admitted, &all.asker);
-    if (standing && is_in) standing->has_joined = true;
+    if (standing && admitted.is_joined) standing->has_joined = true;
     session_let_go(admitted.session);
     return standing;
 }

@@ -251,6 +251,23 @@ static void join(void) {
         join_now(words[0]);
 }
 
+/* refused NAME: enters a session by libkeyretain, which is refused, and goes on. Whose the session keyring is that the
+ * context has then. */
+static void go_on_refused(void) {
+    char text[64] = "";
+    unsigned owner = 0;
+    struct kr *connection = kr_open(NULL);
+    int64_t context = connection ? kr_hello(connection, geteuid(), getegid(), 0, NULL) : -1;
+    bool is_refused = context > 0 && kr_enter_session(connection, (uint32_t)context, words[0]) < 0;
+    printf("%s, then ", word_of(!is_refused));
+    if (kr_describe(connection, (uint32_t)context, KEY_SPEC_SESSION_KEYRING, text, sizeof text - 1) < 0 ||
+        sscanf(text, "keyring;%u;", &owner) != 1)
+        puts(word_of(false));
+    else
+        puts(owner == geteuid() ? "its own" : "another's");
+    kr_close(connection);
+}
+
 /* interrupted NAME: joins a session while a signal comes each two milliseconds. */
 static void join_interrupted(void) {
     interrupt_after(2000, 2000);
@@ -371,6 +388,12 @@ static void execute(void) {
     puts(word_of(false));
 }
 
+/* own COMMAND ..: has a process keyring, and executes. */
+static void execute_with_keyring(void) {
+    if (add_key("user", "own", "s3", 2, KEY_SPEC_PROCESS_KEYRING) > 0) execvp(words[0], words);
+    puts(word_of(false));
+}
+
 /* put RING SECONDS: puts a key that expires into a keyring of the user keyring. */
 static void put_key(void) {
     key_serial_t ring = (key_serial_t)keyctl_search(KEY_SPEC_USER_KEYRING, "keyring", words[0], 0);
@@ -437,11 +460,12 @@ int main(int count, char **given) {
                   { "meanwhile", take_identity_meanwhile }, { "group", read_by_group }, { "back", go_and_come_back },
                   { "effective-group", read_by_effective_group }, { "each", ask_as_each },
                   { "saved", come_back_by_saved }, { "process-one", be_process_one }, { "open", open_session },
-                  { "hold", hold_session }, { "read", read_possessed }, { "join", join },
+                  { "hold", hold_session }, { "read", read_possessed }, { "join", join }, { "refused", go_on_refused },
                   { "interrupted", join_interrupted }, { "no-memory", join_without_memory }, { "blind", ask_blindly },
                   { "blind-join", join_blindly }, { "left", leave_sessions }, { "later", ask_later },
                   { "again", join_again }, { "twice", ask_twice }, { "as-other", join_as_other },
-                  { "execute", execute }, { "put", put_key }, { "hide", hide_key }, { "links", count_links },
+                  { "execute", execute },
+                  { "own", execute_with_keyring }, { "put", put_key }, { "hide", hide_key }, { "links", count_links },
                   { "session", see_session }, { "peer", see_peer }, { "ask", ask_there }, { "where", see_path } };
     if (count < 2) return 2;
     words = given + 2;

@@ -262,6 +262,20 @@ static int flood(int count, bool stays, bool is_thread) {
     return 0;
 }
 
+/* What was judged of a process holds no more once it has another saved uid, or a user namespace of its own. */
+static int judge_anew(void) {
+    long before = ring_of(KEY_SPEC_SESSION_KEYRING, 0);
+    if (before <= 0 || setresuid((uid_t)-1, (uid_t)-1, NOBODY) < 0) return 2;
+    bool is_lost = ring_of(KEY_SPEC_SESSION_KEYRING, 0) < 0 && errno == EKEYREVOKED;
+    if (setresuid((uid_t)-1, (uid_t)-1, 0) < 0) return 2;
+    printf("%s, then %s, ", is_lost ? "lost" : "kept", has_session(before) ? "back" : "gone");
+    become_nobody();
+    bool has_own = ring_of(KEY_SPEC_SESSION_KEYRING, 0) > 0;
+    if (unshare(CLONE_NEWUSER) < 0) return 2;
+    is_lost = ring_of(KEY_SPEC_SESSION_KEYRING, 0) < 0 && errno == EKEYREVOKED;
+    return puts(has_own && is_lost ? "lost" : "kept") < 0;
+}
+
 /* A payload in a page of this file, and once more; then a call without one. */
 static int ask_of_page(const char *path) {
     int file = open(path, O_RDONLY);
@@ -559,6 +573,7 @@ int users_modes(const char *mode, int many, int count, char **words) {
     if (strcmp(mode, "login-beside") == 0) return log_in_beside(many);
     if (strcmp(mode, "left-key") == 0) return leave_key(many, count == 4);
     if (strcmp(mode, "flood") == 0) return flood(many, count > 3, count > 4);
+    if (strcmp(mode, "judged-anew") == 0) return judge_anew();
     if (strcmp(mode, "page") == 0 && count > 2) return ask_of_page(words[2]);
     if (strcmp(mode, "kept-in-session") == 0) return keep_in_session();
     if (strcmp(mode, "outlast") == 0) return outlast();

@@ -1,11 +1,12 @@
 -- Where the rule lets a process come into a session, the law does.
 use Rattle.std.proofs.Common.{◌&&◌, ◌==◌, ◌||◌, ◌∙◌, ◌≡◌, ◌≢◌, ◌⊎◌, arith, Bool, cond, eq-eqb, eqb-true, false, inl}
 use Rattle.std.proofs.Common.{inr, nat_lt, not, refl, subst, sym, true, ℕ}
-use Rattle.krs_admission.specs.Law.{BeginsForOthers, ComesLawfully, Is, IsLawful, IsOpen, IsShared, MayHave}
+use Rattle.krs_admission.specs.Law.{BeginsForOthers, ComesLawfully, HasJoined, Is, IsLawful, IsOpen, IsShared}
+use Rattle.krs_admission.specs.Law.{IsStillIts, MayHave}
 use Rattle.krs_admission.specs.Rule.{are_all, begins_alone, has_tag_of, is_of, is_one, is_open, is_shared, is_tag}
 use Rattle.krs_admission.specs.Rule.{is_told, knows_again, may_be_given, may_enter, may_have, no_uid, number_of}
-use Rattle.krs_admission.specs.Rule.{place_above, place_of, place_tagged}
-use Rattle.krs_admission.specs.declared.admitting.Place.{Place, TheVariants.{Above, Held, Lost, Tagged, UserSession}}
+use Rattle.krs_admission.specs.Rule.{is_in_joined, place_above, place_found, place_of, place_tagged, stays}
+use Rattle.krs_admission.specs.declared.admitting.Place.{Place, TheVariants.{Above, Held, Joined, Lost, Tagged, UserSession}}
 use Rattle.krs_admission.specs.declared.facts.Arrival.{Arrival}
 use Rattle.krs_admission.specs.declared.{facts.{Ids.Ids, Process.Process, Session.Session}, giving.Parent.Parent}
 
@@ -201,11 +202,43 @@ chosen a false true false has o i m = tt
 chosen a false false may true o i m = lawful_tagged a (one_user a.process (not_false (is_one a.process) o))
 chosen a false false may false o i m = lawful_above a (one_user a.process (not_false (is_one a.process) o))
 
-pub lawful : (a : Arrival) → IsLawful a (place_of a)
-unfolding place_of
-lawful a =
+lawful_found : (a : Arrival) → IsLawful a (place_found a)
+unfolding place_found
+lawful_found a =
     chosen a (not (is_one a.process)) (a.has_held && is_of a.process a.held) (may_have a.process a.held)
     (a.has_limit && is_tag a.soft) refl refl refl
+
+pub still_its : (p : Process) (uid : ℕ) (revokes : Bool) → stays p uid revokes ≡ true → IsStillIts p uid revokes
+still_its p uid revokes e =
+    elim (or_true (p.uids.real == uid) (revokes && p.uids.files == uid) e) [
+      | inl same ↦ inl (eqb-true p.uids.real uid same)
+      | inr may ↦ let two = both_true revokes (p.uids.files == uid) may in
+          inr (two.0, eqb-true p.uids.files uid two.1)
+    ]
+
+in_joined : (a : Arrival) → is_in_joined a ≡ true → HasJoined a
+in_joined a e =
+    let one = both_true a.has_joined (a.has_held && (a.held.is_there && (a.held.begun.uids.real == a.uid
+    && stays a.process a.uid a.revokes))) e in
+    let two = both_true a.has_held (a.held.is_there && (a.held.begun.uids.real == a.uid
+    && stays a.process a.uid a.revokes)) one.1 in
+    let three = both_true a.held.is_there (a.held.begun.uids.real == a.uid && stays a.process a.uid a.revokes) two.1 in
+    let four = both_true (a.held.begun.uids.real == a.uid) (stays a.process a.uid a.revokes) three.1 in
+    record {
+      joined = one.0;
+      held = two.0;
+      there = three.0;
+      user = eqb-true a.held.begun.uids.real a.uid four.0;
+      still = still_its a.process a.uid a.revokes four.1;
+    }
+
+joined_or_found : (a : Arrival) (is_in : Bool) → is_in_joined a ≡ is_in → IsLawful a (cond is_in Joined (place_found a))
+joined_or_found a true e = in_joined a e
+joined_or_found a false e = lawful_found a
+
+pub lawful : (a : Arrival) → IsLawful a (place_of a)
+unfolding place_of
+lawful a = joined_or_found a (is_in_joined a) refl
 
 same_place : (p q : Place) → number_of p ≡ number_of q → p ≡ q
 same_place Lost Lost e = refl
@@ -233,6 +266,17 @@ same_place Above Lost e = absurd (omega (arith, e))
 same_place Above UserSession e = absurd (omega (arith, e))
 same_place Above Held e = absurd (omega (arith, e))
 same_place Above Tagged e = absurd (omega (arith, e))
+same_place Joined Joined e = refl
+same_place Joined Lost e = absurd (omega (arith, e))
+same_place Lost Joined e = absurd (omega (arith, e))
+same_place Joined UserSession e = absurd (omega (arith, e))
+same_place UserSession Joined e = absurd (omega (arith, e))
+same_place Joined Held e = absurd (omega (arith, e))
+same_place Held Joined e = absurd (omega (arith, e))
+same_place Joined Tagged e = absurd (omega (arith, e))
+same_place Tagged Joined e = absurd (omega (arith, e))
+same_place Joined Above e = absurd (omega (arith, e))
+same_place Above Joined e = absurd (omega (arith, e))
 
 pub lawful_number : (a : Arrival) (number : ℕ) → number ≡ number_of (place_of a) → ComesLawfully a number
 lawful_number a number e =

@@ -1,6 +1,6 @@
 -- Which session a process comes into, as it is computed.
 use Rattle.std.specs.Prelude.{◌&&◌, ◌==◌, ◌||◌, Bool, if◌then◌else◌, nat_le, nat_lt, not, ℕ}
-use Rattle.krs_admission.specs.declared.admitting.Place.{Place, TheVariants.{Above, Held, Lost, Tagged, UserSession}}
+use Rattle.krs_admission.specs.declared.admitting.Place.{Place, TheVariants.{Above, Held, Joined, Lost, Tagged, UserSession}}
 use Rattle.krs_admission.specs.declared.facts.Arrival.{Arrival}
 use Rattle.krs_admission.specs.declared.{facts.{Ids.Ids, Process.Process, Session.Session}, giving.Parent.Parent}
 
@@ -62,12 +62,25 @@ place_tagged a =
     else if is_of a.process a.tagged then (if may_enter a.process a.tagged then Tagged else Lost)
     else place_above a
 
-unfoldable pub place_of : Arrival → Place
-place_of a =
+unfoldable pub place_found : Arrival → Place
+place_found a =
     if not (is_one a.process) then Lost
     else if a.has_held && is_of a.process a.held then (if may_have a.process a.held then Held else Lost)
     else if a.has_limit && is_tag a.soft then place_tagged a
     else place_above a
+
+-- it is in the session still that it has joined itself as this uid; to revoke that, while this uid counts for access
+abbrev pub stays : Process → ℕ → Bool → Bool
+stays p uid revokes = p.uids.real == uid || (revokes && p.uids.files == uid)
+
+-- it is in the session that it has joined itself, as whose user it asks
+abbrev pub is_in_joined : Arrival → Bool
+is_in_joined a =
+    a.has_joined && (a.has_held && (a.held.is_there && (a.held.begun.uids.real == a.uid
+    && stays a.process a.uid a.revokes)))
+
+unfoldable pub place_of : Arrival → Place
+place_of a = if is_in_joined a then Joined else place_found a
 
 -- it would come into the session that it holds by its tag
 abbrev pub knows_again : Arrival → Bool
@@ -82,10 +95,6 @@ may_be_given p uids gids s =
 abbrev pub asks_as : Ids → Bool → ℕ
 asks_as i is_of_user = if is_of_user then i.real else i.files
 
--- it is in the session still that it has joined itself as this uid; to revoke that, while this uid counts for access
-abbrev pub stays : Process → ℕ → Bool → Bool
-stays p uid revokes = p.uids.real == uid || (revokes && p.uids.files == uid)
-
 -- a session that it begins is its alone: its user couldn't trace it, and it gives no name or may be set-uid
 abbrev pub begins_alone : Process → (has_name : Bool) → Bool
 begins_alone p has_name =
@@ -98,3 +107,4 @@ number_of UserSession = 1
 number_of Held = 2
 number_of Tagged = 3
 number_of Above = 4
+number_of Joined = 5

@@ -1,9 +1,10 @@
 ghost use Rattle.std.specs.Prelude.{◌&&◌, ◌≡◌, true};
 ghost use Rattle.krs_admission.specs.{Law.{IsLawful, IsShared, MayHave}, Rule.{has_tag_of, is_tag, knows_again}};
-ghost use Rattle.krs_admission.specs.Rule.{may_enter, may_have, number_of, place_above, place_of, place_tagged};
+ghost use Rattle.krs_admission.specs.Rule.{is_in_joined, may_enter, may_have, number_of, place_above};
+ghost use Rattle.krs_admission.specs.Rule.{place_found, place_of, place_tagged};
 
 use crate::facts::{Arrival, Process, Session};
-use crate::whose::{is_of, is_one, is_shared};
+use crate::whose::{is_of, is_one, is_shared, stays};
 
 /// A tag is one of these numbers.
 const TAG_BASE: u64 = 0x4000_0000_0000_0000;
@@ -23,6 +24,8 @@ pub enum Place {
     Tagged,
     /// That of the nearest process above.
     Above,
+    /// That which it has joined itself: it may be of more uids than one, as a login is.
+    Joined,
 }
 
 impl Place {
@@ -36,6 +39,7 @@ impl Place {
             Place::Held => 2,
             Place::Tagged => 3,
             Place::Above => 4,
+            Place::Joined => 5,
         }
     }
 }
@@ -101,9 +105,9 @@ fn place_tagged(arrival: &Arrival) -> Place
     }
 }
 
-#[tactic(auto, unfolding(crate::specs::Rule::place_of))]
-fn place_of(arrival: &Arrival) -> Place
-    ensures { result ≡ place_of arrival.now }
+#[tactic(auto, unfolding(crate::specs::Rule::place_found))]
+fn place_found(arrival: &Arrival) -> Place
+    ensures { result ≡ place_found arrival.now }
 {
     if !is_one(&arrival.process) {
         Place::Lost
@@ -120,8 +124,31 @@ fn place_of(arrival: &Arrival) -> Place
     }
 }
 
+/// What it has joined itself it is in while it asks as that session's user, and that is its real uid; to revoke it also
+/// while that is its uid of the file system, as pam_keyinit(8) does.
+fn is_in_joined(arrival: &Arrival) -> bool
+    ensures { result ≡ is_in_joined arrival.now }
+{
+    arrival.has_joined
+        && arrival.has_held
+        && arrival.held.is_there
+        && arrival.held.begun.uids.real == arrival.uid
+        && stays(&arrival.process, arrival.uid, arrival.revokes)
+}
+
+#[tactic(auto, unfolding(crate::specs::Rule::place_of))]
+fn place_of(arrival: &Arrival) -> Place
+    ensures { result ≡ place_of arrival.now }
+{
+    if is_in_joined(arrival) {
+        Place::Joined
+    } else {
+        place_found(arrival)
+    }
+}
+
 /// Which session a process comes into: none but one that was begun as its own real uid, and only while all four of its
-/// uids are that one and its program isn't set-uid to another.
+/// uids are that one and its program isn't set-uid to another; but for one that it has joined itself.
 pub fn admit(arrival: &Arrival) -> Place
     ensures exact { result ≡ place_of arrival.now }
     ensures lawful { IsLawful arrival.now result }

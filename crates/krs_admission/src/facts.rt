@@ -55,6 +55,8 @@ pub struct Arrival {
     pub above: Session,
     /// Its soft limit RLIMIT_LOCKS.
     pub soft: u64,
+    /// The uid as which it asks.
+    pub uid: u32,
     /// That could be read.
     pub has_limit: bool,
     pub has_held: bool,
@@ -62,4 +64,8 @@ pub struct Arrival {
     pub has_above: bool,
     /// Each process above could be looked at, up to that one or to the first.
     pub knows_above: bool,
+    /// It has itself joined the session that it holds, and has executed nothing since.
+    pub has_joined: bool,
+    /// It revokes that session.
+    pub revokes: bool,
 }

@@ -1,6 +1,7 @@
-ghost use Rattle.std.specs.Prelude.{◌&&◌, ◌==◌, ◌||◌, ◌≡◌, false};
-ghost use Rattle.krs_admission.specs.{Law.BeginsForOthers, Rule.{are_all, asks_as, begins_alone, is_of, is_one}};
-ghost use Rattle.krs_admission.specs.Rule.{is_open, is_shared, is_told, stays};
+ghost use Rattle.std.specs.Prelude.{◌&&◌, ◌==◌, ◌||◌, ◌≡◌, false, true};
+ghost use Rattle.krs_admission.specs.Law.{BeginsForOthers, IsStillIts};
+ghost use Rattle.krs_admission.specs.Rule.{are_all, asks_as, begins_alone, is_of, is_one, is_open, is_shared};
+ghost use Rattle.krs_admission.specs.Rule.{is_told, stays};
 
 use crate::facts::{Ids, Process, Session};
 
@@ -58,17 +59,26 @@ pub(crate) fn is_of(process: &Process, session: &Session) -> bool
 /// The id as which a call is asked. The real ones own a new session keyring, and are those of the user keyring and of
 /// the user-session keyring; access is judged by those of the file system.
 pub fn asks_as(ids: &Ids, is_of_user: bool) -> u32
-    ensures { result ≡ asks_as ids.now is_of_user }
+    ensures exact { result ≡ asks_as ids.now is_of_user }
+    ensures user { is_of_user ≡ true → result ≡ ids.now.real }
+    ensures access { is_of_user ≡ false → result ≡ ids.now.files }
 {
     if is_of_user { ids.real } else { ids.files }
+}
+
+fn is_still_its(process: &Process, uid: u32, revokes: bool) -> bool
+    ensures { result ≡ stays process.now uid revokes }
+{
+    process.uids.real == uid || (revokes && process.uids.files == uid)
 }
 
 /// Whether a process that has joined a session itself, as a user with this uid, is in it still. It may be of further
 /// uids, as a login is, which revokes the session of who logs out with the user's effective uid alone: pam_keyinit(8).
 pub fn stays(process: &Process, uid: u32, revokes: bool) -> bool
-    ensures { result ≡ stays process.now uid revokes }
+    ensures exact { result ≡ stays process.now uid revokes }
+    ensures lawful { result ≡ true → IsStillIts process.now uid revokes }
 {
-    process.uids.real == uid || (revokes && process.uids.files == uid)
+    is_still_its(process, uid, revokes)
 }
 
 fn is_alone(process: &Process, has_name: bool) -> bool

@@ -2,15 +2,16 @@
 #![tactic(auto)]
 
 ghost use Rattle.std.specs.Prelude.{◌≡◌, false, true};
-ghost use Rattle.krs_admission.specs.Law.{BeginsForOthers, ComesLawfully, IsShared, MayHave};
+ghost use Rattle.krs_admission.specs.Law.{BeginsForOthers, ComesLawfully, IsShared, IsStillIts, MayHave};
 ghost use Rattle.krs_admission.specs.Rule.{asks_as, begins_alone, knows_again, may_be_given, may_enter, number_of};
 ghost use Rattle.krs_admission.specs.Rule.{place_of, stays};
 
 use krs_admission::{Arrival, Ids, Parent, Process, Session};
 
 /// Which session a process comes into: 0 none, 1 none but the user-session keyring of its uid, 2 that which it holds,
-/// 3 that of its tag, 4 that of the nearest process above. None but one that was begun as its own real uid, and only
-/// while all four of its uids are that one and its program isn't set-uid to another.
+/// 3 that of its tag, 4 that of the nearest process above, 5 that which it has joined itself. None but one that was begun
+/// as its own real uid, and only while all four of its uids are that one and its program isn't set-uid to another; but
+/// for one that it has joined itself.
 #[unsafe(no_mangle)]
 pub extern "C" fn krs_admission_c_admit(arrival: &Arrival) -> u32
     ensures exact { result ≡ number_of (place_of arrival.now) }
@@ -54,7 +55,9 @@ pub extern "C" fn krs_admission_c_may_be_given(
 /// The uid of uids, and the gid of gids, as which a call is asked.
 #[unsafe(no_mangle)]
 pub extern "C" fn krs_admission_c_asks_as(ids: &Ids, is_of_user: bool) -> u32
-    ensures { result ≡ asks_as ids.now is_of_user }
+    ensures exact { result ≡ asks_as ids.now is_of_user }
+    ensures user { is_of_user ≡ true → result ≡ ids.now.real }
+    ensures access { is_of_user ≡ false → result ≡ ids.now.files }
 {
     krs_admission::asks_as(ids, is_of_user)
 }
@@ -63,7 +66,8 @@ pub extern "C" fn krs_admission_c_asks_as(ids: &Ids, is_of_user: bool) -> u32
 /// uid; where it revokes that session also while that is the uid of the file system.
 #[unsafe(no_mangle)]
 pub extern "C" fn krs_admission_c_stays(process: &Process, uid: u32, revokes: bool) -> bool
-    ensures { result ≡ stays process.now uid revokes }
+    ensures exact { result ≡ stays process.now uid revokes }
+    ensures lawful { result ≡ true → IsStillIts process.now uid revokes }
 {
     krs_admission::stays(process, uid, revokes)
 }
