@@ -6,7 +6,8 @@ use Rattle.krs_admission.specs.Law.{IsStillIts, MayHave}
 use Rattle.krs_admission.specs.Rule.{are_all, begins_alone, has_tag_of, is_of, is_one, is_open, is_shared, is_tag}
 use Rattle.krs_admission.specs.Rule.{is_told, knows_again, may_be_given, may_enter, may_have, no_uid, number_of}
 use Rattle.krs_admission.specs.Rule.{is_in_joined, place_above, place_found, place_of, place_tagged, stays}
-use Rattle.krs_admission.specs.declared.admitting.Place.{Place, TheVariants.{Above, Held, Joined, Lost, Tagged, UserSession}}
+use Rattle.krs_admission.specs.declared.admitting.Place.{Place, TheVariants.{Above, Held, Joined, Lost}}
+use Rattle.krs_admission.specs.declared.admitting.Place.TheVariants.{Tagged, UserSession}
 use Rattle.krs_admission.specs.declared.facts.Arrival.{Arrival}
 use Rattle.krs_admission.specs.declared.{facts.{Ids.Ids, Process.Process, Session.Session}, giving.Parent.Parent}
 

@@ -2,7 +2,8 @@
 -- that one and its program isn't set-uid to another. One that it has joined itself it has while it asks as that uid.
 use Rattle.std.specs.Prelude.{◌≡◌, ◌≢◌, ◌⊎◌, Bool, false, true, ℕ}
 use Rattle.krs_admission.specs.Rule.{no_uid, number_of}
-use Rattle.krs_admission.specs.declared.admitting.Place.{Place, TheVariants.{Above, Held, Joined, Lost, Tagged, UserSession}}
+use Rattle.krs_admission.specs.declared.admitting.Place.{Place, TheVariants.{Above, Held, Joined, Lost}}
+use Rattle.krs_admission.specs.declared.admitting.Place.TheVariants.{Tagged, UserSession}
 use Rattle.krs_admission.specs.declared.facts.{Arrival.Arrival, Process.Process, Session.Session}
 
 -- all four of its uids are this one, which is one user's; and its program isn't set-uid to another
@@ -41,7 +42,8 @@ BeginsForOthers p has_name =
 abbrev pub IsStillIts : Process → (uid : ℕ) → (revokes : Bool) → Type 0
 IsStillIts p uid revokes = (p.uids.real ≡ uid) ⊎ ((revokes ≡ true) × (p.uids.files ≡ uid))
 
--- it has itself joined the session that it holds, and executed nothing since; that hasn't ended, and it asks as its user
+-- it has itself joined the session that it holds, and executed nothing since; that hasn't ended, and it asks as its
+-- user
 pub record HasJoined (a : Arrival) : Type 0 where
   pub joined : a.has_joined ≡ true
   pub held : a.has_held ≡ true

@@ -1,6 +1,7 @@
 -- Which session a process comes into, as it is computed.
 use Rattle.std.specs.Prelude.{◌&&◌, ◌==◌, ◌||◌, Bool, if◌then◌else◌, nat_le, nat_lt, not, ℕ}
-use Rattle.krs_admission.specs.declared.admitting.Place.{Place, TheVariants.{Above, Held, Joined, Lost, Tagged, UserSession}}
+use Rattle.krs_admission.specs.declared.admitting.Place.{Place, TheVariants.{Above, Held, Joined, Lost}}
+use Rattle.krs_admission.specs.declared.admitting.Place.TheVariants.{Tagged, UserSession}
 use Rattle.krs_admission.specs.declared.facts.Arrival.{Arrival}
 use Rattle.krs_admission.specs.declared.{facts.{Ids.Ids, Process.Process, Session.Session}, giving.Parent.Parent}
 

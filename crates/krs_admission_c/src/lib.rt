@@ -9,9 +9,9 @@ ghost use Rattle.krs_admission.specs.Rule.{place_of, stays};
 use krs_admission::{Arrival, Ids, Parent, Process, Session};
 
 /// Which session a process comes into: 0 none, 1 none but the user-session keyring of its uid, 2 that which it holds,
-/// 3 that of its tag, 4 that of the nearest process above, 5 that which it has joined itself. None but one that was begun
-/// as its own real uid, and only while all four of its uids are that one and its program isn't set-uid to another; but
-/// for one that it has joined itself.
+/// 3 that of its tag, 4 that of the nearest process above, 5 that which it has joined itself. None but one that was
+/// begun as its own real uid, and only while all four of its uids are that one and its program isn't set-uid to
+/// another; but for one that it has joined itself.
 #[unsafe(no_mangle)]
 pub extern "C" fn krs_admission_c_admit(arrival: &Arrival) -> u32
     ensures exact { result ≡ number_of (place_of arrival.now) }
