@@ -1,7 +1,6 @@
 -- A key that goes out of one keyring after the other, and out of all attachments: what is left to be done.
-use Rattle.std.proofs.Common.{[], ◌++◌, ◌+◌, ◌==◌, ◌∙◌, ◌∷◌, ◌≡◌, ap, arith, cond, Err, false, filter, if◌then◌else◌}
+use Rattle.std.proofs.Common.{[], ◌++◌, ◌+◌, ◌==◌, ◌∙◌, ◌∷◌, ◌≡◌, ap, arith, cond, Err, false, filter}
 use Rattle.std.proofs.Common.{List, nat_cmp, None, not, Ok, Option, option_to_list, refl, Result, Some, sym, true, ℕ}
-use Rattle.std.specs.BTreeMap.{is_at}
 use Rattle.std.proofs.lemmas.List.Elements.{filter-append}
 use Rattle.krs_types.specs.declared.{context.{Context.Context, UidRings.UidRings}, errno.Errno.Errno}
 use Rattle.krs_model.specs.Asks.{Changing.changed, Invalidating.{context_without, detached, invalidated, rings_without}}
@@ -15,24 +14,16 @@ use Rattle.krs_hold.proofs.{Gathered.gathered, Tallies.{all_less-append, tallied
 use Rattle.krs_hold.proofs.Times.{times-append, times-cons}
 use Rattle.krs_tables.specs.{Linked.Takes, View.{IsConsistent, state_of}, declared.tables.Tables.TheInside.Inside}
 use Rattle.krs_ring_asks.specs.Detached.{those, those_attached}
+use Rattle.std.proofs.lemmas.Grind.{common_steps}
 
 -- what is left of a list without the key
 abbrev others : ℕ → List ℕ → List ℕ
 others serial ks = filter (λ k. not (k == serial)) ks
 
 -- without the key twice is without it
-
 others_twice : (serial : ℕ) (ks : List ℕ) → others serial (others serial ks) ≡ others serial ks
 others_twice serial [] = refl
-others_twice serial (k ∷ ks) =
-    elim (k == serial) as (λ b. (k == serial) ≡ b
-    → others serial (cond (not b) (k ∷ others serial ks) (others serial ks))
-    ≡ cond (not b) (k ∷ others serial ks) (others serial ks)) [
-      | true ↦ λ h. others_twice serial ks
-      | false ↦ λ h.
-          let rest = others serial (others serial ks) in
-          ap (λ b. cond (not b) (k ∷ rest) rest) h ∙ ap (λ js. k ∷ js) (others_twice serial ks)
-    ] refl
+others_twice serial (k ∷ ks) = grind (arith, common_steps, others_twice serial ks)
 
 content_twice :
     (serial : ℕ) (content : Content)
@@ -45,61 +36,38 @@ link_twice serial key = ap (λ (content : Content). record key { content = conte
 
 detached_twice : (serial : ℕ) (o : Option ℕ) → detached serial (detached serial o) ≡ detached serial o
 detached_twice serial None = refl
-detached_twice serial (Some k) =
-    elim (k == serial) as (λ b. (k == serial) ≡ b
-    → detached serial (if b then None else Some k) ≡ (if b then None else Some k)) [
-      | true ↦ λ h. refl
-      | false ↦ λ h. ap (λ b. if b then None else Some k) h
-    ] refl
+detached_twice serial (Some k) = grind (arith, common_steps)
 
 context_twice :
     (serial : ℕ) (c : Context) → context_without serial (context_without serial c) ≡ context_without serial c
-context_twice serial c =
-    ap (λ (o : Option ℕ). record c { thread = o; session = detached serial (detached serial c.session) })
-    (detached_twice serial c.thread)
-    ∙ ap (λ (o : Option ℕ). record c { thread = detached serial c.thread; session = o })
-    (detached_twice serial c.session)
+context_twice serial c = grind (arith, common_steps, detached_twice)
 
 rings_twice :
     (serial : ℕ) (r : UidRings) → rings_without serial (rings_without serial r) ≡ rings_without serial r
-rings_twice serial r =
-    ap (λ (o : Option ℕ). record r { user = o; session = detached serial (detached serial r.session) })
-    (detached_twice serial r.user)
-    ∙ ap (λ (o : Option ℕ). record r { user = detached serial r.user; session = o })
-    (detached_twice serial r.session)
+rings_twice serial r = grind (arith, common_steps, detached_twice)
 
 mapped_alter :
     {X : Type 0} (f : X → X) → ((v : X) → f (f v) ≡ f v) → (es : Table X) (k : ℕ)
     → map_values f (alter es k f) ≡ map_values f es
 mapped_alter f twice [] k = refl
-mapped_alter f twice (e ∷ es) k =
-    elim (is_at (nat_cmp k) e.0) as (λ b.
-    map_values f (cond b ((e.0, f e.1) ∷ es) (e ∷ alter es k f)) ≡ (e.0, f e.1) ∷ map_values f es) [
-      | true ↦ ap (λ v. (e.0, v) ∷ map_values f es) (twice e.1)
-      | false ↦ ap (λ zs. (e.0, f e.1) ∷ zs) (mapped_alter f twice es k)
-    ]
+mapped_alter f twice (e ∷ es) k = grind (arith, common_steps, nat_cmp, mapped_alter f twice es k)
 
 mapped_twice :
     {X : Type 0} (f : X → X) → ((v : X) → f (f v) ≡ f v) → (es : Table X)
     → map_values f (map_values f es) ≡ map_values f es
 mapped_twice f twice [] = refl
-mapped_twice f twice (e ∷ es) =
-    ap (λ v. (e.0, v) ∷ map_values f (map_values f es)) (twice e.1)
-    ∙ ap (λ zs. (e.0, f e.1) ∷ zs) (mapped_twice f twice es)
+mapped_twice f twice (e ∷ es) = grind (arith, common_steps, mapped_twice f twice es)
 
 -- out of one keyring, the key is still to go out of all
 pub unlinked_once :
     (s : State) (ring serial : ℕ)
     → invalidated (changed s ring (without_link serial)) serial ≡ invalidated s serial
-unlinked_once s ring serial =
-    ap (λ (es : Table Key). record (invalidated s serial) { keys = es })
-    (mapped_alter (without_link serial) (link_twice serial) s.keys ring)
+unlinked_once s ring serial = grind (arith, common_steps, mapped_alter, link_twice)
 
 pub takes_same :
     (old new : State) (done : Result (Unit {0}) Errno) (ring serial : ℕ) → Takes old done new ring serial
     → invalidated new serial ≡ invalidated old serial
-takes_same old new (Ok done) ring serial h =
-    ap (λ (s : State). invalidated s serial) h.1 ∙ unlinked_once old ring serial
+takes_same old new (Ok done) ring serial h = grind (arith, common_steps, unlinked_once)
 takes_same old new (Err e) ring serial h = ap (λ (s : State). invalidated s serial) h.1.1
 
 -- without its attachments
@@ -112,22 +80,9 @@ unattached s serial = record s {
 
 -- out of all attachments, the key is still to go out of all keyrings
 pub unattached_once : (s : State) (serial : ℕ) → invalidated (unattached s serial) serial ≡ invalidated s serial
-unattached_once s serial =
-    let t = invalidated s serial in
-    ap (λ (es : Table Context). record t {
-      contexts = es;
-      processes = map_values (detached serial) t.processes;
-      uids = map_values (rings_without serial) t.uids;
-    }) (mapped_twice (context_without serial) (context_twice serial) s.contexts)
-    ∙ (ap (λ (es : Table (Option ℕ)). record t {
-      processes = es;
-      uids = map_values (rings_without serial) t.uids;
-    }) (mapped_twice (detached serial) (detached_twice serial) s.processes)
-    ∙ ap (λ (es : Table UidRings). record t { uids = es })
-    (mapped_twice (rings_without serial) (rings_twice serial) s.uids))
+unattached_once s serial = grind (arith, common_steps, mapped_twice, context_twice, detached_twice, rings_twice)
 
 -- what nothing holds is out already
-
 others_all : (serial : ℕ) (ks : List ℕ) → times serial ks ≡ 0 → others serial ks ≡ ks
 others_all serial [] none = refl
 others_all serial (k ∷ ks) none =
@@ -145,17 +100,11 @@ content_stays serial (Links ks) none = ap (λ (js : List ℕ). Links js) (others
 
 link_stays :
     (serial : ℕ) (key : Key) → times serial (links_of_content key.content) ≡ 0 → without_link serial key ≡ key
-link_stays serial key none =
-    ap (λ (content : Content). record key { content = content }) (content_stays serial key.content none)
+link_stays serial key none = grind (arith, common_steps, content_stays)
 
 detached_stays : (serial : ℕ) (o : Option ℕ) → times serial (option_to_list o) ≡ 0 → detached serial o ≡ o
 detached_stays serial None none = refl
-detached_stays serial (Some k) none =
-    elim (k == serial) as (λ b. times serial (k ∷ []) ≡ cond b 1 0 + times serial []
-    → (if b then None else Some k) ≡ Some k) [
-      | true ↦ λ e. absurd (omega (arith, e, none))
-      | false ↦ λ e. refl
-    ] (times-cons serial k [])
+detached_stays serial (Some k) none = grind (arith, common_steps, times-cons)
 
 -- what two attachments have
 abbrev two : Option ℕ → Option ℕ → List ℕ
@@ -163,21 +112,11 @@ two a b = option_to_list a ++ option_to_list b
 
 context_stays :
     (serial : ℕ) (c : Context) → times serial (two c.thread c.session) ≡ 0 → context_without serial c ≡ c
-context_stays serial c none =
-    let both = times-append serial (option_to_list c.thread) (option_to_list c.session) in
-    ap (λ (o : Option ℕ). record c { thread = o; session = detached serial c.session })
-    (detached_stays serial c.thread (omega (arith, both, none)))
-    ∙ ap (λ (o : Option ℕ). record c { session = o })
-    (detached_stays serial c.session (omega (arith, both, none)))
+context_stays serial c none = grind (arith, common_steps, times-append, option_to_list, detached_stays)
 
 rings_stay :
     (serial : ℕ) (r : UidRings) → times serial (two r.user r.session) ≡ 0 → rings_without serial r ≡ r
-rings_stay serial r none =
-    let both = times-append serial (option_to_list r.user) (option_to_list r.session) in
-    ap (λ (o : Option ℕ). record r { user = o; session = detached serial r.session })
-    (detached_stays serial r.user (omega (arith, both, none)))
-    ∙ ap (λ (o : Option ℕ). record r { session = o })
-    (detached_stays serial r.session (omega (arith, both, none)))
+rings_stay serial r none = grind (arith, common_steps, times-append, option_to_list, detached_stays)
 
 mapped_stays :
     {X : Type 0} (g : X → List ℕ) (f : X → X) (serial : ℕ) (es : Table X)
@@ -217,19 +156,10 @@ unheld_is_out s serial numbers h none =
     (rings_stay serial) by_uids)))
 
 -- attachments that let go of the key
-
 times-split :
     (serial q : ℕ) (ks : List ℕ) → times q (those serial ks) + times q (others serial ks) ≡ times q ks
 times-split serial q [] = omega arith
-times-split serial q (k ∷ ks) =
-    let later = times-split serial q ks in
-    let was = times-cons q k ks in
-    elim (k == serial) as (λ b.
-    times q (cond b (k ∷ those serial ks) (those serial ks))
-    + times q (cond (not b) (k ∷ others serial ks) (others serial ks)) ≡ times q (k ∷ ks)) [
-      | true ↦ let now = times-cons q k (those serial ks) in omega (arith, later, was, now)
-      | false ↦ let now = times-cons q k (others serial ks) in omega (arith, later, was, now)
-    ]
+times-split serial q (k ∷ ks) = grind (arith, common_steps, times-cons, times-split serial q ks)
 
 -- the numbers are exact without them
 pub unattached_tallied :
@@ -251,9 +181,7 @@ unattached_tallied s serial numbers h =
 pub less_those :
     (serial : ℕ) (xs ys : List ℕ) (numbers : Table ℕ)
     → all_less (those serial ys) (all_less (those serial xs) numbers) ≡ all_less (those serial (xs ++ ys)) numbers
-less_those serial xs ys numbers =
-    sym (ap (λ (ks : List ℕ). all_less ks numbers) (filter-append (λ k. k == serial) xs ys)
-    ∙ all_less-append (those serial xs) (those serial ys) numbers)
+less_those serial xs ys numbers = grind (arith, common_steps, filter-append, all_less-append)
 
 -- of three such lists
 pub less_attached :
@@ -262,12 +190,7 @@ pub less_attached :
     → second ≡ all_less (those serial ps) first
     → new ≡ all_less (those serial us) second
     → new ≡ all_less (those serial (cs ++ (ps ++ us))) old
-less_attached serial cs ps us old first second new one two three =
-    three
-    ∙ (ap (λ (numbers : Table ℕ). all_less (those serial us) numbers) two
-    ∙ (less_those serial ps us first
-    ∙ (ap (λ (numbers : Table ℕ). all_less (those serial (ps ++ us)) numbers) one
-    ∙ less_those serial cs (ps ++ us) old)))
+less_attached serial cs ps us old first second new one two three = grind (arith, common_steps, less_those)
 
 -- the store with these parts is sound, and nothing attaches the key
 pub record IsUnattached (s new : Inside) (serial : ℕ) : Type 0 where

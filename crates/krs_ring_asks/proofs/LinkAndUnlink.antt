@@ -1,5 +1,5 @@
 -- LINK and UNLINK, from what the store has looked up to what they come to.
-use Rattle.std.proofs.Common.{◌∙◌, ◌≡◌, ap, arith, Bool, Err, false, FitsSigned, IfSome, IsSome, List, nat_lt, None}
+use Rattle.std.proofs.Common.{◌∙◌, ◌≡◌, arith, Bool, Err, false, FitsSigned, IfSome, IsSome, List, nat_lt, None}
 use Rattle.std.proofs.Common.{of_z, Ok, Option, option_map, refl, Result, Some, subst, sym, to_z, true, true≢false, w32}
 use Rattle.std.proofs.{Common.{ℕ, ℤ}, lemmas.{Bool.Decides.nat_tests, Int.to_z-of_z}}
 use Rattle.krs_types.specs.{Refusing.{◌>>=◌, or_refuse}, Rights.{LINK, WRITE}, declared.ask.Answer.Answer}
@@ -11,9 +11,10 @@ use Rattle.krs_model.specs.Asks.Linked.{if_linked, link, name_of, nestable, unle
 use Rattle.krs_model.specs.Linking.{linking, ring_links}
 use Rattle.krs_model.specs.{Lookup.{context_of, look_up, serial_of}, Making.{made_for, within_serials}, Outcome.Fails}
 use Rattle.krs_model.specs.{Possession.links_of_content, Reach.links_of_key_at}
-use Rattle.krs_model.specs.{State.{Content, Key, Links, Payload, State}, Sweep.links_of_key, Table.at}
+use Rattle.krs_model.specs.{State.{Content, Key, Links, Payload, State}, Table.at}
 use Rattle.krs_model.proofs.Lookups.Laws.{look_up_usable}
 use Rattle.krs_tables.specs.Linked.{name_in, Puts, room_in, Takes}
+use Rattle.std.proofs.lemmas.Grind.{common_steps}
 
 -- a keyring that was looked up
 pub record IsFoundRing (s : State) (ring : ℕ × Key) : Type 0 where
@@ -27,10 +28,7 @@ links_are (Links serials) links h = refl
 
 pub ring_at_hand : (s : State) (ring : ℕ × Key) (links : List ℕ) → at s.keys ring.0 ≡ Some ring.1
     → ring_links ring.1.content ≡ Ok links → IsFoundRing s ring
-ring_at_hand s ring links there is = record {
-  there = there;
-  links = links_are ring.1.content links is ∙ ap (λ (o : Option Key). Ok (links_of_key o)) (sym there);
-}
+ring_at_hand s ring links there is = grind (arith, common_steps, links_are)
 
 pub found_ring : (s : State) (c : Context) (id : ℤ) (ring : ℕ × Key) (links : List ℕ)
     → look_up s c id (Granted WRITE) ≡ Ok ring → ring_links ring.1.content ≡ Ok links → IsFoundRing s ring
@@ -43,9 +41,7 @@ ring_content (Payload bytes) links h = absurd cc
 ring_content (Links serials) links h = (serials, refl)
 
 pub found_is_ring : (s : State) (ring : ℕ × Key) → IsFoundRing s ring → IsKeyringAt s ring.0
-found_is_ring s ring is =
-    let content = ring_content ring.1.content (links_of_key_at s.keys ring.0) is.links in
-    (ring.1, is.there, content.0, content.1)
+found_is_ring s ring is = grind (arith, common_steps, ring_content)
 
 -- what is not refused does not hold
 pub not_refused : (bad : Bool) (e : Errno) (x : Unit {0}) → unless bad e ≡ Ok x → bad ≡ false
@@ -74,17 +70,7 @@ pub looks_up : (s : State) (client context : ℕ) (key ring : ℤ) (c : Context)
     → unless into.1.closed EPERM ≡ Ok (tt {0})
     → nestable s.keys into.0 found.0 ≡ Ok (tt {0}) → LooksUp s client context key ring c into found
 looks_up s client context key ring c into found links key_fits ring_fits own made ring_found key_found is opens nests =
-    let ring_there : look_up s c ring (Granted WRITE) ≡ Ok into =
-    ap (λ id. look_up s c id (Granted WRITE)) (sym (to_z-of_z w32 ring ring_fits)) ∙ ring_found in
-    record {
-      own = own;
-      made = made;
-      ring_found = ring_there;
-      key_found = ap (λ id. look_up s c id (Granted LINK)) (sym (to_z-of_z w32 key key_fits)) ∙ key_found;
-      is_ring = found_ring s c ring into links ring_there is;
-      unclosed = open_ring into.1 opens;
-      nests = nests;
-    }
+    grind (arith, common_steps, to_z-of_z, w32, found_ring, open_ring)
 
 -- the keyring that LINK has looked up
 pub ring_looked_up : (s : State) (ring : ℤ) (c : Context) (into : ℕ × Key) (links : List ℕ) → FitsSigned w32 ring
@@ -100,9 +86,7 @@ key_looked_up s id c want found is = (look_up_usable s c id want found is).there
 -- an ask that takes no serials is within them
 pub within_as :
     (s t : State) (a : Answer) → t.next_serial ≡ s.next_serial → within_serials s (Ok (t, a)) ≡ Ok (t, a)
-within_as s t a same =
-    let not_less : nat_lt s.next_serial t.next_serial ≡ false = rw same (grind (arith, nat_tests)) in
-    rw not_less refl
+within_as s t a same = grind (arith, common_steps, nat_lt, nat_tests)
 
 answered :
     (room : Result (Unit {0}) Errno) (x : State)
@@ -117,17 +101,13 @@ link_met : (s : State) (client context : ℕ) (key ring : ℤ) (c : Context) (in
     ≡ within_serials s (room_in s.keys into.0 (name_of found.1)
     >>= (λ room. Ok (changed s into.0 (linking s.keys (name_of found.1) found.0), Nothing)))
 unfolding link
-link_met s client context key ring c into found l =
-    rw (l.own, l.made, l.ring_found, l.key_found, l.is_ring.links, l.unclosed, l.nests)
-    (ap (within_serials s) (answered (room_in s.keys into.0 (name_of found.1))
-    (changed s into.0 (linking s.keys (name_of found.1) found.0))))
+link_met s client context key ring c into found l = grind (arith, common_steps, answered)
 
 -- the link of a key that is there has the key's name
 pub put_under : (s new : State) (r : Result (Unit {0}) Fault) (ring serial : ℕ) (key : Key)
     → at s.keys serial ≡ Some key → IfSome (name_in s serial) (λ name. Puts s r new ring name serial)
     → Puts s r new ring (name_of key) serial
-put_under s new r ring serial key there h =
-    subst (λ (o : Option Key). IfSome (option_map name_of o) (λ name. Puts s r new ring name serial)) there h
+put_under s new r ring serial key there h = grind (arith, common_steps, option_map)
 
 pub link_done : (s new : State) (client context : ℕ) (key ring : ℤ) (c : Context) (into found : ℕ × Key)
     → LooksUp s client context key ring c into found → Puts s (Ok (tt {0})) new into.0 (name_of found.1) found.0
@@ -169,15 +149,7 @@ pub looks_for : (s : State) (client context : ℕ) (key ring : ℤ) (c : Context
     → serial_of s c (to_z w32 (of_z w32 key)) ≡ Ok serial → IsSome (at s.keys serial)
     → ring_links from.1.content ≡ Ok links → LooksFor s client context key ring c from serial
 looks_for s client context key ring c from serial links key_fits ring_fits own ring_found named there is =
-    let ring_there : look_up s c ring (Granted WRITE) ≡ Ok from =
-    ap (λ id. look_up s c id (Granted WRITE)) (sym (to_z-of_z w32 ring ring_fits)) ∙ ring_found in
-    record {
-      own = own;
-      ring_found = ring_there;
-      named = ap (serial_of s c) (sym (to_z-of_z w32 key key_fits)) ∙ named;
-      there = there;
-      is_ring = found_ring s c ring from links ring_there is;
-    }
+    grind (arith, common_steps, to_z-of_z, w32, found_ring)
 
 some_or : (o : Option Key) → IsSome o → (k : Key) × (or_refuse ENOKEY o ≡ Ok k)
 some_or None h = absurd (true≢false (sym h))
@@ -188,8 +160,7 @@ unlink_met : (s : State) (client context : ℕ) (key ring : ℤ) (c : Context) (
     ≡ (if_linked serial (links_of_key_at s.keys from.0) >>=
     (λ linked. Ok (changed s from.0 (without_link serial), Nothing)))
 unfolding unlink
-unlink_met s client context key ring c from serial l =
-    rw (l.own, l.ring_found, l.named, (some_or (at s.keys serial) l.there).1, l.is_ring.links) refl
+unlink_met s client context key ring c from serial l = grind (arith, common_steps, some_or)
 
 pub unlink_done : (s new : State) (client context : ℕ) (key ring : ℤ) (c : Context) (from : ℕ × Key) (serial : ℕ)
     → LooksFor s client context key ring c from serial → Takes s (Ok (tt {0})) new from.0 serial

@@ -1,11 +1,11 @@
 -- MOVE, from what the store has looked up to what it comes to.
 use Rattle.std.proofs.Common.{[], ⊎_elim, ◌&&◌, ◌==◌, ◌∙◌, ◌≡◌, ◌≢◌, ap, Bool, cond, eqb-true, Err, false, FitsSigned}
 use Rattle.std.proofs.Common.{IfSome, is_some, IsSome, List, nat_lt, None, of_z, Ok, Option, option_map, refl, Result}
-use Rattle.std.proofs.Common.{Some, subst, sym, to_z, true, true≢false, w32, ℕ, ℤ}
+use Rattle.std.proofs.Common.{arith, Some, sym, to_z, true, true≢false, w32, ℕ, ℤ}
 use Rattle.std.proofs.lemmas.{Int.to_z-of_z, Option.none-some}
-use Rattle.krs_types.specs.{Refusing.{◌>>=◌, or_refuse}, Rights.{LINK, WRITE}, declared.ask.Answer.Answer}
+use Rattle.krs_types.specs.{Refusing.{◌>>=◌}, Rights.{LINK, WRITE}, declared.ask.Answer.Answer}
 use Rattle.krs_types.specs.declared.{ask.Answer.TheVariants.Nothing, context.Context.Context, errno.Errno.Errno}
-use Rattle.krs_types.specs.declared.errno.Errno.TheVariants.{EINVAL, ELOOP, ENOENT, ENOKEY, ENOSPC}
+use Rattle.krs_types.specs.declared.errno.Errno.TheVariants.{EINVAL, ELOOP, ENOSPC}
 use Rattle.krs_types.specs.declared.fault.Fault.{Fault, TheVariants.{Memory, Refused}}
 use Rattle.krs_types.specs.declared.{name.Name.Name, rights.Want.TheVariants.Granted}
 use Rattle.krs_model.specs.Asks.Changing.{changed}
@@ -14,12 +14,12 @@ use Rattle.krs_model.specs.Asks.Moving.{move_link, moved, moved_over, moved_to}
 use Rattle.krs_model.specs.{Levels.is_in, Linking.{link_named, linking, ring_links}, Lookup.{context_of, look_up}}
 use Rattle.krs_model.specs.Making.{made_for, special_ring, within_serials}
 use Rattle.krs_model.specs.{Outcome.{Fails, Outcome}, Reach.{has_chain, links_of_key_at, nesting_depth}}
-use Rattle.krs_model.specs.{State.{Key, State}, Sweep.links_of_key, Table.{alter, at, Table}}
+use Rattle.krs_model.specs.{State.{Key, State}, Table.{alter, at, Table}}
 use Rattle.krs_model.proofs.Asks.Later.{bind_ok, same_ok, same_state, within_ok}
 use Rattle.krs_model.proofs.Asks.LaterByAsk.{IsMoved, linked_into_is, moved_is, Moves, Stays}
 use Rattle.krs_model.proofs.{Lookups.Laws.look_up_usable, MadeKeyring.{Links.linked_into_new, Lookups.look_up_new}}
 use Rattle.krs_model.proofs.{MadeKeyring.State.at_other, Tables.Changes.{at_alter_other, at_or_apart}}
-use Rattle.krs_links.specs.Links.{serial_named, serials}
+use Rattle.krs_links.specs.Links.{serial_named}
 use Rattle.krs_keys.specs.Keys.{FindsByName, named_links_of_content, seen}
 use Rattle.krs_keys.proofs.KeysLemmas.{serials-content}
 use Rattle.krs_tables.specs.{Linked.{name_in, Puts, room_in}, Specials.{linking_made, special_name, with_ring}}
@@ -29,6 +29,7 @@ use Rattle.krs_ring_asks.specs.Moved.{moved_at, moved_links, moved_new}
 use Rattle.krs_ring_asks.proofs.LinkAndUnlink.{IsFoundRing, put_under, within_as}
 use Rattle.krs_keys.specs.declared.key.Key as keys
 use Rattle.krs_ring_asks.specs.Moved as specs
+use Rattle.std.proofs.lemmas.Grind.{common_steps}
 
 -- what takes no serial is within them
 within_same :
@@ -42,19 +43,12 @@ is_moved_serial :
     (s : State) (found from into : ℕ × Key) (new : State) → IsMoved s found from into new
     → new.next_serial ≡ s.next_serial
 is_moved_serial s found from into _ Stays = refl
-is_moved_serial s found from into _ (Moves mid linked) =
-    ap (λ (t : State). t.next_serial) (sym (linked_into_is s into found mid linked).is)
+is_moved_serial s found from into _ (Moves mid linked) = grind (arith, common_steps, linked_into_is)
 
 moved_serial :
     (s : State) (c : Context) (exclusive : Bool) (found from : ℕ × Key) (to : ℤ) (x : State × Answer)
     → moved_to s c exclusive found from to ≡ Ok x → x.0.next_serial ≡ s.next_serial
-moved_serial s c exclusive found from to x h =
-    let a = bind_ok (look_up s c to (Granted WRITE)) _ x h in
-    let b = bind_ok (moved s exclusive found from a.0) _ x a.2 in
-    let end : Outcome = Ok (b.0, Nothing) in
-    let same : (b.0, Nothing) ≡ x = same_ok end (b.0, Nothing) x refl b.2 in
-    ap (λ (y : State × Answer). y.0.next_serial) (sym same)
-    ∙ is_moved_serial s found from a.0 b.0 (moved_is s exclusive found from a.0 b.0 b.1)
+moved_serial s c exclusive found from to x h = grind (arith, common_steps, bind_ok, same_ok, is_moved_serial, moved_is)
 
 -- what MOVE has looked up before the second keyring
 pub record LooksUpMoved (s : State) (client number : ℕ) (key from : ℤ) (flags : ℕ) (c : Context)
@@ -111,8 +105,7 @@ nested_within :
     → within_serials s (going x from serial nests >>= (λ (new : State). Ok (new, Nothing)))
     ≡ coming s x from serial nests
 nested_within s x from serial (Err e) = refl
-nested_within s x from serial (Ok n) =
-    room_kept (nat_lt s.next_serial x.next_serial && nat_lt 2147483648 x.next_serial) x from serial
+nested_within s x from serial (Ok n) = grind (arith, common_steps, room_kept, nat_lt)
 
 linked_within :
     (s x : State) (from serial : ℕ) (there : Result ℕ Errno) (nests : Result (Unit {0}) Errno)
@@ -130,11 +123,7 @@ links_within s x from serial (Err e) nests = refl
 links_within s x from serial (Ok l) nests = linked_within s x from serial (if_linked serial l) nests
 
 not_one : (a b : ℕ) → a ≢ b → (a == b) ≡ false
-not_one a b other =
-    elim (a == b) as (λ t. (a == b) ≡ t → t ≡ false) [
-      | true ↦ λ t. absurd (other (eqb-true a b t))
-      | false ↦ λ t. refl
-    ] refl
+not_one a b other = grind (arith, common_steps, eqb-true)
 
 -- into a keyring that is made for it
 pub move_new_is :
@@ -192,30 +181,19 @@ pub looks_up_moved :
     → look_up s c (to_z w32 (of_z w32 from)) (Granted WRITE) ≡ Ok source
     → LooksUpMoved s client number key from flags c found source
 looks_up_moved s client number key from flags c found source key_fits from_fits own known key_found
-    ring_found = record {
-      own = own;
-      known = known;
-      key_found = ap (λ id. look_up s c id (Granted LINK)) (sym (to_z-of_z w32 key key_fits)) ∙ key_found;
-      ring_found = ap (λ id. look_up s c id (Granted WRITE)) (sym (to_z-of_z w32 from from_fits)) ∙ ring_found;
-    }
+    ring_found =
+    grind (arith, common_steps, to_z-of_z, w32)
 
 -- ---- the link that goes out
-
 -- another keyring keeps its links
 links_stay :
     (keys : Table Key) (ring other : ℕ) (f : Key → Key) → other ≢ ring
     → links_of_key_at (alter keys ring f) other ≡ links_of_key_at keys other
-links_stay keys ring other f apart =
-    ap links_of_key (⊎_elim (λ (e : other ≡ ring). absurd (apart e)) (λ h. at_alter_other keys ring other f h)
-    (at_or_apart other ring))
+links_stay keys ring other f apart = grind (arith, common_steps, ⊎_elim, at_alter_other, at_or_apart)
 
 -- what is linked, by the test
 pub linked_is : (serial : ℕ) (links : List ℕ) (x : ℕ) → if_linked serial links ≡ Ok x → is_in serial links ≡ true
-linked_is serial links x h =
-    elim (is_in serial links) as (λ b. cond b (Ok serial) (Err ENOENT) ≡ Ok x → b ≡ true) [
-      | true ↦ λ e. refl
-      | false ↦ λ e. absurd cc
-    ] h
+linked_is serial links x h = grind (arith, common_steps)
 
 some_is : (o : Option Key) → IsSome o → (k : Key) × (o ≡ Some k)
 some_is None h = absurd (true≢false (sym h))
@@ -226,12 +204,7 @@ pub put_leaves :
     (s mid : State) (from into serial : ℕ) → IsSome (at s.keys serial) → from ≢ into
     → IfSome (name_in s serial) (λ name. Puts s (Ok (tt {0})) mid into name serial)
     → is_in serial (links_of_key_at s.keys from) ≡ true → is_in serial (links_of_key_at mid.keys from) ≡ true
-put_leaves s mid from into serial there apart puts linked =
-    let key = some_is (at s.keys serial) there in
-    let is = put_under s mid (Ok (tt {0})) into serial key.0 key.1 puts in
-    let f = linking s.keys (name_of key.0) serial in
-    subst (λ (t : State). is_in serial (links_of_key_at t.keys from) ≡ true) (sym is.1)
-    (ap (is_in serial) (links_stay s.keys into from f apart) ∙ linked)
+put_leaves s mid from into serial there apart puts linked = grind (arith, common_steps, some_is, put_under, links_stay)
 
 at_with_ring :
     (special : Special) (s : State) (number : ℕ) (c : Context) (k : ℕ) → k ≢ s.next_serial
@@ -245,33 +218,16 @@ pub making_leaves :
     → at s.keys s.next_serial ≡ None → linking_made special s client number serial Nothing ≡ Ok (mid, answer)
     → is_in serial (links_of_key_at s.keys from) ≡ true → is_in serial (links_of_key_at mid.keys from) ≡ true
 making_leaves special s mid client number serial from answer none h linked =
-    let a = bind_ok (context_of s client number) _ (mid, answer) h in
-    let b = bind_ok (or_refuse ENOKEY (at s.keys serial)) _ (mid, answer) a.2 in
-    let d = bind_ok (unless (has_chain s.keys serial nesting_depth) ELOOP) _ (mid, answer) b.2 in
-    let t = with_ring special s number a.0 in
-    let n = s.next_serial in
-    let f = linking t.keys (name_of b.0) serial in
-    let x : State = changed t n f in
-    let done : Outcome = Ok (x, Nothing) in
-    let end : x ≡ mid = same_state done x mid Nothing answer refl (within_ok s done (mid, answer) d.2) in
-    let other : from ≢ n = λ e. true≢false
-    (sym linked ∙ ap (λ (o : Option Key). is_in serial (links_of_key o)) (ap (λ (z : ℕ). at s.keys z) e ∙ none)) in
-    subst (λ (y : State). is_in serial (links_of_key_at y.keys from) ≡ true) end
-    (ap (is_in serial) (links_stay t.keys n from f other
-    ∙ ap links_of_key (at_with_ring special s number a.0 from other)) ∙ linked)
+    grind (arith, common_steps, bind_ok, same_state, within_ok, true≢false, links_stay, at_with_ring)
 
 -- ---- into a keyring that is there
-
 -- whether a keyring has a link of that name
 pub free_told :
     (s : State) (into : ℕ) (ring : keys.Key) (name : Name) (exclusive : Bool) → at s.keys into ≡ Some (seen ring)
     → FindsByName s.keys ring
     → (exclusive && is_some (serial_named (named_links_of_content ring.content) name)) ≡ false
     → (exclusive && is_some (link_named s.keys name (links_of_key_at s.keys into))) ≡ false
-free_told s into ring name exclusive there finds free =
-    let links : links_of_key_at s.keys into ≡ serials (named_links_of_content ring.content) =
-    ap links_of_key there ∙ sym (serials-content ring.content) in
-    ap (λ (o : Option ℕ). exclusive && is_some o) (ap (link_named s.keys name) links ∙ finds name) ∙ free
+free_told s into ring name exclusive there finds free = grind (arith, common_steps, serials-content, is_some)
 
 -- what a move into a keyring that is there has looked up and tested
 pub record MayMove (s : State) (client number serial from : ℕ) (to : ℤ) (flags : ℕ) (c : Context) (key source : Key)
@@ -304,31 +260,14 @@ move_met :
     → moved_at s client number serial from to flags
     ≡ (room_in s.keys into.0 (name_of key)
     >>= (λ room. Ok (moved_links s from into.0 (name_of key) serial, Nothing)))
-move_met s client number serial from to flags c key source into l =
-    rw (
-      l.own,
-      l.there,
-      l.is_source.there,
-      l.ring_found,
-      l.is_source.links,
-      l.is_ring.links,
-      l.linked,
-      l.apart,
-      l.free,
-      l.unclosed,
-      l.nests,
-    )
-    (move_answered (room_in s.keys into.0 (name_of key))
-    (changed s into.0 (linking s.keys (name_of key) serial)) from serial)
+move_met s client number serial from to flags c key source into l = grind (arith, common_steps, move_answered)
 
 -- the link of a key that is there has the key's name
 moves_under :
     (s new : State) (r : Result (Unit {0}) Fault) (from into serial : ℕ) (key : Key) → at s.keys serial ≡ Some key
     → IfSome (name_in s serial) (λ name. specs.Moves s r new from into name serial)
     → specs.Moves s r new from into (name_of key) serial
-moves_under s new r from into serial key there h =
-    subst (λ (o : Option Key). IfSome (option_map name_of o)
-    (λ name. specs.Moves s r new from into name serial)) there h
+moves_under s new r from into serial key there h = grind (arith, common_steps, option_map)
 
 pub move_done :
     (s new : State) (client number serial from : ℕ) (to : ℤ) (flags : ℕ) (c : Context) (key source : Key)
@@ -337,8 +276,7 @@ pub move_done :
     → IfSome (name_in s serial) (λ name. specs.Moves s (Ok (tt {0})) new from into.0 name serial)
     → moved_at s client number serial from to flags ≡ Ok (new, Nothing)
 move_done s new client number serial from to flags c key source into l moves =
-    let is = moves_under s new (Ok (tt {0})) from into.0 serial key l.there moves in
-    move_met s client number serial from to flags c key source into l ∙ rw (is.0, is.1) refl
+    grind (arith, common_steps, moves_under, move_met)
 
 -- no room, or no memory where there is room
 fails_room :
@@ -355,8 +293,4 @@ pub move_failed :
     → IfSome (name_in s serial) (λ name. specs.Moves s (Err e) new from into.0 name serial)
     → Fails e (moved_at s client number serial from to flags) × (new ≡ s)
 move_failed s new client number serial from to flags c key source into e l moves =
-    let is = moves_under s new (Err e) from into.0 serial key l.there moves in (
-      subst (Fails e) (sym (move_met s client number serial from to flags c key source into l))
-          (fails_room (room_in s.keys into.0 (name_of key)) _ e is.0),
-      is.1,
-    )
+    grind (arith, common_steps, moves_under, move_met, fails_room)

@@ -1,18 +1,18 @@
 -- SEARCH and REQUEST with a destination, from what the store has looked up to what they come to.
-use Rattle.std.proofs.Common.{◌∙◌, ◌≡◌, ap, cond, Err, false, FitsSigned, List, negsuc, None, of_z, Ok, Option, pos}
+use Rattle.std.proofs.Common.{◌∙◌, ◌≡◌, ap, arith, Err, FitsSigned, List, negsuc, None, of_z, Ok, Option, pos}
 use Rattle.std.proofs.{Common.{refl, Result, Some, suc, sym, to_z, true, w32, zero, ℕ, ℤ}, lemmas.Int.to_z-of_z}
-use Rattle.krs_types.specs.{Growth.has_destination, Refusing.{◌>>=◌, or_refuse}, Rights.{has_all, LINK, SEARCH, WRITE}}
+use Rattle.krs_types.specs.{Growth.has_destination, Refusing.{◌>>=◌, or_refuse}, Rights.{SEARCH, WRITE}}
 use Rattle.krs_types.specs.declared.ask.Answer.{Answer, TheVariants.Number}
-use Rattle.krs_types.specs.declared.{context.Context.Context, errno.Errno.{Errno, TheVariants.{EACCES, ENOKEY, EPERM}}}
+use Rattle.krs_types.specs.declared.{context.Context.Context, errno.Errno.{Errno, TheVariants.{ENOKEY, EPERM}}}
 use Rattle.krs_types.specs.declared.{name.Name.Name, rights.Want.TheVariants.Granted}
-use Rattle.krs_model.specs.Access.{rights_on}
 use Rattle.krs_model.specs.Asks.{Changing.changed, Finding.{found_into, if_linkable, requested_into, sought_into}}
 use Rattle.krs_model.specs.{Asks.Linked.{linked_into, name_of, nestable, unless}, Linking.{linking, ring_links}}
 use Rattle.krs_model.specs.{Lookup.{context_of, look_up}, Making.{made_for, within_serials}, Outcome.{Is, Outcome}}
-use Rattle.krs_model.specs.{Possession.possessed, Search.{found, requested}, State.{Key, State}, Table.at}
+use Rattle.krs_model.specs.{Search.{found, requested}, State.{Key, State}}
 use Rattle.krs_tables.specs.Linked.{room_in}
 use Rattle.krs_ring_asks.specs.Found.{if_granted, link_found, request_named, search_named}
 use Rattle.krs_ring_asks.proofs.LinkAndUnlink.{IsFoundRing, within_as}
+use Rattle.std.proofs.lemmas.Grind.{common_steps}
 
 -- what was sought, as it was found
 pub as_sought : (found meant : Result Name Errno) → Is (λ name. name) found meant → meant ≡ found
@@ -52,22 +52,14 @@ by_key :
     >>= (λ l. linked_into s into l >>= (λ new. Ok (new, Number serial)))))
     ≡ ((or_refuse ENOKEY o >>= (λ key. if_granted s c serial key)) >>= (λ key. linked_tests s into serial key))
 by_key s c into serial None is = refl
-by_key s c into serial (Some key) is =
-    let goes : ℕ × Key → Outcome = λ l. linked_into s into l >>= (λ new. Ok (new, Number serial)) in
-    elim (has_all (rights_on key c.caller (possessed s c serial)) LINK)
-    as (λ b. within_serials s (cond b (Ok (serial, key)) (Err EACCES) >>= goes)
-    ≡ (cond b (Ok key) (Err EACCES) >>= (λ k. linked_tests s into serial k))) [
-      | true ↦ into_is s into serial key is
-      | false ↦ refl
-    ]
+by_key s c into serial (Some key) is = grind (arith, common_steps, into_is)
 
 -- a found key is linked where it grants LINK and the tests of a link let it through
 pub found_is :
     (s : State) (client number : ℕ) (c : Context) (into : ℕ × Key) (serial : ℕ) → context_of s client number ≡ Ok c
     → IsFoundRing s into → within_serials s (found_into s c into (Ok serial))
     ≡ link_found s client number into.0 serial
-found_is s client number c into serial own is =
-    by_key s c into serial (at s.keys serial) is ∙ sym (rw (own, is.there) refl)
+found_is s client number c into serial own is = grind (arith, common_steps, by_key)
 
 -- what SEARCH has looked up, with a destination that is there
 pub record Seeks (s : State) (client number : ℕ) (head : ℤ) (sought : Result Name Errno) (dest : ℤ) (c : Context)

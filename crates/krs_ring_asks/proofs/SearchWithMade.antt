@@ -3,16 +3,15 @@
 use Rattle.std.proofs.Common.{[], ◌∙◌, ◌∷◌, ◌≡◌, ◌≢◌, ap, Bool, cond, Err, false, find, FitsSigned, flat_map, IsSome}
 use Rattle.std.proofs.Common.{List, None, of_z, Ok, Option, option_to_list, refl, Result, Some, subst, sym, to_z, true}
 use Rattle.std.proofs.{Common.{w32, ℕ, ℤ}, lemmas.{Int.to_z-of_z, Option.{none-some, same_Some}}}
-use Rattle.krs_types.specs.{Growth.has_destination, Refusing.{◌>>=◌, or_refuse}, Rights.{has_all, LINK, SEARCH}}
+use Rattle.krs_types.specs.{Growth.has_destination, Refusing.{◌>>=◌, or_refuse}, Rights.{SEARCH}}
 use Rattle.krs_types.specs.declared.ask.Answer.TheVariants.{Number}
-use Rattle.krs_types.specs.declared.{context.Context.Context, errno.Errno.{Errno, TheVariants.{EACCES, ELOOP, ENOKEY}}}
+use Rattle.krs_types.specs.declared.{context.Context.Context, errno.Errno.{Errno, TheVariants.{ELOOP, ENOKEY}}}
 use Rattle.krs_types.specs.declared.{name.Name.Name, rights.Want.TheVariants.Granted}
-use Rattle.krs_model.specs.Access.{rights_on}
 use Rattle.krs_model.specs.Asks.{Changing.changed, Finding.{found_into, if_linkable, requested_into, sought_into}}
 use Rattle.krs_model.specs.{Asks.Linked.{linked_into, name_of, unless}, Laws.in_turn, Linking.{linking, ring_links}}
 use Rattle.krs_model.specs.{Lookup.{context_of, look_up}, Making.{special_ring, within_serials}, Outcome.Outcome}
-use Rattle.krs_model.specs.{Possession.{attached, possessed}, Reach.{has_chain, nesting_depth}}
-use Rattle.krs_model.specs.Search.{found, is_answer, is_match, is_open, or_next, requested, searched, searcher_of}
+use Rattle.krs_model.specs.{Possession.{possessed}, Reach.{has_chain, nesting_depth}}
+use Rattle.krs_model.specs.Search.{found, is_match, is_open, or_next, requested, searcher_of}
 use Rattle.krs_model.specs.{Sound.IsSound, State.{Key, State}, Table.at}
 use Rattle.krs_model.proofs.Lookups.Laws.{look_up_usable}
 use Rattle.krs_model.proofs.MadeKeyring.Links.{found_into_new, found_into_self, linked_into_new, requested_into_new}
@@ -24,6 +23,8 @@ use Rattle.krs_tables.proofs.MadeFor.{before, behind, context_with, is_new, IsNe
 use Rattle.krs_ring_asks.specs.Beside.{beside, found_before, found_in, found_made, is_of_name, or_itself}
 use Rattle.krs_ring_asks.specs.Found.{found_below, if_granted, request_named, search_named}
 use Rattle.krs_ring_asks.proofs.SearchAndRequest.{wanted_of}
+use Rattle.std.proofs.Common.{arith}
+use Rattle.std.proofs.lemmas.Grind.{common_steps}
 
 -- an answer is a key that is there
 match_there : (name : Name) (holds : Key → Bool) (o : Option Key) → is_match name holds o ≡ true → IsSome o
@@ -51,21 +52,13 @@ find_passes p (x ∷ xs) k h =
 requested_there :
     (s : State) (c : Context) (name : Name) (k : ℕ) → requested s c name ≡ Ok k → IsSome (at s.keys k)
 unfolding requested possessed
-requested_there s c name k h =
-    let by = searcher_of s c in
-    let serials = flat_map (searched by) (attached s c) in
-    let first = first_found _ (find (is_answer by name) serials) k h in
-    match_there name (is_open by k) (at s.keys k) (find_passes (is_answer by name) serials k first)
+requested_there s c name k h = grind (arith, common_steps, flat_map, first_found, match_there, find_passes)
 
 before_there :
     (special : Special) (s : State) (c : Context) (name : Name) (k : ℕ) → found_before special s c name ≡ Ok k
     → IsSome (at s.keys k)
 before_there Thread s c name k h = cc
-before_there Process s c name k h =
-    elim c.thread as (λ o. found_in s c name o ≡ Ok k → IsSome (at s.keys k)) [
-      | None ↦ λ e. cc
-      | Some ring ↦ λ e. found_there s c ring name k e
-    ] h
+before_there Process s c name k h = grind (arith, common_steps, found_there)
 
 -- and so it is not the keyring that is made
 other : (s : State) (k : ℕ) → at s.keys s.next_serial ≡ None → IsSome (at s.keys k) → k ≢ s.next_serial
@@ -128,15 +121,7 @@ by_key :
     ≡ ((or_refuse ENOKEY o >>= (λ key. if_granted s c serial key)) >>= (λ key.
     or_refuse ENOKEY o >>= (λ linked. new_link s t serial linked)))
 by_key s t c ring serial None into = refl
-by_key s t c ring serial (Some key) into =
-    let goes : ℕ × Key → Outcome = λ l. linked_into t ring l >>= (λ new. Ok (new, Number serial)) in
-    elim (has_all (rights_on key c.caller (possessed s c serial)) LINK)
-    as (λ b. within_serials s (cond b (Ok (serial, key)) (Err EACCES) >>= goes)
-    ≡ (cond b (Ok key) (Err EACCES) >>= (λ (k : Key). new_link s t serial key))) [
-      | true ↦ ap (λ (r : Result State Errno). within_serials s (r >>= (λ new. Ok (new, Number serial)))) (into key)
-          ∙ by_chain s t serial key (has_chain s.keys serial nesting_depth)
-      | false ↦ refl
-    ]
+by_key s t c ring serial (Some key) into = grind (arith, common_steps, by_chain)
 
 -- what was found, linked in the keyring that is made
 abbrev into_new : Special → State → ℕ → Context → Result ℕ Errno → Outcome

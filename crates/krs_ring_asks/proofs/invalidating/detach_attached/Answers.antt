@@ -1,18 +1,10 @@
-use Rattle.std.proofs.Common.{◌∙◌, ap}
-use Rattle.krs_model.specs.{Asks.Invalidating.invalidated, State.State}
-use Rattle.krs_tables.specs.View.{state_of}
 use Rattle.krs_ring_asks.proofs.Detaching.{unattached_once, unattached_told}
 use Rattle.krs_ring_asks.proofs.invalidating.detach_attached.Goals as goal
+use Rattle.std.proofs.Common.{arith}
+use Rattle.std.proofs.lemmas.Grind.{common_steps}
 
 pub invariant_of-tables : goal.invariant_of-tables
-invariant_of-tables c =
-    (unattached_told c.tables.inside c.args.serial _ _ c.tables.invariant c.detach.ensures
-    c.let_go_attached.ensures).sound
+invariant_of-tables c = grind (arith, common_steps, unattached_told)
 
 pub returns : goal.returns
-returns c =
-    ap (λ (s : State). invalidated s c.args.serial)
-    (unattached_told c.tables.inside c.args.serial _ _ c.tables.invariant c.detach.ensures
-    c.let_go_attached.ensures).is
-    ∙ (unattached_once (state_of c.tables.inside) c.args.serial
-    ∙ ap (λ (s : State). invalidated s c.args.serial) c.tables.view_is)
+returns c = grind (arith, common_steps, unattached_told, unattached_once)

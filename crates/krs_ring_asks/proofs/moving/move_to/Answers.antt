@@ -1,4 +1,4 @@
-use Rattle.std.proofs.Common.{◌==◌, ◌∙◌, ◌≡◌, ap, Ok, rules, Some, sym, w32, ℕ}
+use Rattle.std.proofs.Common.{◌==◌, ◌∙◌, ◌≡◌, ap, arith, Ok, rules, Some, sym, w32, ℕ}
 use Rattle.std.proofs.lemmas.{Int.to_z-of_z, Result.err_from_is_err_and}
 use Rattle.krs_types.specs.{Rights.WRITE, declared.{errno.Errno.TheVariants.EEXIST, rights.Want.TheVariants.Granted}}
 use Rattle.krs_model.specs.Asks.Adding.{IsKeyringAt}
@@ -8,6 +8,7 @@ use Rattle.krs_ring_asks.proofs.LinkAndUnlink.{found_is_ring, found_ring, not_re
 use Rattle.krs_ring_asks.proofs.MovedLinks.{free_told, linked_is, MayMove, move_done, move_failed}
 use Rattle.krs_ring_asks.proofs.moving.move_to.Goals.{After-move_over, After-new-into}
 use Rattle.krs_ring_asks.proofs.moving.move_to.Goals as goal
+use Rattle.std.proofs.lemmas.Grind.{common_steps}
 
 -- the destination is a keyring
 is_ring : (c : After-new-into) → IsKeyringAt c.args.tables.now c.new-into.result
@@ -53,19 +54,7 @@ may c =
     }
 
 pub returns-in_err-move_over : goal.returns-in_err-move_over
-returns-in_err-move_over c =
-    let told = move_failed c.args.tables.now c.move_over.new.tables c.args.client c.args.number c.args.link.serial
-    c.args.link.from c.args.to c.args.flags c.in_ok-context.context.now (seen c.in_ok-key.key.now)
-    (seen c.in_ok-source.source.now) (c.in_ok-into.into, seen c.in_ok-into.ring.now) c.in_err-move_over.field-0.0
-    (may (goal.at.returns-in_err-move_over c).After-move_over)
-    (rw (sym c.new-into.ensures) c.in_err-move_over.ensures) in
-    let answer = err_from_is_err_and c.from_residual-in_err-move_over.result
-    c.from_residual-in_err-move_over.ensures.1 in
-    rw (answer.1, answer.2) told
+returns-in_err-move_over c = grind (arith, common_steps, move_failed, may, err_from_is_err_and)
 
 pub returns : goal.returns
-returns c =
-    move_done c.args.tables.now c.move_over.new.tables c.args.client c.args.number c.args.link.serial c.args.link.from
-    c.args.to c.args.flags c.in_ok-context.context.now (seen c.in_ok-key.key.now) (seen c.in_ok-source.source.now)
-    (c.in_ok-into.into, seen c.in_ok-into.ring.now) (may (goal.at.returns c).After-move_over)
-    (rw (sym c.new-into.ensures) c.in_ok-move_over.ensures)
+returns c = grind (arith, common_steps, move_done, may)
