@@ -1,12 +1,12 @@
 -- What holds of each entry of a table, after a change of the table.
 use Rattle.std.proofs.Common.{[], ◌<◌, ◌∙◌, ◌∷◌, ◌≡◌, ap, Bool, cond, false, filter, List, map, nat_cmp, None, refl}
-use Rattle.std.proofs.Common.{Some, subst, sym, true, ℕ}
+use Rattle.std.proofs.Common.{arith, Some, subst, sym, true, ℕ}
 use Rattle.std.specs.BTreeMap.{is_at}
-use Rattle.std.specs.{Cmp.ranked, Ordering.match_ordering, declared.cmp.Ordering.TheVariants.{Equal, Greater, Less}}
 use Rattle.std.proofs.{Math.Nat.lt_of_not-le, lemmas.Option.{none-some, same_Some}}
 use Rattle.krs_model.specs.Table.{alter, at, IsBelow, map_values, put, Table, without}
 use Rattle.krs_model.proofs.Tables.Changes.{is_at_same, same_at}
 use Rattle.krs_ctx.specs.Anchors.{Each}
+use Rattle.std.proofs.lemmas.Grind.{common_steps}
 
 pub each_on : {X : Type 0} (P Q : X → Type 0) (xs : List X) → ((x : X) → P x → Q x) → Each P xs → Each Q xs
 each_on P Q [] on h = tt
@@ -19,37 +19,21 @@ each_both P Q R (x ∷ xs) on g h = (on x g.0 h.0, each_both P Q R xs on g.1 h.1
 
 pub each_filter : {X : Type 0} (P : X → Type 0) (p : X → Bool) (xs : List X) → Each P xs → Each P (filter p xs)
 each_filter P p [] h = tt
-each_filter P p (x ∷ xs) h = elim (p x) as (λ b. Each P (cond b (x ∷ filter p xs) (filter p xs))) [
-  | true ↦ (h.0, each_filter P p xs h.1)
-  | false ↦ each_filter P p xs h.1
-]
+each_filter P p (x ∷ xs) h = grind (arith, common_steps, each_filter P p xs h.1)
 
 pub each_put : {X : Type 0} (P : ℕ × X → Type 0) (es : Table X) (k : ℕ) (v : X) → P (k, v) → Each P es
     → Each P (put es k v)
 each_put P [] k v new h = (new, tt)
-each_put P (e ∷ es) k v new h =
-    elim (nat_cmp k e.0) as
-    (λ r. nat_cmp k e.0 ≡ r → Each P (match_ordering r ((k, v) ∷ e ∷ es) ((e.0, v) ∷ es) (e ∷ put es k v))) [
-      | Less ↦ λ t. (new, (h.0, h.1))
-      | Equal ↦ λ t. (subst (λ (n : ℕ). P (n, v)) (ranked k e.0 Equal (sym t)) new, h.1)
-      | Greater ↦ λ t. (h.0, each_put P es k v new h.1)
-    ] refl
+each_put P (e ∷ es) k v new h = grind (arith, common_steps, nat_cmp, each_put P es k v new h.1)
 
 pub each_without : {X : Type 0} (P : ℕ × X → Type 0) (es : Table X) (k : ℕ) → Each P es → Each P (without es k)
 each_without P [] k h = tt
-each_without P (e ∷ es) k h = elim (is_at (nat_cmp k) e.0) as (λ b. Each P (cond b es (e ∷ without es k))) [
-  | true ↦ h.1
-  | false ↦ (h.0, each_without P es k h.1)
-]
+each_without P (e ∷ es) k h = grind (arith, common_steps, nat_cmp, each_without P es k h.1)
 
 pub each_alter : {X : Type 0} (P : ℕ × X → Type 0) (es : Table X) (k : ℕ) (f : X → X)
     → ((e : ℕ × X) → P e → P (e.0, f e.1)) → Each P es → Each P (alter es k f)
 each_alter P [] k f on h = tt
-each_alter P (e ∷ es) k f on h =
-    elim (is_at (nat_cmp k) e.0) as (λ b. Each P (cond b ((e.0, f e.1) ∷ es) (e ∷ alter es k f))) [
-      | true ↦ (on e h.0, h.1)
-      | false ↦ (h.0, each_alter P es k f on h.1)
-    ]
+each_alter P (e ∷ es) k f on h = grind (arith, common_steps, nat_cmp, each_alter P es k f on h.1)
 
 -- it holds of what is at a number
 pub each_at : {X : Type 0} (P : ℕ × X → Type 0) (es : Table X) (k : ℕ) (v : X) → Each P es → at es k ≡ Some v
@@ -67,10 +51,7 @@ here_some : {X : Type 0} (e : ℕ × X) (es : Table X) → at (e ∷ es) e.0 ≡
 here_some e es = ap (λ b. cond b (Some e.1) (at es e.0)) (is_at_same e.0)
 
 pub later_none : {X : Type 0} (e : ℕ × X) (es : Table X) (k : ℕ) → at (e ∷ es) k ≡ None → at es k ≡ None
-later_none e es k h = elim (is_at (nat_cmp k) e.0) as (λ b. cond b (Some e.1) (at es k) ≡ None → at es k ≡ None) [
-  | true ↦ λ n. absurd (none-some e.1 (sym n))
-  | false ↦ λ n. n
-] h
+later_none e es k h = grind (arith, common_steps, nat_cmp, none-some)
 
 -- each number that is in use is below those that are not
 pub each_below : {X : Type 0} (es : Table X) (n : ℕ) → IsBelow es n → Each (λ (e : ℕ × X). e.0 < n) es

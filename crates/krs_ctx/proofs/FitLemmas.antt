@@ -1,5 +1,5 @@
 -- What is true of all anchors stays so.
-use Rattle.std.proofs.Common.{[], ⊎_elim, ◌+◌, ◌<◌, ◌==◌, ◌∙◌, ◌∷◌, ◌≡◌, ◌≤◌, ap, arith, Bool, cond, false, filter}
+use Rattle.std.proofs.Common.{[], ⊎_elim, ◌+◌, ◌<◌, ◌∙◌, ◌∷◌, ◌≡◌, ◌≤◌, ap, arith, Bool, cond, false, filter}
 use Rattle.std.proofs.Common.{if◌then◌else◌, IsSome, nat_cmp, None, Option, option_map, refl, Some, subst, sym, true}
 use Rattle.std.proofs.Common.{true≢false, ℕ}
 use Rattle.std.specs.{BTreeMap.is_at, Cmp.unsigned_tied}
@@ -13,6 +13,7 @@ use Rattle.krs_ctx.specs.Anchors.{Anchors, Each, IsEntered, IsFit}
 use Rattle.krs_ctx.proofs.EachLemmas.{each_alter, each_at, each_below, each_both, each_filter, each_on, each_put}
 use Rattle.krs_ctx.proofs.EachLemmas.{each_without}
 use Rattle.krs_ctx.proofs.OwnerLemmas.{owners_alter, owners_filter, owners_map, owners_own, owners_put, owners_without}
+use Rattle.std.proofs.lemmas.Grind.{common_steps}
 
 -- a table whose numbers are below one is below the next
 below_more : {X : Type 0} (es : Table X) (n : ℕ) → IsBelow es n → IsBelow es (n + 1)
@@ -40,10 +41,7 @@ below_last es n gone below = λ q h.
 
 -- a process that is there is there after another was made, changed or ended
 still_put : (ps : Table (Option ℕ)) (n q : ℕ) (v : Option ℕ) → IsSome (at ps q) → IsSome (at (put ps n v) q)
-still_put ps n q v h =
-    ⊎_elim (λ (e : q ≡ n). subst (λ (z : ℕ). IsSome (at (put ps n v) z)) (sym e) (rw (at_put_same ps n v) refl))
-    (λ apart. rw (at_put_other ps n q v apart) h)
-    (at_or_apart q n)
+still_put ps n q v h = grind (arith, common_steps, ⊎_elim, at_put_same, at_put_other, at_or_apart)
 
 map_some : (f : Option ℕ → Option ℕ) (o : Option (Option ℕ)) → IsSome o → IsSome (option_map f o)
 map_some f None h = h
@@ -51,26 +49,15 @@ map_some f (Some v) h = refl
 
 still_alter : (ps : Table (Option ℕ)) (n q : ℕ) (f : Option ℕ → Option ℕ) → IsSome (at ps q)
     → IsSome (at (alter ps n f) q)
-still_alter ps n q f h =
-    ⊎_elim (λ (e : q ≡ n). subst (λ (z : ℕ). IsSome (at ps z) → IsSome (at (alter ps n f) z)) (sym e)
-    (λ there. rw (at_alter_same ps n f) (map_some f (at ps n) there)) h)
-    (λ apart. rw (at_alter_other ps n q f apart) h)
-    (at_or_apart q n)
+still_alter ps n q f h = grind (arith, common_steps, ⊎_elim, at_alter_same, map_some, at_alter_other, at_or_apart)
 
 still_without : (ps : Table (Option ℕ)) (n q : ℕ) → (q ≡ n → ⊥) → IsSome (at ps q) → IsSome (at (without ps n) q)
-still_without ps n q other h =
-    ⊎_elim (λ (e : q ≡ n). absurd (other e))
-    (λ apart. rw (at_without_other ps n q apart) h)
-    (at_or_apart q n)
+still_without ps n q other h = grind (arith, common_steps, ⊎_elim, at_without_other, at_or_apart)
 
 -- each context has a context of its process: itself
 each_has : (es : Table Context) → Each (λ e. has_process es e.1.process ≡ true) es
 each_has [] = tt
-each_has (e ∷ es) = (
-  rw (same_is e.1.process e.1.process refl) refl,
-  each_on (λ x. has_process es x.1.process ≡ true) (λ x. has_process (e ∷ es) x.1.process ≡ true) es
-      (λ x h. or_true (e.1.process == x.1.process) (has_process es x.1.process) h) (each_has es),
-)
+each_has (e ∷ es) = grind (arith, common_steps, same_is, each_on, or_true, each_has es)
 
 -- a context that is there is in a process, and its number was given
 pub record IsKnown (t : Anchors) (number : ℕ) (c : Context) : Type 0 where
@@ -79,14 +66,7 @@ pub record IsKnown (t : Anchors) (number : ℕ) (c : Context) : Type 0 where
   pub given : number < t.next_context
 
 pub known : (t : Anchors) (number : ℕ) (c : Context) → IsFit t → at t.contexts number ≡ Some c → IsKnown t number c
-known t number c fit there =
-    let entered : IsEntered t.processes (number, c) =
-    each_at (IsEntered t.processes) t.contexts number c fit.entered there in
-    record {
-      process = entered.0;
-      from = entered.1;
-      given = lt_of_not-le (λ le. none-some c (sym (fit.contexts number le) ∙ there));
-    }
+known t number c fit there = grind (arith, common_steps, each_at, lt_of_not-le, none-some)
 
 -- one more context of a process
 pub thread_fit : (t new : Anchors) (number : ℕ) (maker c : Context) → IsFit t → at t.contexts number ≡ Some maker
@@ -128,54 +108,25 @@ pub changed_fit : (t new : Anchors) (number : ℕ) (f : Context → Context) (p 
     → new.contexts ≡ filter p (alter t.contexts number f) → new.processes ≡ t.processes
     → new.next_context ≡ t.next_context → IsFit new
 changed_fit t new number f p same same_uid fit contexts processes next =
-    let es = alter t.contexts number f in
-    record {
-      contexts = rw next
-          (below_filter p es new.contexts t.next_context contexts
-          (below_alter t.contexts number t.next_context f fit.contexts));
-      processes = rw (processes, next) fit.processes;
-      entered = rw (contexts, processes)
-          (each_filter (IsEntered t.processes) p es
-          (each_alter (IsEntered t.processes) t.contexts number f (λ e h. rw (same e.1) h) fit.entered));
-      owners = owners_filter es new.contexts p contexts
-          (owners_alter t.contexts es number f same same_uid refl fit.owners);
-    }
+    grind (arith, common_steps, below_filter, below_alter, each_filter, each_alter, owners_filter, owners_alter)
 
 pub altered_fit : (t new : Anchors) (number : ℕ) (f : Context → Context)
     → ((c : Context) → (f c).process ≡ c.process) → ((c : Context) → (f c).caller.uid ≡ c.caller.uid) → IsFit t
     → new.contexts ≡ alter t.contexts number f → new.processes ≡ t.processes
     → new.next_context ≡ t.next_context → IsFit new
-altered_fit t new number f same same_uid fit contexts processes next = record {
-  contexts = rw (contexts, next) (below_alter t.contexts number t.next_context f fit.contexts);
-  processes = rw (processes, next) fit.processes;
-  entered = rw (contexts, processes)
-      (each_alter (IsEntered t.processes) t.contexts number f (λ e h. rw (same e.1) h) fit.entered);
-  owners = owners_alter t.contexts new.contexts number f same same_uid contexts fit.owners;
-}
+altered_fit t new number f same same_uid fit contexts processes next =
+    grind (arith, common_steps, below_alter, each_alter, owners_alter)
 
 -- another keyring of a process
 pub ring_fit : (t new : Anchors) (process : ℕ) (f : Option ℕ → Option ℕ) → IsFit t → new.contexts ≡ t.contexts
     → new.processes ≡ alter t.processes process f → new.next_context ≡ t.next_context → IsFit new
-ring_fit t new process f fit contexts processes next =
-    let ps = alter t.processes process f in
-    record {
-      contexts = rw (contexts, next) fit.contexts;
-      processes = rw (processes, next) (below_alter t.processes process t.next_context f fit.processes);
-      entered = rw (contexts, processes)
-          (each_on (IsEntered t.processes) (IsEntered ps) t.contexts
-          (λ e h. (still_alter t.processes process e.1.process f h.0, h.1)) fit.entered);
-      owners = rw contexts fit.owners;
-    }
+ring_fit t new process f fit contexts processes next = grind (arith, common_steps, below_alter, each_on, still_alter)
 
 -- a context ends, and its process stays
 pub ended_fit : (t new : Anchors) (number : ℕ) → IsFit t → new.contexts ≡ without t.contexts number
     → new.processes ≡ t.processes → new.next_context ≡ t.next_context → IsFit new
-ended_fit t new number fit contexts processes next = record {
-  contexts = rw (contexts, next) (below_without t.contexts number t.next_context fit.contexts);
-  processes = rw (processes, next) fit.processes;
-  entered = rw (contexts, processes) (each_without (IsEntered t.processes) t.contexts number fit.entered);
-  owners = owners_without t.contexts new.contexts number contexts fit.owners;
-}
+ended_fit t new number fit contexts processes next =
+    grind (arith, common_steps, below_without, each_without, owners_without)
 
 no_process : (es : Table Context) (process : ℕ) → has_process es process ≡ false
     → Each (λ e. (e.1.process ≡ process) → ⊥) es
@@ -239,12 +190,7 @@ taken_back_fit t new n fit last gone_context gone_process contexts processes nex
 
 same_fit : (t new : Anchors) → IsFit t → new.contexts ≡ t.contexts → new.processes ≡ t.processes
     → new.next_context ≡ t.next_context → IsFit new
-same_fit t new fit contexts processes next = record {
-  contexts = rw (contexts, next) fit.contexts;
-  processes = rw (processes, next) fit.processes;
-  entered = rw (contexts, processes) fit.entered;
-  owners = rw contexts fit.owners;
-}
+same_fit t new fit contexts processes next = grind (arith, common_steps)
 
 -- a context ends, and its process where it was the last one of it
 pub exited_fit : (t new : Anchors) (number process : ℕ) → IsFit t → new.contexts ≡ without t.contexts number
@@ -275,10 +221,8 @@ entered_mapped : (processes : Table (Option ℕ)) (es : Table Context) (f : Cont
     → ((c : Context) → (f c).process ≡ c.process) → Each (IsEntered processes) es
     → Each (IsEntered (map_values g processes)) (map_values f es)
 entered_mapped processes [] f g same h = tt
-entered_mapped processes (e ∷ es) f g same h = (
-  rw (same e.1) (there_map g processes e.1.process h.0.0, h.0.1),
-  entered_mapped processes es f g same h.1,
-)
+entered_mapped processes (e ∷ es) f g same h =
+    grind (arith, common_steps, there_map, entered_mapped processes es f g same h.1)
 
 -- changed contexts, processes and uids, under the same numbers
 pub mapped_fit : (t new : Anchors) (f : Context → Context) (g : Option ℕ → Option ℕ)

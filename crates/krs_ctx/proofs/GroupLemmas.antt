@@ -2,13 +2,13 @@
 use Rattle.std.proofs.Common.{[], ◌&&◌, ◌+◌, ◌==◌, ◌||◌, ◌∙◌, ◌∷◌, ◌≡◌, ◌≢◌, ap, arith, Bool, cond, count_by, eqb-true}
 use Rattle.std.proofs.Common.{false, filter, IfNone, IfSome, is_some, length, List, map, nat_cmp, nat_eq, None, not}
 use Rattle.std.proofs.Common.{Option, option_map, refl, Some, subst, sym, true, true≢false, ℕ}
-use Rattle.std.specs.{BTreeMap.is_at, Cmp.{eq_by_cmp_equiv, IsTotalOrder, nat_cmp_is, nat_cmp_total, unsigned_tied}}
+use Rattle.std.specs.{BTreeMap.is_at, Cmp.{eq_by_cmp_equiv, IsTotalOrder, nat_cmp_is, nat_cmp_total}}
 use Rattle.std.specs.List.{AllByRecursion, list_any, Sorted.IsStrictlySortedBy}
 use Rattle.std.specs.{Map.{keys_of, values_of}, Ordering.ordering_then, declared.cmp.Ordering.TheVariants.{Equal, Less}}
 use Rattle.std.proofs.lemmas.{Cmp.{on_total, then_total}, List.{Kept.IsStrictlySortedBy-filter, Sums.sum_by-cons}}
 use Rattle.std.proofs.lemmas.Map.{lookup-none, Entries.{lookup-filter-values, none_past_head, option_filter}}
 use Rattle.std.proofs.lemmas.Map.Keys.{IsDistinct-from_sorted, sorted_tail}
-use Rattle.std.proofs.lemmas.{Map.Made.length-from_same_keys, Option.{IfSome_then, none-some, same_Some}}
+use Rattle.std.proofs.lemmas.{Map.Made.length-from_same_keys, Option.{none-some, same_Some}}
 use Rattle.krs_types.specs.declared.context.Context.{Context}
 use Rattle.krs_model.specs.{Queues.place_cmp, Table.{at, Rises, Table, without}}
 use Rattle.krs_model.proofs.Reach.Levels.{or_true, same_is}
@@ -16,6 +16,7 @@ use Rattle.krs_model.proofs.Tables.{Changes.{is_at_same, same_at}, Rising.filter
 use Rattle.krs_ctx.specs.{Anchors.Each, Members.{AreMembers, is_group, IsThereFailing, lists, pairs_of}}
 use Rattle.krs_ctx.specs.declared.members.Members.{Members}
 use Rattle.krs_ctx.proofs.{FirstLemmas.any_at, MembersLemmas.{any_pairs, tied}}
+use Rattle.std.proofs.lemmas.Grind.{common_steps}
 
 -- ---- tables in which numbers rise
 -- the first number stands nowhere after
@@ -27,11 +28,7 @@ past q e es s t =
 later :
     {X : Type 0} (e : ℕ × X) (es : Table X) (n : ℕ) (v : X) → Rises (e ∷ es) → at es n ≡ Some v
     → at (e ∷ es) n ≡ Some v
-later e es n v rises there =
-    elim (is_at (nat_cmp n) e.0) as (λ b. is_at (nat_cmp n) e.0 ≡ b → cond b (Some e.1) (at es n) ≡ Some v) [
-      | true ↦ λ t. absurd (none-some v (sym (past n e es rises t) ∙ there))
-      | false ↦ λ t. there
-    ] refl
+later e es n v rises there = grind (arith, common_steps, nat_cmp, none-some, past)
 
 -- what holds of what is at each number holds of each entry
 pub each_from_at :
@@ -67,9 +64,7 @@ filter_without {X = X} p (e ∷ es) k fails =
 pub ends_one :
     (p : ℕ × Context → Bool) (es : Table Context) (k : ℕ) → IsThereFailing p es k
     → filter p (without es k) ≡ filter p es
-ends_one p es k c =
-    filter_without p es k
-    (λ v there. subst (λ (w : Context). p (k, w) ≡ false) (same_Some c.0 v (sym c.1 ∙ there)) c.2)
+ends_one p es k c = grind (arith, common_steps, filter_without, same_Some)
 
 -- ---- one of a group
 there_of :
@@ -88,15 +83,13 @@ some_there group es m g n are h = there_of group g (at es n) (sym (are g n) ∙ 
 other_group :
     (group : Context → ℕ) (es : Table Context) (m : Members) (g n : ℕ) (c : Context) → AreMembers group es m
     → lists m g n ≡ false → at es n ≡ Some c → nat_eq (group c) g ≡ false
-other_group group es m g n c are none there =
-    sym (ap (λ o. is_group g (option_map group o)) there) ∙ (sym (are g n) ∙ none)
+other_group group es m g n c are none there = grind (arith, common_steps, option_map)
 
 -- the first of a group is to end with it
 pub first_fails :
     (group : Context → ℕ) (es : Table Context) (m : Members) (g : ℕ) (o : Option ℕ) → AreMembers group es m
     → IfSome o (λ n. lists m g n ≡ true) → IfSome o (IsThereFailing (λ e. not (group e.1 == g)) es)
-first_fails group es m g o are h =
-    IfSome_then o h (λ n l. let c = some_there group es m g n are l in (c.0, c.1, ap not c.2))
+first_fails group es m g o are h = grind (arith, common_steps, some_there)
 
 -- where a group has none, nothing ends with it
 pub none_fails :
@@ -110,11 +103,7 @@ none_fails group es m g None are rises h =
     (λ n c there. ap not (other_group group es m g n c are (h n) there)))
 
 not_same : (n k : ℕ) → n ≢ k → (n == k) ≡ false
-not_same n k other =
-    elim (n == k) as (λ b. (n == k) ≡ b → b ≡ false) [
-      | true ↦ λ t. absurd (other (eqb-true n k t))
-      | false ↦ λ t. refl
-    ] refl
+not_same n k other = grind (arith, common_steps, eqb-true)
 
 -- another of a group is to end with the others
 pub other_fails :
@@ -122,9 +111,7 @@ pub other_fails :
     → IfSome o (λ n. lists m g n ≡ true) → IfSome o (λ n. n ≢ k)
     → IfSome o (IsThereFailing (λ e. not (group e.1 == g) || (e.0 == k)) es)
 other_fails group es m g k None are h other = h
-other_fails group es m g k (Some n) are h other =
-    let c = some_there group es m g n are h in
-    (c.0, c.1, ap (λ b. not b || (n == k)) c.2 ∙ not_same n k other)
+other_fails group es m g k (Some n) are h other = grind (arith, common_steps, some_there, not_same)
 
 -- where a group has no other, no other ends
 pub no_other_fails :
@@ -152,8 +139,7 @@ pub first_tells :
     (group : Context → ℕ) (es : Table Context) (m : Members) (g : ℕ) (o : Option ℕ) → AreMembers group es m
     → Rises es → IfSome o (λ n. lists m g n ≡ true) → IfNone o ((n : ℕ) → lists m g n ≡ false)
     → is_some o ≡ list_any (λ c. group c == g) (values_of es)
-first_tells group es m g (Some n) are rises h none =
-    let c = some_there group es m g n are h in sym (any_at (λ d. group d == g) es n c.0 c.1 c.2)
+first_tells group es m g (Some n) are rises h none = grind (arith, common_steps, some_there, any_at)
 first_tells group es m g None are rises h none =
     sym (none_passes (λ d. group d == g) es
     (each_from_at (λ (e : ℕ × Context). (group e.1 == g) ≡ false) es rises
@@ -196,11 +182,7 @@ any_placed :
     (h n g : ℕ) (es : Table Context)
     → list_any (is_at (place_cmp (h, n))) (placed g es) ≡ (nat_eq h g && is_some (at es n))
 any_placed h n g [] = none_of (nat_eq h g)
-any_placed h n g (e ∷ es) =
-    ap (λ b. b || list_any (is_at (place_cmp (h, n))) (placed g es)) (tied h n (g, e.0))
-    ∙ (ap (λ b. (nat_eq h g && nat_eq n e.0) || b) (any_placed h n g es)
-    ∙ (both_or (nat_eq h g) (nat_eq n e.0) e.1 (at es n)
-    ∙ ap (λ b. nat_eq h g && is_some (cond b (Some e.1) (at es n))) (sym (unsigned_tied n e.0))))
+any_placed h n g (e ∷ es) = grind (arith, common_steps, tied, nat_eq, both_or, is_some, any_placed h n g es)
 
 some_kept : (b : Bool) (c : Context) → b ≡ is_some (cond b (Some c) None)
 some_kept true c = refl
@@ -240,16 +222,7 @@ placed_count :
     (group : Context → ℕ) (g : ℕ) (es : Table Context)
     → length (placed g (filter (λ e. group e.1 == g) es)) ≡ count_by (λ c. group c == g) (values_of es)
 placed_count group g [] = refl
-placed_count group g (e ∷ es) =
-    let rest = placed_count group g es in
-    let first = count_first (λ c. group c == g) e.1 (values_of es) in
-    elim (group e.1 == g) as
-    (λ b. (group e.1 == g) ≡ b
-    → length (placed g (cond b (e ∷ filter (λ d. group d.1 == g) es) (filter (λ d. group d.1 == g) es)))
-    ≡ count_by (λ c. group c == g) (values_of (e ∷ es))) [
-      | true ↦ λ t. let one = first true t in omega (arith, rest, one)
-      | false ↦ λ t. let none = first false t in omega (arith, rest, none)
-    ] refl
+placed_count group g (e ∷ es) = grind (arith, common_steps, count_first, count_by, placed_count group g es)
 
 -- a group has as many pairs as contexts
 pub counted :

@@ -6,11 +6,11 @@ use Rattle.krs_types.specs.Caller.{caller_check}
 use Rattle.krs_types.specs.{Refusing.◌>>=◌, declared.{ask.Answer.{Answer, TheVariants.Number}, caller.Caller.Caller}}
 use Rattle.krs_types.specs.declared.{context.UidRings.UidRings, errno.Errno.{Errno, TheVariants.{EINVAL, ENOSPC}}}
 use Rattle.krs_types.specs.declared.fault.Fault.{Fault, TheVariants.{Memory, Refused}}
-use Rattle.krs_model.specs.Asks.Entering.{if_context_number}
-use Rattle.krs_model.specs.Asks.Hello.{context_count, first_session, has_context_left, hello, with_context, with_uid}
+use Rattle.krs_model.specs.Asks.Hello.{hello, with_context, with_uid}
 use Rattle.krs_model.specs.{Outcome.Leads, State.{starting_at, State}, Table.at}
 use Rattle.krs_ctx.specs.{Anchors.{anchored, Anchors}, Told.{enterable, Enters, greeted, opened, Opens}}
 use Rattle.krs_ctx.proofs.LeadsLemmas.{leads_memory, leads_refused}
+use Rattle.std.proofs.lemmas.Grind.{common_steps}
 
 chained : (a b : Result (Unit {0}) Errno) (x : State × Answer)
     → (a >>= (λ room. b >>= (λ left. Ok x))) ≡ ((a >>= (λ room. b)) >>= (λ room. Ok x))
@@ -49,10 +49,7 @@ many n h = grind (arith, nat_tests)
 pub hello_known : (s : State) (client : ℕ) (c : Caller) (rings : UidRings) → caller_check c ≡ Ok (tt {0})
     → at s.uids c.uid ≡ Some rings → hello s client c ≡ greeted s client c None
 unfolding hello
-hello_known s client c rings known has =
-    rw (known, has, or_false (nat_lt 4294967295 s.next_context))
-    (chained (has_context_left s client) (if_context_number s)
-    (with_context s client c rings.session, Number s.next_context))
+hello_known s client c rings known has = grind (arith, common_steps, or_false, nat_lt, chained)
 
 -- HELLO of a uid that has none, where serials are left for them
 pub hello_unknown : (s : State) (client : ℕ) (c : Caller) → caller_check c ≡ Ok (tt {0}) → at s.uids c.uid ≡ None
@@ -61,29 +58,19 @@ pub hello_unknown : (s : State) (client : ℕ) (c : Caller) → caller_check c �
     c ≡ (enterable s client >>=
     (λ room. Ok (with_context (with_uid s c None) client c (Some (s.next_serial + 1)), Number s.next_context)))
 unfolding hello
-hello_unknown s client c known none left =
-    rw (known, none, few s.next_serial left, or_false (nat_lt 4294967295 s.next_context))
-    (chained (has_context_left s client) (if_context_number s)
-    (with_context (with_uid s c None) client c (Some (s.next_serial + 1)), Number s.next_context))
+hello_unknown s client c known none left = grind (arith, common_steps, few, or_false, nat_lt, chained)
 
 -- HELLO of a uid that has none, where no serials are left for them
 pub hello_serials : (s : State) (client : ℕ) (c : Caller) → caller_check c ≡ Ok (tt {0}) → at s.uids c.uid ≡ None
     → 2147483646 < s.next_serial → enterable s client ≡ Ok (tt {0}) → hello s client c ≡ Err ENOSPC
 unfolding hello
-hello_serials s client c known none gone room =
-    rw (known, none, many s.next_serial gone, or_true_right (nat_lt 4294967295 s.next_context))
-    (refused_later (has_context_left s client) (if_context_number s)
-    (with_context (with_uid s c None) client c (Some (s.next_serial + 1)), Number s.next_context) room)
+hello_serials s client c known none gone room = grind (arith, common_steps, many, or_true_right, nat_lt, refused_later)
 
 -- HELLO where the client has no room, or no number is left
 pub hello_full : (s : State) (client : ℕ) (c : Caller) (e : Errno) → caller_check c ≡ Ok (tt {0})
     → enterable s client ≡ Err e → hello s client c ≡ Err e
 unfolding hello
-hello_full s client c e known full =
-    let rings = at s.uids c.uid in
-    rw known (refused_first (nat_le 64 (context_count client s.contexts)) (nat_lt 4294967295 s.next_context)
-    (is_none rings && nat_lt 2147483646 s.next_serial)
-    (with_context (with_uid s c rings) client c (first_session s.next_serial rings), Number s.next_context) e full)
+hello_full s client c e known full = grind (arith, common_steps, refused_first, nat_le, nat_lt, is_none)
 
 accepted_all : (a b d : Bool) (x : State × Answer)
     → ((if a then Err EINVAL else Ok (tt {0})) >>= (λ room. if b then Err ENOSPC else Ok (tt {0}))) ≡ Ok (tt {0})
@@ -102,11 +89,7 @@ HasSerials s c = (is_none (at s.uids c.uid) && nat_lt 2147483646 s.next_serial) 
 pub hello_open : (s : State) (client : ℕ) (c : Caller) → caller_check c ≡ Ok (tt {0})
     → enterable s client ≡ Ok (tt {0}) → HasSerials s c → IsOk (hello s client c)
 unfolding hello
-hello_open s client c known room few =
-    let rings = at s.uids c.uid in
-    rw known (accepted_all (nat_le 64 (context_count client s.contexts)) (nat_lt 4294967295 s.next_context)
-    (is_none rings && nat_lt 2147483646 s.next_serial)
-    (with_context (with_uid s c rings) client c (first_session s.next_serial rings), Number s.next_context) room few)
+hello_open s client c known room few = grind (arith, common_steps, accepted_all, nat_le, nat_lt, is_none, few)
 
 -- a uid that has its keyrings needs no serials
 pub no_serials : (s : State) (c : Caller) (rings : UidRings) → at s.uids c.uid ≡ Some rings → HasSerials s c
@@ -168,8 +151,7 @@ pub hello_fails :
     (x : Fault) → caller_check c ≡ Ok (tt {0}) → IsOk (hello (anchored s old) client c) → IsErrAnd r (λ f. f ≡ x)
     → Enters old (Err x) new (λ q. greeted q client c made)
     → Leads (anchored s old) r (anchored s new) (hello (anchored s old) client c)
-hello_fails s old new client c made r Memory known accepted is enters =
-    leads_memory s old new r (λ q. hello q client c) is accepted enters.1
+hello_fails s old new client c made r Memory known accepted is enters = grind (arith, common_steps, leads_memory)
 hello_fails s old new client c made r (Refused e) known accepted is enters =
     leads_refused s old new r e (λ q. hello q client c) is
     (λ q. hello_full (anchored q old) client c e known

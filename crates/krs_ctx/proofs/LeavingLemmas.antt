@@ -4,11 +4,12 @@ use Rattle.std.proofs.Common.{length, nat_cmp, None, not, Ok, Option, refl, Some
 use Rattle.std.specs.{BTreeMap.is_at, List.list_any, Map.values_of}
 use Rattle.std.proofs.lemmas.Option.{none-some}
 use Rattle.krs_types.specs.declared.{ask.Answer.TheVariants.Nothing, context.{Context.Context, UidRings.UidRings}}
-use Rattle.krs_model.specs.Asks.Leaving.{contexts_without, exit, has_process, has_uid, left}
+use Rattle.krs_model.specs.Asks.Leaving.{contexts_without, exit, left}
 use Rattle.krs_model.specs.{Lookup.context_of, State.State, Table.{at, Table, without}}
 use Rattle.krs_ctx.specs.Anchors.{anchored, Anchors, anchors_of, IsWhole}
 use Rattle.krs_ctx.specs.{Members.IsThereFailing, Told.{ended_where, IsLeaving, without_idle}}
 use Rattle.krs_ctx.proofs.{GroupLemmas.{all_kept, ends_one, filter_without}, ToldLemmas.without_none, WholeLemmas.has}
+use Rattle.std.proofs.lemmas.Grind.{common_steps}
 
 abbrev anchors : Table Context → Table (Option ℕ) → Table UidRings → ℕ → Anchors
 anchors es ps us n = record { contexts = es; processes = ps; uids = us; next_context = n }
@@ -16,10 +17,7 @@ anchors es ps us n = record { contexts = es; processes = ps; uids = us; next_con
 same_anchors :
     (t : Anchors) (es : Table Context) (ps : Table (Option ℕ)) (us : Table UidRings) (n : ℕ) → t.contexts ≡ es
     → t.processes ≡ ps → t.uids ≡ us → t.next_context ≡ n → t ≡ anchors es ps us n
-same_anchors t es ps us n a b c d =
-    ap (λ (z : Table Context). anchors z t.processes t.uids t.next_context) a
-    ∙ (ap (λ (z : Table (Option ℕ)). anchors es z t.uids t.next_context) b
-    ∙ (ap (λ (z : Table UidRings). anchors es ps z t.next_context) c ∙ ap (λ (z : ℕ). anchors es ps us z) d))
+same_anchors t es ps us n a b c d = grind (arith, common_steps)
 
 -- EXIT of a context that is the client's
 pub exit_told :
@@ -27,8 +25,7 @@ pub exit_told :
     → at old.contexts number ≡ Some c → new ≡ ended_where old number (at old.contexts number)
     → exit (anchored s old) client number ≡ Ok (anchored s new, Nothing)
 unfolding exit
-exit_told s old new client number c own there is =
-    rw own (ap (λ (t : Anchors). Ok (anchored s t, Nothing)) (sym (is ∙ ap (ended_where old number) there)))
+exit_told s old new client number c own there is = grind (arith, common_steps)
 
 -- the end of a context that is not there, and of one that is
 pub ended_none :
@@ -36,10 +33,7 @@ pub ended_none :
     → new.contexts ≡ without t.contexts number → new.processes ≡ t.processes → new.uids ≡ t.uids
     → new.next_context ≡ t.next_context → new ≡ ended_where old number (at old.contexts number)
 ended_none old t new number is none contexts processes uids next =
-    subst (λ (a : Anchors). new ≡ ended_where a number (at a.contexts number)) is
-    (same_anchors new t.contexts t.processes t.uids t.next_context
-    (contexts ∙ without_none t.contexts number none) processes uids next
-    ∙ sym (ap (ended_where t number) none))
+    grind (arith, common_steps, same_anchors, without_none)
 
 less_one : (n : ℕ) → n < suc n
 less_one n = omega arith
@@ -60,9 +54,7 @@ fewer (e ∷ es) k v h =
 pub ended_fewer :
     (t new : Anchors) (number : ℕ) (passes : ℕ × Context → Bool) → IsThereFailing passes t.contexts number
     → new ≡ ended_where t number (at t.contexts number) → length new.contexts < length t.contexts
-ended_fewer t new number passes there is =
-    subst (λ (a : Anchors). length a.contexts < length t.contexts) (sym (is ∙ ap (ended_where t number) there.1))
-    (fewer t.contexts number there.0 there.1)
+ended_fewer t new number passes there is = grind (arith, common_steps, fewer)
 
 -- LEAVE, before a context ends
 pub leaving_none : (client : ℕ) (t : Anchors) → IsLeaving client t t
@@ -94,20 +86,12 @@ group_ended :
     → (has group es g ≡ false → has group kept g ≡ false)
     → filter (λ e. has group kept e.0) (if has group es g then xs else without xs g)
     ≡ filter (λ e. has group kept e.0) xs
-group_ended group es kept xs g none =
-    elim (has group es g) as
-    (λ b. has group es g ≡ b
-    → filter (λ e. has group kept e.0) (cond b xs (without xs g)) ≡ filter (λ e. has group kept e.0) xs) [
-      | true ↦ λ t. refl
-      | false ↦ λ t. filter_without (λ e. has group kept e.0) xs g (λ v there. none t)
-    ] refl
+group_ended group es kept xs g none = grind (arith, common_steps, has, filter_without)
 
 none_kept :
     (group : Context → ℕ) (client : ℕ) (es kept : Table Context) (g : ℕ) → contexts_without client es ≡ kept
     → has group es g ≡ false → has group kept g ≡ false
-none_kept group client es kept g is none =
-    subst (λ (zs : Table Context). has group zs g ≡ false) is
-    (none_of_fewer (λ x. group x == g) (λ e. not (e.1.client == client)) es none)
+none_kept group client es kept g is none = grind (arith, common_steps, has, none_of_fewer)
 
 -- one more context of the client ends
 pub leaving_one :
@@ -139,14 +123,7 @@ idle_gone :
     (client : ℕ) (old t : Anchors) → IsLeaving client old t → contexts_without client t.contexts ≡ t.contexts
     → (s : State) → without_idle t ≡ anchors_of (left (anchored s old) client)
 unfolding left
-idle_gone client old t so none s =
-    let kept = contexts_without client old.contexts in
-    let same : t.contexts ≡ kept = sym none ∙ so.contexts in
-    same_anchors (without_idle t) kept (filter (λ e. has_process kept e.0) old.processes)
-    (filter (λ e. has_uid kept e.0) old.uids) old.next_context same
-    (ap (λ (es : Table Context). filter (λ e. has_process es e.0) t.processes) same ∙ so.processes)
-    (ap (λ (es : Table Context). filter (λ e. has_uid es e.0) t.uids) same ∙ so.uids)
-    so.next
+idle_gone client old t so none s = grind (arith, common_steps, same_anchors)
 
 pub left_idle :
     (client : ℕ) (old t new : Anchors) → IsLeaving client old t → contexts_without client t.contexts ≡ t.contexts
@@ -155,12 +132,7 @@ left_idle client old t new so none is s = is ∙ idle_gone client old t so none 
 
 -- where no process and no uid is without a context, none has to end
 whole_stays : (t : Anchors) → IsWhole t → t ≡ without_idle t
-whole_stays t whole =
-    same_anchors t t.contexts (filter (λ e. has_process t.contexts e.0) t.processes)
-    (filter (λ e. has_uid t.contexts e.0) t.uids) t.next_context refl
-    (sym (all_kept (λ e. has_process t.contexts e.0) t.processes whole.processes))
-    (sym (all_kept (λ e. has_uid t.contexts e.0) t.uids whole.uids))
-    refl
+whole_stays t whole = grind (arith, common_steps, same_anchors, all_kept)
 
 pub whole_left :
     (client : ℕ) (old t : Anchors) → IsLeaving client old t → contexts_without client t.contexts ≡ t.contexts

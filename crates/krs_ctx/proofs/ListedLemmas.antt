@@ -1,9 +1,10 @@
 -- What is listed after a context more, a context less and a change of contexts.
-use Rattle.std.proofs.Common.{◌≡◌, ap, Err, false, is_err, None, Ok, OnOk, Result, Some, subst, sym, true≢false, ℕ}
+use Rattle.std.proofs.Common.{◌≡◌, arith, Err, false, is_err, None, Ok, OnOk, Result, Some, subst, sym, true≢false, ℕ}
 use Rattle.krs_types.specs.declared.context.Context.{Context}
 use Rattle.krs_model.specs.Table.{alter, at, map_values, put, Table, without}
 use Rattle.krs_ctx.specs.{Members.{Adds, AreListed, groups_of, Removes}, declared.listed.{Groups.Groups, Listed.Listed}}
 use Rattle.krs_ctx.proofs.MembersLemmas.{added, altered, mapped, removed}
+use Rattle.std.proofs.lemmas.Grind.{common_steps}
 
 -- what holds of what was accepted, where it was
 pub accepted : {X E P : Type 0} (r : Result X E) → is_err r ≡ false → OnOk r P → P
@@ -46,17 +47,9 @@ KeepsGroups f = (c : Context) → groups_of (f c) ≡ groups_of c
 pub listed_altered :
     (es : Table Context) (l : Listed) (k : ℕ) (f : Context → Context) → KeepsGroups f → AreListed es l
     → AreListed (alter es k f) l
-listed_altered es l k f keeps are = record {
-  clients = altered (λ x. x.client) es l.clients k f (λ c. ap (λ (g : Groups). g.client) (keeps c)) are.clients;
-  processes = altered (λ x. x.process) es l.processes k f (λ c. ap (λ (g : Groups). g.process) (keeps c)) are.processes;
-  uids = altered (λ x. x.caller.uid) es l.uids k f (λ c. ap (λ (g : Groups). g.uid) (keeps c)) are.uids;
-}
+listed_altered es l k f keeps are = grind (arith, common_steps, altered)
 
 pub listed_mapped :
     (es : Table Context) (l : Listed) (f : Context → Context) → KeepsGroups f → AreListed es l
     → AreListed (map_values f es) l
-listed_mapped es l f keeps are = record {
-  clients = mapped (λ x. x.client) es l.clients f (λ c. ap (λ (g : Groups). g.client) (keeps c)) are.clients;
-  processes = mapped (λ x. x.process) es l.processes f (λ c. ap (λ (g : Groups). g.process) (keeps c)) are.processes;
-  uids = mapped (λ x. x.caller.uid) es l.uids f (λ c. ap (λ (g : Groups). g.uid) (keeps c)) are.uids;
-}
+listed_mapped es l f keeps are = grind (arith, common_steps, mapped)

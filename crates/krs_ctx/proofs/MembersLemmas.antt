@@ -1,7 +1,7 @@
 -- What is listed under a group, and what after a change of the table.
 use Rattle.std.proofs.Common.{[], ◌&&◌, ◌+◌, ◌<◌, ◌==◌, ◌||◌, ◌∙◌, ◌∷◌, ◌≡◌, ◌≤◌, ap, arith, Bool, Bor, cond, eqb-true}
 use Rattle.std.proofs.Common.{false, filter, is_eq, is_le, length, List, nat_cmp, nat_eq, None, not, Option, option_map}
-use Rattle.std.proofs.Common.{refl, Some, subst, suc, sym, true, true≢false, ℕ}
+use Rattle.std.proofs.Common.{refl, Some, suc, sym, true, true≢false, ℕ}
 use Rattle.std.specs.{BTreeMap.{is_at, Range.range_contains}, Cmp.{nat_cmp_is, ranked, unsigned_tied}, Iterator.Yields}
 use Rattle.std.specs.{List.{AllByRecursion, list_any}, Map.Iter.{deref, TakesFirst}, Ordering.ordering_then}
 use Rattle.std.specs.declared.cmp.Ordering.{Ordering, TheVariants.{Equal, Greater, Less}}
@@ -12,6 +12,7 @@ use Rattle.krs_model.specs.{Queues.place_cmp, Table.{alter, at, map_values, put,
 use Rattle.krs_model.proofs.Tables.{Changes.{at_map, at_put_other, at_put_same, at_without_other}, Distinct.at_alter}
 use Rattle.krs_ctx.specs.Members.{Adds, AreMembers, is_group, lists, pairs_of, Removes}
 use Rattle.krs_ctx.specs.declared.members.Members.{Members}
+use Rattle.std.proofs.lemmas.Grind.{common_steps}
 
 -- ---- two pairs
 then_tied : (o p : Ordering) → is_eq (ordering_then o p) ≡ (is_eq o && is_eq p)
@@ -21,9 +22,7 @@ then_tied Greater p = refl
 
 -- two pairs are one where both numbers are
 pub tied : (a b : ℕ) (e : ℕ × ℕ) → is_at (place_cmp (a, b)) e ≡ (nat_eq a e.0 && nat_eq b e.1)
-tied a b e =
-    then_tied (nat_cmp a e.0) (nat_cmp b e.1)
-    ∙ (ap (λ x. x && is_eq (nat_cmp b e.1)) (unsigned_tied a e.0) ∙ ap (λ y. nat_eq a e.0 && y) (unsigned_tied b e.1))
+tied a b e = grind (arith, common_steps, then_tied, nat_cmp, is_eq, nat_eq)
 
 first_of_both : (a b : Bool) → (a && b) ≡ true → a ≡ true
 first_of_both true b h = refl
@@ -79,16 +78,12 @@ within g a =
 
 between :
     (g : ℕ) (e : ℕ × ℕ) → range_contains place_cmp (Included (g, 0)) (Excluded (g + 1, 0)) e ≡ (e.0 == g)
-between g e =
-    ap (λ b. b && not (is_le (place_cmp (g + 1, 0) e))) (from (nat_cmp g e.0) e.1)
-    ∙ (ap (λ b. is_le (nat_cmp g e.0) && not b) (from (nat_cmp (g + 1) e.0) e.1) ∙ within g e.0)
+between g e = grind (arith, common_steps, is_le, from, nat_cmp, within)
 
 filter_alike :
     {X : Type 0} (p q : X → Bool) (xs : List X) → ((x : X) → p x ≡ q x) → filter p xs ≡ filter q xs
 filter_alike p q [] h = refl
-filter_alike p q (x ∷ xs) h =
-    ap (λ b. cond b (x ∷ filter p xs) (filter p xs)) (h x)
-    ∙ ap (λ ys. cond (q x) (x ∷ ys) ys) (filter_alike p q xs h)
+filter_alike p q (x ∷ xs) h = grind (arith, common_steps, filter_alike p q xs h)
 
 -- the pairs from a group to the next are those of the group
 pub range_is :
@@ -103,21 +98,13 @@ apart k q h = grind (arith, nat_tests, unsigned_tied q k)
 -- what is at a number after a value was put at that one or another
 pub at_put :
     {X : Type 0} (es : Table X) (k q : ℕ) (v : X) → at (put es k v) q ≡ cond (nat_eq k q) (Some v) (at es q)
-at_put es k q v =
-    elim (nat_eq k q) as (λ b. nat_eq k q ≡ b → at (put es k v) q ≡ cond b (Some v) (at es q)) [
-      | true ↦ λ t. subst (λ (z : ℕ). at (put es k v) z ≡ Some v) (eqb-true k q t) (at_put_same es k v)
-      | false ↦ λ t. at_put_other es k q v (apart k q t)
-    ] refl
+at_put es k q v = grind (arith, common_steps, nat_eq, eqb-true, at_put_same, at_put_other, apart)
 
 -- what is at a number after that one, or another, was taken out
 pub at_without :
     {X : Type 0} (es : Table X) (k q : ℕ) → at (without es k) k ≡ None
     → at (without es k) q ≡ cond (nat_eq k q) None (at es q)
-at_without es k q gone =
-    elim (nat_eq k q) as (λ b. nat_eq k q ≡ b → at (without es k) q ≡ cond b None (at es q)) [
-      | true ↦ λ t. subst (λ (z : ℕ). at (without es k) z ≡ None) (eqb-true k q t) gone
-      | false ↦ λ t. at_without_other es k q (apart k q t)
-    ] refl
+at_without es k q gone = grind (arith, common_steps, nat_eq, eqb-true, at_without_other, apart)
 
 either : {X Y : Type 0} (f : X → Y) (b : Bool) (o r : X) → f (cond b o r) ≡ cond b (f o) (f r)
 either f true o r = refl
@@ -158,12 +145,7 @@ pub added :
     (group : Context → ℕ) (es : Table Context) (old new : Members) (k : ℕ) (v : Context) → at es k ≡ None
     → Adds old new (group v) k → AreMembers group es old → AreMembers group (put es k v) new
 added group es old new k v absent adds are g n =
-    adds g n
-    ∙ (more (nat_eq (group v) g) (nat_eq k n) (lists old g n)
-    (at_equal (lists old g) k n false (none_listed group es old k g absent are))
-    ∙ (ap (cond (nat_eq k n) (nat_eq (group v) g)) (are g n)
-    ∙ (sym (either (λ o. is_group g (option_map group o)) (nat_eq k n) (Some v) (at es n))
-    ∙ ap (λ o. is_group g (option_map group o)) (sym (at_put es k n v)))))
+    grind (arith, common_steps, more, nat_eq, at_equal, none_listed, either, option_map, at_put)
 
 -- one is listed no more, and is gone
 pub removed :
@@ -171,24 +153,14 @@ pub removed :
     → at (without es k) k ≡ None → Removes old new (group v) k → AreMembers group es old
     → AreMembers group (without es k) new
 removed group es old new k v there gone removes are g n =
-    removes g n
-    ∙ (less (nat_eq (group v) g) (nat_eq k n) (lists old g n)
-    (at_equal (lists old g) k n (nat_eq (group v) g)
-    (are g k ∙ ap (λ o. is_group g (option_map group o)) there))
-    ∙ (ap (cond (nat_eq k n) false) (are g n)
-    ∙ (sym (either (λ o. is_group g (option_map group o)) (nat_eq k n) None (at es n))
-    ∙ ap (λ o. is_group g (option_map group o)) (sym (at_without es k n gone)))))
+    grind (arith, common_steps, less, nat_eq, at_equal, option_map, either, at_without)
 
 -- one was listed that is not there, and is listed no more
 pub taken_back :
     (group : Context → ℕ) (es : Table Context) (old mid new : Members) (k h : ℕ) → at es k ≡ None
     → Adds old mid h k → Removes mid new h k → AreMembers group es old → AreMembers group es new
 taken_back group es old mid new k h absent adds removes are g n =
-    removes g n
-    ∙ (ap (cond (nat_eq h g && nat_eq k n) false) (adds g n)
-    ∙ (back (nat_eq h g && nat_eq k n) (lists old g n)
-    (λ t. at_equal (lists old g) k n false (none_listed group es old k g absent are) (last_of_both _ _ t))
-    ∙ are g n))
+    grind (arith, common_steps, nat_eq, back, at_equal, none_listed, last_of_both)
 
 -- a change of contexts that keeps what each is of
 changed :
@@ -200,20 +172,13 @@ changed group f g keeps (Some c) = ap (λ h. nat_eq h g) (keeps c)
 pub mapped :
     (group : Context → ℕ) (es : Table Context) (m : Members) (f : Context → Context)
     → ((c : Context) → group (f c) ≡ group c) → AreMembers group es m → AreMembers group (map_values f es) m
-mapped group es m f keeps are g n =
-    are g n
-    ∙ sym (ap (λ o. is_group g (option_map group o)) (at_map f es n) ∙ changed group f g keeps (at es n))
+mapped group es m f keeps are g n = grind (arith, common_steps, option_map, at_map, changed)
 
 pub altered :
     (group : Context → ℕ) (es : Table Context) (m : Members) (k : ℕ) (f : Context → Context)
     → ((c : Context) → group (f c) ≡ group c) → AreMembers group es m → AreMembers group (alter es k f) m
 altered group es m k f keeps are g n =
-    are g n
-    ∙ sym (ap (λ o. is_group g (option_map group o)) (at_alter es k n f)
-    ∙ (either (λ o. is_group g (option_map group o)) (is_at (nat_cmp n) k) (option_map f (at es n)) (at es n)
-    ∙ (ap (λ b. cond (is_at (nat_cmp n) k) b (is_group g (option_map group (at es n))))
-    (changed group f g keeps (at es n))
-    ∙ always (is_at (nat_cmp n) k) (is_group g (option_map group (at es n))))))
+    grind (arith, common_steps, option_map, at_alter, either, nat_cmp, changed, always)
 
 -- ---- what is listed under a group
 inside : (a b l : Bool) → (a ≡ true → b ≡ true) → (a || (b && l)) ≡ (b && (a || l))
@@ -233,50 +198,25 @@ pub any_pairs :
     → list_any (is_at (place_cmp (h, n))) (filter (λ e. e.0 == g) ks)
     ≡ (nat_eq h g && list_any (is_at (place_cmp (h, n))) ks)
 any_pairs h n g [] = no_more (nat_eq h g)
-any_pairs h n g (x ∷ xs) =
-    let here : (b : Bool) → (x.0 == g) ≡ b → is_at (place_cmp (h, n)) x ≡ true → nat_eq h g ≡ b =
-    λ b t u. ap (λ (z : ℕ). nat_eq z g) (of_group h n x u) ∙ t in
-    elim (x.0 == g) as
-    (λ b. (x.0 == g) ≡ b
-    → list_any (is_at (place_cmp (h, n))) (cond b (x ∷ filter (λ e. e.0 == g) xs) (filter (λ e. e.0 == g) xs))
-    ≡ (nat_eq h g && (is_at (place_cmp (h, n)) x || list_any (is_at (place_cmp (h, n))) xs))) [
-      | true ↦ λ t.
-          ap (λ l. is_at (place_cmp (h, n)) x || l) (any_pairs h n g xs)
-          ∙ inside (is_at (place_cmp (h, n)) x) (nat_eq h g) (list_any (is_at (place_cmp (h, n))) xs) (here true t)
-      | false ↦ λ t.
-          any_pairs h n g xs
-          ∙ outside (is_at (place_cmp (h, n)) x) (nat_eq h g) (list_any (is_at (place_cmp (h, n))) xs) (here false t)
-    ] refl
+any_pairs h n g (x ∷ xs) = grind (arith, common_steps, nat_eq, of_group, inside, outside, any_pairs h n g xs)
 
 -- what is listed under a group is among its pairs
 pub listed_among :
     (m : Members) (g n : ℕ) → lists m g n ≡ list_any (is_at (place_cmp (g, n))) (pairs_of m g)
-listed_among m g n =
-    sym (any_pairs g n g m.pairs.keys ∙ ap (λ b. b && list_any (is_at (place_cmp (g, n))) m.pairs.keys) (same g))
+listed_among m g n = grind (arith, common_steps, any_pairs, same)
 
 -- each of its pairs is of the group
 pub of_one : (g : ℕ) (ks : List (ℕ × ℕ)) → AllByRecursion (λ (e : ℕ × ℕ). g ≡ e.0) (filter (λ e. e.0 == g) ks)
 of_one g [] = tt
-of_one g (x ∷ xs) =
-    elim (x.0 == g) as (λ b. (x.0 == g) ≡ b
-    → AllByRecursion (λ (e : ℕ × ℕ). g ≡ e.0) (cond b (x ∷ filter (λ e. e.0 == g) xs) (filter (λ e. e.0 == g) xs))) [
-      | true ↦ λ t. (sym (eqb-true x.0 g t), of_one g xs)
-      | false ↦ λ t. of_one g xs
-    ] refl
+of_one g (x ∷ xs) = grind (arith, common_steps, eqb-true, of_one g xs)
 
 -- a pair is found by its number
 pub found : (g : ℕ) (e : ℕ × ℕ) → g ≡ e.0 → is_at (place_cmp (g, e.1)) e ≡ true
-found g e is = tied g e.1 e ∙ (ap (λ (z : ℕ). nat_eq z e.0 && nat_eq e.1 e.1) is
-    ∙ (ap (λ b. b && nat_eq e.1 e.1) (same e.0) ∙ same e.1))
+found g e is = grind (arith, common_steps, tied, nat_eq, same)
 
 -- the first of a group is listed
 pub first_listed : (m : Members) (g : ℕ) (e : ℕ × ℕ) (t : List (ℕ × ℕ)) → pairs_of m g ≡ e ∷ t → lists m g e.1 ≡ true
-first_listed m g e t is =
-    let mine : AllByRecursion (λ (x : ℕ × ℕ). g ≡ x.0) (e ∷ t) =
-    subst (AllByRecursion (λ (x : ℕ × ℕ). g ≡ x.0)) is (of_one g m.pairs.keys) in
-    listed_among m g e.1
-    ∙ (ap (list_any (is_at (place_cmp (g, e.1)))) is
-    ∙ ap (λ b. b || list_any (is_at (place_cmp (g, e.1))) t) (found g e mine.0))
+first_listed m g e t is = grind (arith, common_steps, of_one, listed_among, found)
 
 -- a group with no pairs has none
 pub nothing_listed : (m : Members) (g n : ℕ) → pairs_of m g ≡ [] → lists m g n ≡ false

@@ -6,6 +6,7 @@ use Rattle.krs_model.specs.Table.{alter, at, IsBelow, map_values, put, Table, wi
 use Rattle.krs_model.proofs.Reach.Levels.{same_is}
 use Rattle.krs_ctx.specs.Anchors.{Each, HasOwners, IsEntered}
 use Rattle.krs_ctx.proofs.EachLemmas.{each_alter, each_at, each_below, each_both, each_filter, each_put, each_without}
+use Rattle.std.proofs.lemmas.Grind.{common_steps}
 
 -- a context's uid is that of its process
 abbrev pub IsOwned : (ℕ → ℕ) → ℕ × Context → Type 0
@@ -14,11 +15,7 @@ IsOwned owner e = e.1.caller.uid ≡ owner e.1.process
 pub owners_put :
     (es fs : Table Context) (n number : ℕ) (c maker : Context) → fs ≡ put es n c → at es number ≡ Some maker
     → c.process ≡ maker.process → c.caller.uid ≡ maker.caller.uid → HasOwners es → HasOwners fs
-owners_put es fs n number c maker is there same same_uid owned =
-    let owner = owned.0 in
-    let own : c.caller.uid ≡ owner c.process =
-    same_uid ∙ (each_at (IsOwned owner) es number maker owned.1 there ∙ ap owner (sym same)) in
-    subst (λ (zs : Table Context). HasOwners zs) (sym is) (owner, each_put (IsOwned owner) es n c own owned.1)
+owners_put es fs n number c maker is there same same_uid owned = grind (arith, common_steps, each_at, each_put)
 
 less_apart : (p n : ℕ) → p < n → (p == n) ≡ false
 less_apart p n h = grind (arith, nat_tests)
@@ -47,15 +44,11 @@ owners_own es fs ps n c is own below entered owned =
 
 pub owners_filter :
     (es fs : Table Context) (p : ℕ × Context → Bool) → fs ≡ filter p es → HasOwners es → HasOwners fs
-owners_filter es fs p is owned =
-    subst (λ (zs : Table Context). HasOwners zs) (sym is)
-    (owned.0, each_filter (IsOwned owned.0) p es owned.1)
+owners_filter es fs p is owned = grind (arith, common_steps, each_filter)
 
 pub owners_without :
     (es fs : Table Context) (n : ℕ) → fs ≡ without es n → HasOwners es → HasOwners fs
-owners_without es fs n is owned =
-    subst (λ (zs : Table Context). HasOwners zs) (sym is)
-    (owned.0, each_without (IsOwned owned.0) es n owned.1)
+owners_without es fs n is owned = grind (arith, common_steps, each_without)
 
 still_owned :
     (owner : ℕ → ℕ) (f : Context → Context) (e : ℕ × Context) → (f e.1).process ≡ e.1.process
@@ -65,12 +58,7 @@ still_owned owner f e same same_uid h = same_uid ∙ (h ∙ ap owner (sym same))
 pub owners_alter :
     (es fs : Table Context) (n : ℕ) (f : Context → Context) → ((c : Context) → (f c).process ≡ c.process)
     → ((c : Context) → (f c).caller.uid ≡ c.caller.uid) → fs ≡ alter es n f → HasOwners es → HasOwners fs
-owners_alter es fs n f same same_uid is owned =
-    subst (λ (zs : Table Context). HasOwners zs) (sym is) (
-      owned.0,
-      each_alter (IsOwned owned.0) es n f
-          (λ e h. still_owned owned.0 f e (same e.1) (same_uid e.1) h) owned.1,
-    )
+owners_alter es fs n f same same_uid is owned = grind (arith, common_steps, each_alter, still_owned)
 
 mapped_owned :
     (owner : ℕ → ℕ) (es : Table Context) (f : Context → Context) → ((c : Context) → (f c).process ≡ c.process)

@@ -1,18 +1,18 @@
 -- What the asks of contexts come to, once their refusals are known.
 use Rattle.std.proofs.Common.{[], ◌+◌, ◌==◌, ◌||◌, ◌∙◌, ◌∷◌, ◌≡◌, ◌≤◌, ap, arith, cond, Err, false, filter}
-use Rattle.std.proofs.Common.{if◌then◌else◌, IsErrAnd, IsOk, nat_cmp, None, not, Ok, Option, refl, Result, Some, subst}
-use Rattle.std.proofs.Common.{sym, true, ℕ}
+use Rattle.std.proofs.Common.{IsErrAnd, IsOk, nat_cmp, None, not, Ok, Option, refl, Result, Some, sym, true, ℕ}
 use Rattle.std.specs.BTreeMap.{is_at}
 use Rattle.krs_types.specs.Refusing.{◌>>=◌, or_refuse}
 use Rattle.krs_types.specs.declared.{ask.Answer.{Answer, TheVariants.{Nothing, Number}}, caller.Caller.Caller}
 use Rattle.krs_types.specs.declared.{context.{Context.Context, UidRings.UidRings}, errno.Errno.Errno}
 use Rattle.krs_types.specs.declared.{errno.Errno.TheVariants.ESRCH, fault.Fault.{Fault, TheVariants.{Memory, Refused}}}
-use Rattle.krs_model.specs.Asks.Entering.{exec, fork, if_context_number, thread, without_thread}
-use Rattle.krs_model.specs.{Asks.Hello.{has_context_left, with_context}, Lookup.{context_of, if_own}, Outcome.Outcome}
+use Rattle.krs_model.specs.Asks.Entering.{exec, fork, thread, without_thread}
+use Rattle.krs_model.specs.{Asks.Hello.{with_context}, Lookup.{context_of, if_own}, Outcome.Outcome}
 use Rattle.krs_model.specs.{State.{starting_at, State}, Table.{alter, at, put, Table, without}}
 use Rattle.krs_model.proofs.Tables.Changes.{without_put}
 use Rattle.krs_ctx.specs.Anchors.{anchored, Anchors, IsFit}
 use Rattle.krs_ctx.specs.Told.{enterable, Enters, greeted, Opens, put_made, taken_back}
+use Rattle.std.proofs.lemmas.Grind.{common_steps}
 
 -- the context of THREAD, and of FORK
 abbrev pub threaded : State → Context → State × Answer
@@ -33,27 +33,23 @@ chained (Err e) b f = refl
 pub thread_refused : (s : State) (client number : ℕ) (c : Context) (e : Errno) → context_of s client number ≡ Ok c
     → enterable s client ≡ Err e → thread s client number ≡ Err e
 unfolding thread
-thread_refused s client number c e own not_left =
-    rw own (chained (has_context_left s client) (if_context_number s) (Ok (threaded s c)) ∙ rw not_left refl)
+thread_refused s client number c e own not_left = grind (arith, common_steps, chained)
 
 pub thread_accepted : (s : State) (client number : ℕ) (c : Context) → context_of s client number ≡ Ok c
     → enterable s client ≡ Ok (tt {0}) → thread s client number ≡ Ok (threaded s c)
 unfolding thread
-thread_accepted s client number c own left =
-    rw own (chained (has_context_left s client) (if_context_number s) (Ok (threaded s c)) ∙ rw left refl)
+thread_accepted s client number c own left = grind (arith, common_steps, chained)
 
 -- FORK in a context that is the client's
 pub fork_refused : (s : State) (client number : ℕ) (c : Context) (e : Errno) → context_of s client number ≡ Ok c
     → enterable s client ≡ Err e → fork s client number ≡ Err e
 unfolding fork
-fork_refused s client number c e own not_left =
-    rw own (chained (has_context_left s client) (if_context_number s) (Ok (forked s client c)) ∙ rw not_left refl)
+fork_refused s client number c e own not_left = grind (arith, common_steps, chained)
 
 pub fork_accepted : (s : State) (client number : ℕ) (c : Context) → context_of s client number ≡ Ok c
     → enterable s client ≡ Ok (tt {0}) → fork s client number ≡ Ok (forked s client c)
 unfolding fork
-fork_accepted s client number c own left =
-    rw own (chained (has_context_left s client) (if_context_number s) (Ok (forked s client c)) ∙ rw left refl)
+fork_accepted s client number c own left = grind (arith, common_steps, chained)
 
 pub is_ok : {A : Type 0} (r : Result A Errno) (x : A) → r ≡ Ok x → IsOk r
 is_ok r x h = rw h refl
@@ -63,15 +59,13 @@ pub refused : (old new : Anchors) (r : Result ℕ Fault) (e : Errno) (meant : St
     → IsErrAnd r (λ f. f ≡ Refused e) → ((s : State) → meant (anchored s old) ≡ Err e) → new ≡ old
     → Enters old r new meant
 refused old new (Ok n) e meant is stays same = absurd is
-refused old new (Err f) e meant is stays same =
-    subst (λ (g : Fault). Enters old (Err g) new meant) (sym is) (stays, same)
+refused old new (Err f) e meant is stays same = grind (arith, common_steps)
 
 -- ENOMEM that `?` hands on
 pub wants : (old new : Anchors) (r : Result ℕ Fault) (meant : State → Outcome) → IsErrAnd r (λ f. f ≡ Memory)
     → ((s : State) → IsOk (meant (anchored s old))) → new ≡ old → Enters old r new meant
 wants old new (Ok n) meant is accepted same = absurd is
-wants old new (Err f) meant is accepted same =
-    subst (λ (g : Fault). Enters old (Err g) new meant) (sym is) (accepted, same)
+wants old new (Err f) meant is accepted same = grind (arith, common_steps)
 
 same_ok : (x y : Context) → ◌≡◌ {A = Result Context Errno} (Ok x) (Ok y) → x ≡ y
 same_ok x y h = ap (λ (r : Result Context Errno). elim r as (λ _. Context) [ Ok c ↦ c | Err e ↦ x ]) h
@@ -79,11 +73,7 @@ same_ok x y h = ap (λ (r : Result Context Errno). elim r as (λ _. Context) [ O
 owned_there : (client : ℕ) (o : Option Context) (c : Context) → (or_refuse ESRCH o >>= if_own client) ≡ Ok c
     → o ≡ Some c
 owned_there client None c h = absurd cc
-owned_there client (Some x) c h =
-    elim (x.client == client) as (λ b. (if b then Ok x else Err ESRCH) ≡ Ok c → Some x ≡ Some c) [
-      | true ↦ λ t. ap Some (same_ok x c t)
-      | false ↦ λ t. absurd cc
-    ] h
+owned_there client (Some x) c h = grind (arith, common_steps, same_ok)
 
 -- a context that is the client's is there
 pub there : (t : Anchors) (client number : ℕ) (c : Context)
@@ -96,8 +86,7 @@ pub thread_told : (s : State) (t old new : Anchors) (maker c : Context) (n : ℕ
     → new.contexts ≡ put old.contexts n c → new.processes ≡ old.processes → new.uids ≡ old.uids
     → new.next_context ≡ old.next_context + 1 → c ≡ without_thread maker → n ≡ t.next_context
     → threaded (anchored s t) maker ≡ (anchored s new, Number n)
-thread_told s t old new maker c n is contexts processes uids next copied number =
-    rw (contexts, processes, uids, next, copied, is, number) refl
+thread_told s t old new maker c n is contexts processes uids next copied number = grind (arith, common_steps)
 
 -- a refusal that `?` hands on as it is
 pub passed_on : (r meant : Result (Unit {0}) Errno) (e : Errno) → IsErrAnd r (λ f. f ≡ e) → meant ≡ Err e → r ≡ meant
@@ -131,8 +120,7 @@ pub exec_told : (s : State) (t old new : Anchors) (client number : ℕ) (c : Con
     → new.uids ≡ old.uids → new.next_context ≡ old.next_context
     → exec (anchored s t) client number ≡ Ok (anchored s new, Nothing)
 unfolding exec
-exec_told s t old new client number c own is contexts processes uids next =
-    rw (own, contexts, processes, uids, next, is) refl
+exec_told s t old new client number c own is contexts processes uids next = grind (arith, common_steps)
 
 -- nothing is there to be taken out
 pub without_none : {X : Type 0} (es : Table X) (k : ℕ) → at es k ≡ None → without es k ≡ es

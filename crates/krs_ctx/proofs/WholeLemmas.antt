@@ -12,6 +12,7 @@ use Rattle.krs_model.proofs.Tables.Changes.{at_alter_same, at_put_same, is_at_sa
 use Rattle.krs_ctx.specs.Anchors.{Anchors, Each, IsFit, IsWhole}
 use Rattle.krs_ctx.proofs.EachLemmas.{each_alter, each_at, each_both, each_on, each_put, each_without, later_none}
 use Rattle.krs_ctx.proofs.FirstLemmas.{any_at}
+use Rattle.std.proofs.lemmas.Grind.{common_steps}
 
 -- ---- which values pass, after a change
 or_step : (a b c : Bool) → (a || b) ≡ true → (b ≡ true → c ≡ true) → (a || c) ≡ true
@@ -53,21 +54,13 @@ any_altered :
     {X : Type 0} (p : X → Bool) (es : Table X) (k : ℕ) (f : X → X) → ((v : X) → p (f v) ≡ p v)
     → list_any p (values_of (alter es k f)) ≡ list_any p (values_of es)
 any_altered p [] k f same = refl
-any_altered p (e ∷ es) k f same =
-    elim (is_at (nat_cmp k) e.0) as
-    (λ b. list_any p (values_of (cond b ((e.0, f e.1) ∷ es) (e ∷ alter es k f)))
-    ≡ (p e.1 || list_any p (values_of es))) [
-      | true ↦ ap (λ b. b || list_any p (values_of es)) (same e.1)
-      | false ↦ ap (λ b. p e.1 || b) (any_altered p es k f same)
-    ]
+any_altered p (e ∷ es) k f same = grind (arith, common_steps, nat_cmp, any_altered p es k f same)
 
 any_mapped :
     {X : Type 0} (p : X → Bool) (es : Table X) (f : X → X) → ((v : X) → p (f v) ≡ p v)
     → list_any p (values_of (map_values f es)) ≡ list_any p (values_of es)
 any_mapped p [] f same = refl
-any_mapped p (e ∷ es) f same =
-    ap (λ b. b || list_any p (values_of (map_values f es))) (same e.1)
-    ∙ ap (λ b. p e.1 || b) (any_mapped p es f same)
+any_mapped p (e ∷ es) f same = grind (arith, common_steps, any_mapped p es f same)
 
 -- one that passes is among those that stay, or something follows from it
 any_filter :
@@ -99,17 +92,10 @@ each_always P (x ∷ xs) on = (on x, each_always P xs on)
 
 each_passes : {X : Type 0} (p : X → Bool) (xs : List X) → Each (λ x. p x ≡ true) (filter p xs)
 each_passes p [] = tt
-each_passes p (x ∷ xs) =
-    elim (p x) as (λ b. p x ≡ b → Each (λ y. p y ≡ true) (cond b (x ∷ filter p xs) (filter p xs))) [
-      | true ↦ λ t. (t, each_passes p xs)
-      | false ↦ λ t. each_passes p xs
-    ] refl
+each_passes p (x ∷ xs) = grind (arith, common_steps, each_passes p xs)
 
 apart_first : {X : Type 0} (k : ℕ) (e : ℕ × X) (es : Table X) → at (e ∷ es) k ≡ None → is_at (nat_cmp k) e.0 ≡ false
-apart_first k e es none = elim (is_at (nat_cmp k) e.0) as (λ b. cond b (Some e.1) (at es k) ≡ None → b ≡ false) [
-  | true ↦ λ n. absurd (none-some e.1 (sym n))
-  | false ↦ λ n. refl
-] none
+apart_first k e es none = grind (arith, common_steps, nat_cmp, none-some)
 
 each_apart : {X : Type 0} (k : ℕ) (es : Table X) → at es k ≡ None → Each (λ e. is_at (nat_cmp k) e.0 ≡ false) es
 each_apart k [] none = tt
@@ -163,9 +149,7 @@ all_entered group es n c xs g v none same h =
 all_altered :
     {Y : Type 0} (group : Context → ℕ) (es : Table Context) (n : ℕ) (f : Context → Context) (xs : Table Y)
     → ((c : Context) → group (f c) ≡ group c) → AllHave group es xs → AllHave group (alter es n f) xs
-all_altered group es n f xs same =
-    all_on group es (alter es n f) xs
-    (λ q h. any_altered (λ x. group x == q) es n f (λ c. ap (λ (g : ℕ). g == q) (same c)) ∙ h)
+all_altered group es n f xs same = grind (arith, common_steps, all_on, any_altered)
 
 all_mapped :
     {Y : Type 0} (group : Context → ℕ) (es : Table Context) (f : Context → Context) (xs : Table Y) (g : Y → Y)
@@ -180,17 +164,10 @@ all_mapped group es f xs g same h =
 still :
     (group : Context → ℕ) (es ds : Table Context) (n q : ℕ) (c : Context) → at es n ≡ Some c → ds ≡ without es n
     → (group c == q) ≡ false → has group es q ≡ true → has group ds q ≡ true
-still group es ds n q c there less other h =
-    subst (λ (zs : Table Context). has group zs q ≡ true) (sym less)
-    (any_without (λ x. group x == q) es n
-    (λ v is. subst (λ (w : Context). (group w == q) ≡ false) (same_Some c v (sym there ∙ is)) other) h)
+still group es ds n q c there less other h = grind (arith, common_steps, any_without, same_Some)
 
 not_at : (p q : ℕ) → is_at (nat_cmp p) q ≡ false → (p == q) ≡ false
-not_at p q apart = elim (p == q) as (λ b. (p == q) ≡ b → b ≡ false) [
-  | true ↦ λ t. absurd (true≢false (sym
-      (subst (λ (z : ℕ). is_at (nat_cmp p) z ≡ true) (eqb-true p q t) (is_at_same p)) ∙ apart))
-  | false ↦ λ t. refl
-] refl
+not_at p q apart = grind (arith, common_steps, true≢false, nat_cmp, eqb-true, is_at_same)
 
 other_or_left :
     (group : Context → ℕ) (es ds : Table Context) (n q : ℕ) (c : Context) → at es n ≡ Some c → ds ≡ without es n

@@ -1,6 +1,7 @@
-use Rattle.std.proofs.Common.{◌∙◌, ap, Option, sym, ℕ}
+use Rattle.std.proofs.Common.{◌∙◌, arith, Option, sym, ℕ}
 use Rattle.krs_model.proofs.Tables.Changes.{alter_none, alter_some}
 use Rattle.krs_ctx.proofs.maps.set_ring.Goals as goal
+use Rattle.std.proofs.lemmas.Grind.{common_steps}
 
 pub returns-in-Some : goal.returns-in-Some
 returns-in-Some c =
@@ -9,7 +10,4 @@ returns-in-Some c =
     ∙ alter_some c.args.processes.now.entries c.args.process f c.in-Some.was.now (sym c.in-Some.ensures.value)
 
 pub returns-in-None : goal.returns-in-None
-returns-in-None c =
-    let f : Option ℕ → Option ℕ = λ was. c.args.ring in
-    ap (λ m. m.entries) c.get_mut.follows.holds-at-none
-    ∙ sym (alter_none c.args.processes.now.entries c.args.process f (sym c.in-None.ensures.value))
+returns-in-None c = grind (arith, common_steps, alter_none)

@@ -1,19 +1,12 @@
-use Rattle.std.proofs.Common.{◌∙◌, ◌≡◌, None, refl, sym}
-use Rattle.krs_model.specs.Table.{at}
+use Rattle.std.proofs.Common.{arith, refl, sym}
 use Rattle.krs_ctx.specs.View.{anchors_in}
 use Rattle.krs_ctx.proofs.FitLemmas.{ended_fit, exited_fit}
 use Rattle.krs_ctx.proofs.{LeavingLemmas.ended_none, ToldLemmas.without_none, WholeLemmas.{ended_whole, same_whole}}
 use Rattle.krs_ctx.proofs.contexts.Contexts.end.Goals as goal
+use Rattle.std.proofs.lemmas.Grind.{common_steps}
 
 pub invariant_of-self : goal.invariant_of-self
-invariant_of-self c =
-    let old = anchors_in c.self.inside in
-    let none : at old.contexts c.args.number ≡ None = sym c.in_default.ensures.value in
-    let same = c.remove.ensures.contexts ∙ without_none old.contexts c.args.number none in
-    record {
-      fit = ended_fit old _ c.args.number c.self.invariant.fit c.remove.ensures.contexts refl refl;
-      whole = λ is. same_whole old _ same refl refl (c.self.invariant.whole is);
-    }
+invariant_of-self c = grind (arith, common_steps, without_none, ended_fit, same_whole)
 
 pub returns-in_default : goal.returns-in_default
 returns-in_default c =

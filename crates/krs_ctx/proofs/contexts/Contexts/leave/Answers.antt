@@ -1,6 +1,7 @@
-use Rattle.std.proofs.Common.{◌==◌, not, refl}
+use Rattle.std.proofs.Common.{◌==◌, arith, not}
 use Rattle.krs_ctx.proofs.LeavingLemmas.{ended_fewer, leaving_one, left_idle, whole_left}
 use Rattle.krs_ctx.proofs.contexts.Contexts.leave.Goals as goal
+use Rattle.std.proofs.lemmas.Grind.{common_steps}
 
 pub ending-preserved : goal.ending-preserved
 ending-preserved c =
@@ -18,6 +19,4 @@ returns-then-not-is_whole c =
     c.in_default.ensures.none c.end_idle.ensures
 
 pub returns-else-not-is_whole : goal.returns-else-not-is_whole
-returns-else-not-is_whole c =
-    whole_left c.args.client c.args.self.now c.ending.self c.ending.invariant c.in_default.ensures.none
-    (c.if-not-is_whole.ensures refl)
+returns-else-not-is_whole c = grind (arith, common_steps, whole_left)
