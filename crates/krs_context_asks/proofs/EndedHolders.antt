@@ -1,7 +1,7 @@
 -- What the ends of contexts owe the numbers of holders.
 use Rattle.std.proofs.Common.{[], ◌++◌, ◌+◌, ◌∙◌, ◌≡◌, ap, arith, Bool, cond, false, List, None, Ok, Option}
 use Rattle.std.proofs.Common.{option_to_list, refl, Result, Some, subst, sym, true, unwrap_or, ℕ}
-use Rattle.krs_types.specs.{Refusing.◌>>=◌, declared.ask.Answer.{Answer, TheVariants.Nothing}}
+use Rattle.krs_types.specs.{declared.ask.Answer.{Answer, TheVariants.Nothing}}
 use Rattle.krs_types.specs.declared.{context.{Context.Context, UidRings.UidRings}, errno.Errno.Errno}
 use Rattle.krs_model.specs.Asks.Leaving.{exit, exited, has_process, has_uid}
 use Rattle.krs_model.specs.{Lookup.context_of, Possession.process_ring, State.{Key, State}}
@@ -12,6 +12,7 @@ use Rattle.krs_hold.proofs.{Gathered.{gathered, given_by, times-without}, Times.
 use Rattle.krs_tables.specs.Holding.{rings_of}
 use Rattle.krs_tables.proofs.{OwedHolders.{less_then, then_less}, Owners.own_there}
 use Rattle.krs_context_asks.proofs.EnteredHolders.{held_less, same_accepted}
+use Rattle.std.proofs.lemmas.Grind.{common_steps}
 
 -- an entry goes where a test fails
 cut_times :
@@ -79,10 +80,7 @@ exit_is :
     (s t : State) (client number : ℕ) (c : Context) → context_of s client number ≡ Ok c
     → exit s client number ≡ Ok (t, Nothing) → exited s number c ≡ t
 unfolding exit
-exit_is s t client number c own h =
-    ap (λ (x : State × Answer). x.0)
-    (same_accepted (exited s number c, Nothing) (t, Nothing)
-    (subst (λ (r : Result Context Errno). (r >>= (λ x. exit_done s number x)) ≡ Ok (t, Nothing)) own h))
+exit_is s t client number c own h = grind (arith, common_steps, same_accepted)
 
 -- EXIT of a context
 pub exit_tallied :

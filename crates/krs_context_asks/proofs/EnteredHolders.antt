@@ -1,19 +1,19 @@
 -- What further contexts, and EXEC, owe the numbers of holders.
-use Rattle.std.proofs.Common.{[], ◌&&◌, ◌++◌, ◌+◌, ◌==◌, ◌||◌, ◌∙◌, ◌∷◌, ◌≡◌, ap, arith, Bool, cond, Err, false, filter}
+use Rattle.std.proofs.Common.{[], ◌&&◌, ◌++◌, ◌+◌, ◌==◌, ◌||◌, ◌∷◌, ◌≡◌, ap, arith, Bool, cond, Err, false, filter}
 use Rattle.std.proofs.Common.{IfSome, IsErrAnd, List, nat_cmp, None, not, Ok, Option, option_to_list, refl, Result}
 use Rattle.std.proofs.Common.{Some, subst, sym, true, unwrap_or, ℕ}
 use Rattle.std.specs.BTreeMap.{is_at}
 use Rattle.krs_types.specs.{Refusing.◌>>=◌, declared.ask.Answer.{Answer, TheVariants.{Nothing, Number}}}
 use Rattle.krs_types.specs.declared.{caller.Caller.Caller, context.{Context.Context, UidRings.UidRings}}
 use Rattle.krs_types.specs.declared.{errno.Errno.Errno, fault.Fault.{Fault, TheVariants.{Memory, Refused}}}
-use Rattle.krs_model.specs.Asks.Entering.{exec, execed, fork, if_context_number, thread, without_thread}
-use Rattle.krs_model.specs.Asks.Hello.{has_context_left, with_context}
-use Rattle.krs_model.specs.{Levels.is_in, Lookup.{context_of, user_session_ring}, Outcome.{Leads, Outcome}}
+use Rattle.krs_model.specs.Asks.Entering.{exec, execed, fork, thread, without_thread}
+use Rattle.krs_model.specs.Asks.Hello.{with_context}
+use Rattle.krs_model.specs.{Levels.is_in, Lookup.{context_of}, Outcome.{Leads, Outcome}}
 use Rattle.krs_model.specs.{Possession.process_ring, State.{Key, State}}
 use Rattle.krs_model.specs.{Sweep.{context_roots, process_roots, roots, uid_roots}, Table.{alter, at, put, Table}}
 use Rattle.krs_model.proofs.{Reach.Levels.{in_right, same_is}, Sound.Attached.{attached_at, context_keys, in_context}}
 use Rattle.krs_model.proofs.Tables.Changes.{alter_none, same_at}
-use Rattle.krs_ctx.specs.{Anchors.Anchors, Told.{enterable, Enters, greeted, opened}}
+use Rattle.krs_ctx.specs.{Anchors.Anchors, Told.{Enters, greeted}}
 use Rattle.krs_ctx.proofs.ToldLemmas.{forked, threaded}
 use Rattle.krs_hold.specs.Tally.{all_less, IsTallied, times}
 use Rattle.krs_hold.proofs.Gathered.{times-alter, times-filter, times-put}
@@ -21,6 +21,7 @@ use Rattle.krs_hold.proofs.{Tallies.{tallied_attached, tallied_let_go_all}, Time
 use Rattle.krs_tables.specs.Holding.{more_of}
 use Rattle.krs_tables.proofs.OwedHolders.{context_tallied, counted_of, less_then, more_tallied, session_attached}
 use Rattle.krs_tables.proofs.Owners.{own_there}
+use Rattle.std.proofs.lemmas.Grind.{common_steps}
 
 -- a fault leaves the anchors as they were
 pub refused_stays :
@@ -79,21 +80,13 @@ thread_opens :
     (s t : State) (client number n : ℕ) (c : Context) → context_of s client number ≡ Ok c
     → thread s client number ≡ Ok (t, Number n) → (threaded s c).0 ≡ t
 unfolding thread
-thread_opens s t client number n c own h =
-    ap (λ (x : State × Answer). x.0) (accepted (has_context_left s client) (if_context_number s) (threaded s c)
-    (t, Number n)
-    (subst (λ (r : Result Context Errno). (r >>= (λ x. has_context_left s client >>=
-    (λ room. if_context_number s >>= (λ left. Ok (threaded s x))))) ≡ Ok (t, Number n)) own h))
+thread_opens s t client number n c own h = grind (arith, common_steps, accepted, threaded)
 
 fork_opens :
     (s t : State) (client number n : ℕ) (c : Context) → context_of s client number ≡ Ok c
     → fork s client number ≡ Ok (t, Number n) → (forked s client c).0 ≡ t
 unfolding fork
-fork_opens s t client number n c own h =
-    ap (λ (x : State × Answer). x.0) (accepted (has_context_left s client) (if_context_number s) (forked s client c)
-    (t, Number n)
-    (subst (λ (r : Result Context Errno). (r >>= (λ x. has_context_left s client >>=
-    (λ room. if_context_number s >>= (λ left. Ok (forked s client x))))) ≡ Ok (t, Number n)) own h))
+fork_opens s t client number n c own h = grind (arith, common_steps, accepted, forked)
 
 -- the context of THREAD
 pub thread_tallied :
@@ -120,9 +113,7 @@ pub entered_tallied :
     → IfSome session (λ k. is_in k (roots s) ≡ true) → IsTallied keys (roots s) [] numbers
     → IsTallied keys (roots (with_context s client c session)) [] (more_of session numbers)
 entered_tallied keys s client c session numbers no_context no_process held h =
-    context_tallied keys s.contexts s.processes (uid_roots s.uids) numbers s.next_context
-    (record { client = client; process = s.next_context; caller = c; thread = None; session = session })
-    no_context no_process refl held h
+    grind (arith, common_steps, context_tallied)
 
 -- the context of FORK
 pub fork_tallied :
@@ -158,13 +149,7 @@ filter_alter {X = X} p (e ∷ es) n f goes =
 filter_same :
     {X : Type 0} (p r : X → Bool) (xs : List X) → ((x : X) → p x ≡ r x) → filter p xs ≡ filter r xs
 filter_same p r [] same = refl
-filter_same p r (x ∷ xs) same =
-    let rest = filter_same p r xs same in
-    rw (same x) (elim (r x) as (λ b. cond b (x ∷ filter p xs) (filter p xs)
-    ≡ cond b (x ∷ filter r xs) (filter r xs)) [
-      | true ↦ ap (λ zs. x ∷ zs) rest
-      | false ↦ rest
-    ])
+filter_same p r (x ∷ xs) same = grind (arith, common_steps, filter_same p r xs same)
 
 neither : (a b : Bool) → not (not a || b) ≡ (a && not b)
 neither true true = refl
@@ -182,11 +167,7 @@ ended_same :
     (es : Table Context) (process number : ℕ)
     → filter (λ e. not (not (e.1.process == process) || (e.0 == number))) (alter es number without_thread)
     ≡ filter (ends process number) es
-ended_same es process number =
-    filter_same (λ e. not (not (e.1.process == process) || (e.0 == number))) (ends process number)
-    (alter es number without_thread) (λ e. neither (e.1.process == process) (e.0 == number))
-    ∙ filter_alter (ends process number) es number without_thread
-    (λ v. rw (same_is number number refl) (and_false (v.process == process)))
+ended_same es process number = grind (arith, common_steps, filter_same, neither, filter_alter, same_is, and_false)
 
 ring_times :
     (es : Table (Option ℕ)) (p q : ℕ)
@@ -240,10 +221,7 @@ exec_is :
     (s t : State) (client number : ℕ) (c : Context) → context_of s client number ≡ Ok c
     → exec s client number ≡ Ok (t, Nothing) → execed s number c ≡ t
 unfolding exec
-exec_is s t client number c own h =
-    ap (λ (x : State × Answer). x.0)
-    (same_accepted (execed s number c, Nothing) (t, Nothing)
-    (subst (λ (r : Result Context Errno). (r >>= (λ x. exec_done s number x)) ≡ Ok (t, Nothing)) own h))
+exec_is s t client number c own h = grind (arith, common_steps, same_accepted)
 
 pub exec_tallied :
     (keys : Table Key) (s t : State) (client number : ℕ) (c : Context) (numbers : Table ℕ)
@@ -267,9 +245,7 @@ pub exec_accepted :
     (s : State) (client number : ℕ) (c : Context) (e : Errno) → context_of s client number ≡ Ok c
     → exec s client number ≡ Err e → ⊥
 unfolding exec
-exec_accepted s client number c e own h =
-    never (execed s number c, Nothing) e
-    (subst (λ (r : Result Context Errno). (r >>= (λ x. exec_done s number x)) ≡ Err e) own h)
+exec_accepted s client number c e own h = grind (arith, common_steps, never)
 
 -- a refusal that `?` hands on
 pub refused_as :
@@ -285,14 +261,4 @@ pub known_tallied :
     → greeted s client c None ≡ Ok (t, Number n) → IsTallied keys (roots s) [] numbers
     → IsTallied keys (roots t) [] (more_of rings.session numbers)
 known_tallied keys s t client n c rings numbers no_context no_process there h tallied =
-    let opens : opened s client c None ≡ t =
-    ap (λ (x : State × Answer). x.0) (one_accepted (enterable s client)
-    (opened s client c None, Number s.next_context)
-    (t, Number n) h) in
-    let session : user_session_ring (at s.uids c.uid) ≡ rings.session = rw there refl in
-    subst (λ (z : State). IsTallied keys (roots z) [] (more_of rings.session numbers)) opens
-    (subst (λ (o : Option ℕ). IsTallied keys (roots (with_context s client c o)) [] (more_of rings.session numbers))
-    (sym session)
-    (entered_tallied keys s client c rings.session numbers no_context no_process
-    (session_attached s c.uid rings there)
-    tallied))
+    grind (arith, common_steps, one_accepted, entered_tallied, session_attached)

@@ -1,8 +1,7 @@
 -- What JOIN owes the definitions, and the numbers of holders.
-use Rattle.std.proofs.Common.{[], ◌&&◌, ◌++◌, ◌+◌, ◌==◌, ◌∙◌, ◌∷◌, ◌≡◌, ◌≤◌, ap, arith, Bool, codes, cond, false, find}
-use Rattle.std.proofs.Common.{IfSome, if◌then◌else◌, IsSome, length, List, nat_cmp, nat_lt, None, Ok, Option}
+use Rattle.std.proofs.Common.{[], ◌&&◌, ◌++◌, ◌+◌, ◌∙◌, ◌∷◌, ◌≡◌, ◌≤◌, ap, arith, Bool, codes, cond, false, find}
+use Rattle.std.proofs.Common.{IfSome, IsSome, List, nat_cmp, nat_lt, None, Ok, Option}
 use Rattle.std.proofs.Common.{option_map, option_to_list, refl, Some, subst, sym, true, ℕ}
-use Rattle.std.specs.BTreeMap.{is_at}
 use Rattle.std.proofs.lemmas.{Bool.Decides.nat_tests, Option.{none-some, same_Some}}
 use Rattle.krs_types.specs.declared.{ask.Answer.TheVariants.Number, caller.Caller.Caller, context.Context.Context}
 use Rattle.krs_model.specs.Asks.Joining.{join, joinable, joined_to, session_joined, session_named, session_ring}
@@ -17,18 +16,15 @@ use Rattle.krs_hold.proofs.{Gathered.times-alter, KeyTallies.tallied_insert}
 use Rattle.krs_hold.proofs.Tallies.{some_with, tallied_attached, tallied_hold, tallied_let_go_all, tallied_with}
 use Rattle.krs_hold.proofs.Times.{times-append}
 use Rattle.krs_tables.proofs.Owners.{own_there}
-use Rattle.krs_context_asks.specs.Joined.{IsEmptyRing, joined_anew, joined_ring, session_in, session_key}
+use Rattle.krs_context_asks.specs.Joined.{IsEmptyRing, joined_anew, session_in, session_key}
 use Rattle.krs_model.specs.State as model
+use Rattle.std.proofs.lemmas.Grind.{common_steps}
 
 there_later :
     {X : Type 0} (e : ℕ × X) (es : Table X) (o : Option ℕ) → IfSome o (λ k. IsSome (at es k))
     → IfSome o (λ k. IsSome (at (e ∷ es) k))
 there_later e es None h = tt
-there_later {X = X} e es (Some k) h =
-    elim (is_at (nat_cmp k) e.0) as (λ b. IsSome (cond b (Some e.1) (at es k))) [
-      | true ↦ refl
-      | false ↦ h
-    ]
+there_later {X = X} e es (Some k) h = grind (arith, common_steps, nat_cmp)
 
 -- what is found in a table is at its number
 pub find_there :
@@ -111,13 +107,7 @@ empty_kinds es n key empty kinds = kinds_put es n key (empty_kind key empty) kin
 
 -- the keyrings that JOIN makes, as the definitions see them
 pub seen-session_key : (name : List ℕ) (c : Caller) → seen (session_key name c) ≡ session_ring name c
-seen-session_key name c =
-    elim (length name == 0) as (λ b. seen (if b then joined_ring (codes "_ses") 1057161216 c
-    else joined_ring name 1058209792 c)
-    ≡ (if b then seen (joined_ring (codes "_ses") 1057161216 c) else seen (joined_ring name 1058209792 c))) [
-      | true ↦ refl
-      | false ↦ refl
-    ]
+seen-session_key name c = grind (arith, common_steps, codes)
 
 and_none : (b : Bool) → (b && false) ≡ false
 and_none true = refl
@@ -127,9 +117,7 @@ and_none false = refl
 pub joined_anew_is :
     (s : State) (number : ℕ) (key : model.Key) → s.next_serial ≤ 2147483647
     → joined_anew s number key ≡ Ok (joined_to (with_new s key) number s.next_serial, Number s.next_serial)
-joined_anew_is s number key few =
-    let no : nat_lt 2147483648 (s.next_serial + 1) ≡ false = grind (arith, nat_tests) in
-    rw (no, and_none (nat_lt s.next_serial (s.next_serial + 1))) refl
+joined_anew_is s number key few = grind (arith, common_steps, nat_lt, nat_tests, and_none)
 
 join_named :
     (s : State) (client number : ℕ) (name : List ℕ) (c : Context) → context_of s client number ≡ Ok c
@@ -143,10 +131,7 @@ found_is :
     → Some ring ≡ option_map (λ (e : ℕ × model.Key). e.0) o
     → within_serials s (session_joined s number c name o) ≡ Ok (joined_to s number ring, Number ring)
 found_is s number ring name c None h = absurd (none-some ring (sym h))
-found_is s number ring name c (Some e) h =
-    let same : ring ≡ e.0 = same_Some ring e.0 h in
-    let no : nat_lt s.next_serial s.next_serial ≡ false = grind (arith, nat_tests) in
-    rw (same, no) refl
+found_is s number ring name c (Some e) h = grind (arith, common_steps, same_Some, nat_lt, nat_tests)
 
 -- JOIN of a keyring that is there
 pub join_finds :

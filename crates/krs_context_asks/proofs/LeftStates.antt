@@ -1,8 +1,8 @@
 -- What LEAVE comes to in a store, one EXIT after the other.
-use Rattle.std.proofs.Common.{[], ◌++◌, ◌<◌, ◌==◌, ◌∙◌, ◌∷◌, ◌≡◌, ap, Bool, Err, false, filter, if◌then◌else◌, length}
-use Rattle.std.proofs.Common.{List, not, Ok, Option, refl, Result, Some, subst, sym, true, ℕ}
+use Rattle.std.proofs.Common.{[], ◌++◌, ◌<◌, ◌==◌, ◌∙◌, ◌∷◌, ◌≡◌, ap, Bool, Err, false, filter, length}
+use Rattle.std.proofs.Common.{arith, List, not, Ok, Option, refl, Result, Some, subst, sym, ℕ}
 use Rattle.krs_types.specs.{Refusing.{◌>>=◌, or_refuse}, declared.ask.Answer.{Answer, TheVariants.Nothing}}
-use Rattle.krs_types.specs.declared.{context.{Context.Context, UidRings.UidRings}, errno.Errno.Errno}
+use Rattle.krs_types.specs.declared.{context.{Context.Context, UidRings.UidRings}}
 use Rattle.krs_types.specs.declared.{errno.Errno.TheVariants.ESRCH, fault.Fault.{Fault, TheVariants.{Memory, Refused}}}
 use Rattle.krs_model.specs.Asks.{Leaving.{contexts_without, exit, exited, left}, Watching.without_client}
 use Rattle.krs_model.specs.{Lookup.{context_of, if_own}, Outcome.Leads, Queues.{Queues, queues_of, with_queues}}
@@ -13,16 +13,12 @@ use Rattle.krs_ctx.proofs.{LeadsLemmas.left_whole, LeavingLemmas.{ended_fewer, l
 use Rattle.krs_hold.specs.Tally.{all_less, IsTallied}
 use Rattle.krs_tables.proofs.OwedHolders.{left_tallied}
 use Rattle.krs_context_asks.proofs.EnteredHolders.{same_accepted}
+use Rattle.std.proofs.lemmas.Grind.{common_steps}
 
 own_found :
     (client : ℕ) (o : Option Context) (c : Context) → o ≡ Some c → not (c.client == client) ≡ false
     → (or_refuse ESRCH o >>= if_own client) ≡ Ok c
-own_found client o c there mine =
-    ap (λ (x : Option Context). or_refuse ESRCH x >>= if_own client) there
-    ∙ (elim (c.client == client) as (λ b. not b ≡ false → (if b then Ok c else Err ESRCH) ≡ Ok c) [
-      | true ↦ λ h. refl
-      | false ↦ λ h. absurd cc
-    ] mine)
+own_found client o c there mine = grind (arith, common_steps)
 
 -- a context of a client is its own
 found_own :
@@ -42,8 +38,7 @@ led :
     → (r ≡ Err Memory → ⊥) → x.0 ≡ new
 led s new (Ok answer) x h memory = ap (λ (y : State × Answer). y.0) (same_accepted x (new, answer) h)
 led s new (Err Memory) x h memory = absurd (memory refl)
-led s new (Err (Refused e)) x h memory = let no : ◌≡◌ {A = Result (State × Answer) Errno} (Ok x) (Err e) = h.0 in
-    absurd cc
+led s new (Err (Refused e)) x h memory = grind (arith, common_steps)
 
 -- EXIT of a context of a client
 exit_ended :
@@ -51,12 +46,7 @@ exit_ended :
     → IsThereFailing (λ e. not (e.1.client == client)) s.contexts number
     → Leads s r new (exit s client number) → (r ≡ Err Memory → ⊥)
     → new ≡ anchored s (ended_where (anchors_of s) number (at s.contexts number))
-exit_ended s new client number r there leads memory =
-    let c = there.0 in
-    let accepted = exit_is s client number c (found_own s client number c there.1 there.2) in
-    sym (led s new r (exited s number c, Nothing)
-    (subst (λ (m : Result (State × Answer) Errno). Leads s r new m) accepted leads) memory)
-    ∙ sym (ap (λ (o : Option Context). anchored s (ended_where (anchors_of s) number o)) there.1)
+exit_ended s new client number r there leads memory = grind (arith, common_steps, exit_is, found_own, led)
 
 -- between two of them
 pub record AreEnding (client : ℕ) (old now : State) : Type 0 where

@@ -1,13 +1,14 @@
-use Rattle.std.proofs.Common.{◌-◌, ◌<◌, ◌^◌, ◌∙◌, ◌≡◌, ap, IsSome, option_to_list, Some, subst, sym, true≢false, ℕ}
+use Rattle.std.proofs.Common.{◌∙◌, ◌≡◌, ap, arith, IsSome, option_to_list, Some, subst, sym, true≢false, ℕ}
 use Rattle.krs_model.specs.{Asks.Joining.joined_to, State.State, Sweep.roots, Table.{at, Table}}
 use Rattle.krs_ctx.specs.Anchors.{anchored, Anchors}
 use Rattle.krs_keys.specs.Keys.{shown}
 use Rattle.krs_hold.specs.Tally.{all_less, AreExact, one_more}
-use Rattle.krs_tables.specs.{Holding.holders_in, View.state_of}
+use Rattle.krs_tables.specs.{View.state_of}
 use Rattle.krs_tables.proofs.CountRoom.{room_told}
 use Rattle.krs_context_asks.specs.Joined.{session_in}
 use Rattle.krs_context_asks.proofs.JoinedHolders.{joined_tallied}
 use Rattle.krs_context_asks.proofs.joining.join_found.Goals as goal
+use Rattle.std.proofs.lemmas.Grind.{common_steps}
 
 pub invariant_of-tables : goal.invariant_of-tables
 invariant_of-tables c =
@@ -34,7 +35,4 @@ invariant_of-tables c =
     }
 
 pub returns-in_err-check_room-clause-room : goal.returns-in_err-check_room-clause-room
-returns-in_err-check_room-clause-room c = λ few memory.
-    let here : holders_in (state_of c.tables.inside) c.args.ring < 2 ^ 64 - 1 =
-    subst (λ (s : State). holders_in s c.args.ring < 2 ^ 64 - 1) (sym c.tables.view_is) few in
-    true≢false (sym (c.in_err-check_room.ensures.room (room_told c.tables.inside c.args.ring c.tables.invariant here)))
+returns-in_err-check_room-clause-room c = grind (arith, common_steps, true≢false, room_told)

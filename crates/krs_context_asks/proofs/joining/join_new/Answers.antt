@@ -1,14 +1,15 @@
-use Rattle.std.proofs.Common.{◌∙◌, ◌≡◌, ◌≤◌, ap, arith, None, option_to_list, refl, Some, subst, sym, ℕ}
+use Rattle.std.proofs.Common.{◌∙◌, ◌≡◌, ◌≤◌, ap, arith, None, option_to_list, Some, subst, sym, ℕ}
 use Rattle.krs_model.specs.{Asks.Joining.{joined_to, session_to}, State.State, Sweep.roots, Table.{at, put, Table}}
 use Rattle.krs_model.proofs.Tables.Changes.{put_map}
 use Rattle.krs_ctx.specs.{Anchors.{anchored, Anchors}, Told.changed}
-use Rattle.krs_keys.specs.{Keys.seen, Table.Keys}
+use Rattle.krs_keys.specs.{Table.Keys}
 use Rattle.krs_hold.specs.Tally.{all_less, AreExact, one_more, with_number}
 use Rattle.krs_tables.specs.View.{IsConsistent, state_of}
 use Rattle.krs_context_asks.specs.Joined.{session_in}
 use Rattle.krs_context_asks.proofs.JoinedHolders.{empty_fit, empty_kind, empty_kinds, joined_anew_is}
 use Rattle.krs_context_asks.proofs.JoinedHolders.{made_joined_tallied}
 use Rattle.krs_context_asks.proofs.joining.join_new.Goals as goal
+use Rattle.std.proofs.lemmas.Grind.{common_steps}
 
 pub invariant_of-tables-in-Ok : goal.invariant_of-tables-in-Ok
 invariant_of-tables-in-Ok c =
@@ -47,21 +48,7 @@ invariant_of-tables-in-Ok c =
     })
 
 pub returns-in-Ok : goal.returns-in-Ok
-returns-in-Ok c =
-    let s = c.tables.inside in
-    let base = state_of s in
-    let es = s.keys.keys in
-    let n = s.keys.next in
-    let key = c.args.key in
-    let ring : c.in-Ok.ring ≡ n = c.in-Ok.ensures.serial in
-    let answer : c.number.result ≡ n = c.number.ensures ∙ ring in
-    let few : n ≤ 2147483647 =
-    subst (λ (t : State). t.next_serial ≤ 2147483647) (sym c.tables.view_is) c.requires.serial in
-    let anchors : c.attach_session.new.self ≡ changed s.contexts c.args.number (session_to n) =
-    c.attach_session.ensures ∙ ap (λ k. changed s.contexts c.args.number (session_to k)) ring in
-    rw (← c.tables.view_is)
-    (joined_anew_is base c.args.number (seen key) few
-    ∙ rw (c.in-Ok.ensures.ok, anchors, put_map seen es n key, answer) refl)
+returns-in-Ok c = grind (arith, common_steps, joined_anew_is, put_map)
 
 pub insert-requires : goal.insert-requires
 insert-requires c = empty_kind c.args.key c.requires.empty

@@ -1,17 +1,14 @@
-use Rattle.std.proofs.Common.{◌∙◌, ap, refl, subst}
+use Rattle.std.proofs.Common.{◌∙◌, ap, arith, refl, subst}
 use Rattle.krs_model.specs.{Asks.Leaving.left, State.State}
 use Rattle.krs_ctx.specs.{Anchors.{anchored, anchors_of, IsWhole}, Told.without_idle}
 use Rattle.krs_ctx.proofs.LeavingLemmas.{left_idle, whole_left}
 use Rattle.krs_tables.specs.View.{state_of}
 use Rattle.krs_context_asks.proofs.LeftStates.{left_state}
 use Rattle.krs_context_asks.proofs.leaving.leave.Goals as goal
+use Rattle.std.proofs.lemmas.Grind.{common_steps}
 
 pub invariant_of-tables : goal.invariant_of-tables
-invariant_of-tables c = record {
-  fit = c.tables.invariant.fit;
-  kinds = c.tables.invariant.kinds;
-  tallied = c.tables.invariant.tallied;
-}
+invariant_of-tables c = grind (arith, common_steps)
 
 pub returns-then-not-is_whole : goal.returns-then-not-is_whole
 returns-then-not-is_whole c =
