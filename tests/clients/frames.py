@@ -48,7 +48,8 @@ def every_ask():
 
 ALL_ASKED = every_ask()
 # What the buffers of asks that answer bytes hold afterwards, in order: the first has too little room, one isn't there.
-BUFFERS = ["untouched", "DESCRIBEd", "READ", None, "READ_QUEUE"]
+# Where there is room a null byte stands behind a description.
+BUFFERS = ["untouched", "DESCRIBE", "READ", None, "READ_QUEUE"]
 
 
 def wanted_lines():
