@@ -221,9 +221,9 @@ def print_steps(given, lines):
         it.end()
 
 
-def probe(given, name):
+def probe(given, name, pace=1):
     """A probe must show its rule, in its last lines, and nothing else."""
-    it, seen = begin(given), collections.Counter()
+    it, seen = begin(given, pace), collections.Counter()
     if it.kernel.inherits and name in OF_NO_SESSION:
         skipped(f"the probe of {name}: a session from above is handed on")
         it.end()
@@ -233,6 +233,8 @@ def probe(given, name):
             step(it, line, seen, collections.Counter())
     except play.Difference as difference:
         return f"unexplained: {difference}"
+    except play.Late:
+        return probe(given, name, 3 * pace) if pace < PACES[-1] else "the machine is too busy for it"
     finally:
         it.end()
     return None if set(seen) == {name} else f"shows {dict(seen)}"
