@@ -25,8 +25,9 @@ const UID: &str = "uid";
 const GID: &str = "gid";
 
 const ABOUT: &str = "\
-A client of a key store that works as Linux's key retention service does:
-keyrings(7), keyctl(2).";
+A client of a key store that works as Linux's key retention service does, for
+scripts and other programs: at a terminal take keyretain-session(1) and
+keyctl(1). Without --uid and --gid a single command asks as uid 0 and gid 0.";
 
 const USES: &str = "keyretain script
        keyretain --socket PATH script
