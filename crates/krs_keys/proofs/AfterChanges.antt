@@ -40,6 +40,15 @@ told_put p keys k q v =
     ∙ (either p (is_at (nat_cmp q) k) (Some v) (at keys q)
     ∙ ap (λ b. cond b (p (Some v)) (p (at keys q))) (sym (either_way k q) ∙ unsigned_tied k q))
 
+-- of a change that may show
+pub told_changed :
+    {X : Type 0} (p : Option Key → X) (keys : Table Key) (k q : ℕ) (f : Key → Key)
+    → p (at (alter keys k f) q) ≡ cond (nat_eq k q) (p (option_map f (at keys k))) (p (at keys q))
+told_changed p keys k q f =
+    ap p (at_alter keys k q f)
+    ∙ (either p (is_at (nat_cmp q) k) (option_map f (at keys k)) (at keys q)
+    ∙ ap (λ b. cond b (p (option_map f (at keys k))) (p (at keys q))) (sym (either_way k q) ∙ unsigned_tied k q))
+
 pub told_without :
     {X : Type 0} (p : Option Key → X) (keys : Table Key) (k q : ℕ) → Rises keys
     → p (at (without keys k) q) ≡ cond (nat_eq k q) (p None) (p (at keys q))

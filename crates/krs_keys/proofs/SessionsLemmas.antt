@@ -1,38 +1,45 @@
 -- Which keyrings that JOIN made are listed, and under what, after a change.
 use Rattle.std.proofs.Common.{[], ◌&&◌, ◌+◌, ◌<◌, ◌||◌, ◌∙◌, ◌∷◌, ◌≡◌, All, ap, arith, Bool, cond, eqb-true, false}
-use Rattle.std.proofs.Common.{filter, is_eq, is_le, List, nat_cmp, nat_eq, None, not, refl, slice_index_or, Some, subst}
-use Rattle.std.proofs.Common.{suc, sym, true, true≢false, zero, ℕ}
+use Rattle.std.proofs.Common.{filter, is_eq, is_le, List, nat_cmp, nat_eq, None, not, Option, option_map, refl}
+use Rattle.std.proofs.Common.{slice_index_or, Some, subst, suc, sym, true, true≢false, zero, ℕ}
 use Rattle.std.specs.{BTreeMap.{is_at, Range.range_contains}, Cmp.{nat_cmp_is, unsigned_tied}, List.list_any}
 use Rattle.std.specs.{Ordering.ordering_then, declared.cmp.Ordering.{Ordering, TheVariants.{Equal, Greater, Less}}}
 use Rattle.std.specs.declared.ops.Bound.TheVariants.{Excluded, Included, Unbounded}
 use Rattle.std.proofs.lemmas.{Cmp.ranked, List.Elements.filter_passes}
 use Rattle.krs_types.specs.{Kind.same_kind, declared.{kind.Kind.TheVariants.Keyring, name.Name.Name}}
-use Rattle.krs_model.specs.{Queues.place_cmp, Table.{alter, at, map_values, put, Table, without}}
+use Rattle.krs_model.specs.{Queues.place_cmp, Table.{alter, at, map_values, put, Rises, Table, without}}
 use Rattle.krs_links.specs.{Seeded.digest, declared.seed.Seed.Seed}
-use Rattle.krs_keys.specs.Changes.{changed}
+use Rattle.krs_keys.specs.Changes.{changed, revokes}
 use Rattle.krs_keys.specs.Sessions.{AreSessions, is_digest, lists, ListsKey, session_digest, UnlistsKey}
 use Rattle.krs_keys.specs.declared.{key.{Change.Change, Key.Key}, sessions.Sessions.Sessions}
-use Rattle.krs_keys.proofs.AfterChanges.{IsHidden, told_alter, told_map, told_put, told_without}
+use Rattle.krs_keys.proofs.AfterChanges.{IsHidden, told_alter, told_changed, told_map, told_put, told_without}
 use Rattle.krs_keys.specs.declared.key.Change.TheVariants as change
 
 -- ---- changes of keys
--- a change that keeps the name of a key, and whether JOIN made it
-abbrev pub KeepsSession : (Key → Key) → Type 0
-KeepsSession f = (v : Key) → ((f v).name ≡ v.name) × ((f v).joined ≡ v.joined)
+none_passes : (a b : Bool) → (a && (b && false)) ≡ false
+none_passes true true = refl
+none_passes true false = refl
+none_passes false b = refl
 
-pub session-changed : (change : Change) → KeepsSession (changed change)
-session-changed (change.Payload payload) v = (refl, refl)
-session-changed (change.Mask mask) v = (refl, refl)
-session-changed (change.Owner uid gid) v = (refl, refl)
-session-changed (change.Expiry expiry) v = (refl, refl)
-session-changed change.Revoked v = (refl, refl)
-session-changed change.Cleared v = (refl, refl)
-session-changed change.Closed v = (refl, refl)
+-- a change that keeps the name of a key, and whether it is one that JOIN made and that isn't revoked
+abbrev pub KeepsSession : (Key → Key) → Type 0
+KeepsSession f =
+    (v : Key) → ((f v).name ≡ v.name) × (((f v).joined && not (f v).revoked) ≡ (v.joined && not v.revoked))
+
+pub session-changed : (change : Change) → revokes change ≡ false → KeepsSession (changed change)
+session-changed (change.Payload payload) h v = (refl, refl)
+session-changed (change.Mask mask) h v = (refl, refl)
+session-changed (change.Owner uid gid) h v = (refl, refl)
+session-changed (change.Expiry expiry) h v = (refl, refl)
+session-changed change.Revoked h v = absurd (true≢false h)
+session-changed change.Cleared h v = (refl, refl)
+session-changed change.Closed h v = (refl, refl)
 
 hidden : (d : ℕ) (seed : Seed) (f : Key → Key) → KeepsSession f → IsHidden (λ o. is_digest d (session_digest seed o)) f
 hidden d seed f keeps None = refl
 hidden d seed f keeps (Some v) =
-    ap (λ (n : Name). is_digest d (cond (same_kind n.kind Keyring && (f v).joined) (Some (digest seed n.desc)) None))
+    ap (λ (n : Name). is_digest d (cond (same_kind n.kind Keyring && ((f v).joined && not (f v).revoked))
+    (Some (digest seed n.desc)) None))
     (keeps v).0
     ∙ ap (λ (b : Bool). is_digest d (cond (same_kind v.name.kind Keyring && b) (Some (digest seed v.name.desc)) None))
     (keeps v).1
@@ -48,6 +55,30 @@ pub sessions_map :
     → AreSessions s (map_values f keys)
 sessions_map s keys f keeps are d q =
     are d q ∙ sym (told_map (λ o. is_digest d (session_digest s.seed o)) keys q f (hidden d s.seed f keeps))
+
+-- a key that is revoked is listed no more than one that is gone
+not_listed : (d : ℕ) (seed : Seed) (c : Change) (o : Option Key) → revokes c ≡ true
+    → is_digest d (session_digest seed (option_map (changed c) o)) ≡ false
+not_listed d seed c None h = refl
+not_listed d seed (change.Payload payload) (Some v) h = absurd (true≢false (sym h))
+not_listed d seed (change.Mask mask) (Some v) h = absurd (true≢false (sym h))
+not_listed d seed (change.Owner uid gid) (Some v) h = absurd (true≢false (sym h))
+not_listed d seed (change.Expiry expiry) (Some v) h = absurd (true≢false (sym h))
+not_listed d seed change.Revoked (Some v) h =
+    ap (λ b. is_digest d (cond b (Some (digest seed v.name.desc)) None))
+    (none_passes (same_kind v.name.kind Keyring) v.joined)
+not_listed d seed change.Cleared (Some v) h = absurd (true≢false (sym h))
+not_listed d seed change.Closed (Some v) h = absurd (true≢false (sym h))
+
+pub sessions_revoked :
+    (s : Sessions) (keys : Table Key) (k : ℕ) (c : Change) → revokes c ≡ true → Rises keys
+    → AreSessions s (without keys k) → AreSessions s (alter keys k (changed c))
+sessions_revoked s keys k c revoked rises are d q =
+    are d q
+    ∙ (told_without (λ o. is_digest d (session_digest s.seed o)) keys k q rises
+    ∙ (ap (λ b. cond (nat_eq k q) b (is_digest d (session_digest s.seed (at keys q))))
+    (sym (not_listed d s.seed c (at keys k) revoked))
+    ∙ sym (told_changed (λ o. is_digest d (session_digest s.seed o)) keys k q (changed c))))
 
 -- ---- a key more, and a key less
 then_tied : (o p : Ordering) → is_eq (ordering_then o p) ≡ (is_eq o && is_eq p)

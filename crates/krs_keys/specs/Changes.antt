@@ -29,6 +29,16 @@ changed change.Revoked key = record key { revoked = true; content = emptied key.
 changed change.Cleared key = record key { content = cleared_content key.content }
 changed change.Closed key = record key { closed = true }
 
+-- whether a change is the end of a key
+abbrev pub revokes : Change → Bool
+revokes (change.Payload payload) = false
+revokes (change.Mask mask) = false
+revokes (change.Owner uid gid) = false
+revokes (change.Expiry expiry) = false
+revokes change.Revoked = true
+revokes change.Cleared = false
+revokes change.Closed = false
+
 -- the change of the definitions
 abbrev pub meant_change : Change → model.Key → model.Key
 meant_change (change.Payload payload) = meant.updated payload

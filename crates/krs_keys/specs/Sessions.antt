@@ -1,16 +1,16 @@
--- The keyrings that JOIN made, by what their descriptions hash to.
-use Rattle.std.specs.Prelude.{◌&&◌, ◌+◌, ◌<◌, ◌^◌, ◌≡◌, All, Bool, cond, false, List, nat_eq, None, Option, Some, true}
-use Rattle.std.specs.{Prelude.ℕ, BTreeMap.is_at, List.list_any}
+-- The keyrings that JOIN made and that aren't revoked, by what their descriptions hash to.
+use Rattle.std.specs.Prelude.{◌&&◌, ◌+◌, ◌<◌, ◌^◌, ◌≡◌, All, Bool, cond, false, List, nat_eq, None, not, Option, Some}
+use Rattle.std.specs.{Prelude.{true, ℕ}, BTreeMap.is_at, List.list_any}
 use Rattle.krs_types.specs.{Kind.same_kind, declared.kind.Kind.TheVariants.Keyring}
 use Rattle.krs_model.specs.{Queues.place_cmp, Table.{at, put, Rises, Table, without}}
 use Rattle.krs_links.specs.{Seeded.digest, declared.seed.Seed.Seed}
 use Rattle.krs_keys.specs.declared.{key.Key.Key, sessions.Sessions.Sessions}
 
--- what the description of a keyring that JOIN made hashes to
+-- what the description of a keyring hashes to that JOIN made and that isn't revoked
 abbrev pub session_digest : Seed → Option Key → Option ℕ
 session_digest seed None = None
 session_digest seed (Some key) =
-    cond (same_kind key.name.kind Keyring && key.joined) (Some (digest seed key.name.desc)) None
+    cond (same_kind key.name.kind Keyring && (key.joined && not key.revoked)) (Some (digest seed key.name.desc)) None
 
 -- a key of this digest is listed under that one
 abbrev pub is_digest : ℕ → Option ℕ → Bool
@@ -21,7 +21,7 @@ is_digest d (Some e) = nat_eq e d
 abbrev pub lists : Sessions → ℕ → ℕ → Bool
 lists sessions d serial = list_any (is_at (place_cmp (d, serial))) sessions.rings.keys
 
--- just the keyrings that JOIN made are listed, each under its own digest
+-- just the keyrings that JOIN made and that aren't revoked are listed, each under its own digest
 abbrev pub AreSessions : Sessions → Table Key → Type 0
 AreSessions sessions keys =
     (d serial : ℕ) → lists sessions d serial ≡ is_digest d (session_digest sessions.seed (at keys serial))

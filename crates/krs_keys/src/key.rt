@@ -51,6 +51,17 @@ pub enum Change {
     Closed,
 }
 
+impl Change {
+    ghost use Rattle.krs_keys.specs.Changes.{revokes};
+
+    /// Whether it is the end of the key.
+    pub(crate) fn revokes(&self) -> bool
+        ensures { result ≡ revokes self.now }
+    {
+        matches!(self, Change::Revoked)
+    }
+}
+
 impl Key {
     /// Whether its time is over.
     pub fn is_over(&self, clock: u64) -> bool

@@ -272,8 +272,10 @@ impl KeyTable {
     pub fn set(&mut self, serial: Serial, change: Change)
         ensures { self.new ≡ record self.old { keys = alter self.old.keys serial (changed change) } }
     {
-        forget_taken(&self.keys, &mut self.linkers, serial.number(), &change);
-        self.keys.change(serial.number(), change);
+        let number = serial.number();
+        self.sessions.unlist_revoked(&self.keys, number, &change);
+        forget_taken(&self.keys, &mut self.linkers, number, &change);
+        self.keys.change(number, change);
     }
 
     /// Takes out the key at a serial, which no key gets again, and answers it.
