@@ -258,7 +258,8 @@ END_OF_TABLE
   gives 'a path of 107 bytes' "open success KEYRETAIN_SOCKET=/$long" one open show:KEYRETAIN_SOCKET
   says "5:name\\\\n/1$long\\\\n"
   gives 'a path of 108 bytes, which no address of a socket holds' "open success $none" one open "${show[@]}"
-  since=$SECONDS module=strict
+  since=$SECONDS
+  local module=strict
   service one "socket=$path"
   printf '#!/bin/sh\nwhile printf x; do sleep 0.3; done\n' >"$keeper"
   gives 'a keeper that says a byte now and then' "open success $none" one open "${show[@]}"
