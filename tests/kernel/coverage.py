@@ -17,12 +17,12 @@ ENTERING = {"HELLO", "THREAD", "FORK"}  # their limits are this service's own
 
 
 def possible():
-    """The outcomes of each ask, by its section in FORMAT.md."""
+    """The outcomes of each ask, by its entry in FORMAT.md."""
     page, found = text_of("docs/FORMAT.md"), {}
-    for name, text in re.findall(r"^### \d+ (\w+)\n(.*?)(?=^### |^## |\Z)", page, re.M | re.S):
+    for name, text in re.findall(r"^- \*\*\d+ (\w+)\*\*(.*?)(?=^- |\Z)", page, re.M | re.S):
         if name not in ASKS.values():
             continue
-        refusals = re.search(r"^- \*\*Refusals\*\*: (.*?)(?=\n- |\n\n|\Z)", text, re.M | re.S)
+        refusals = re.search(r"\*Refusals\*: (.*?)(?=\*\w+\*: |\Z)", text, re.S)
         said = " ".join(refusals[1].split()) if refusals and name not in ENTERING else ""
         said += " ".join(errors for step, errors in STEPS.items() if step in said.lower())
         found[name] = {"ok", *re.findall(r"\bE[A-Z]{3,}\b", said)} - OURS

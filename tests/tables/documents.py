@@ -31,19 +31,18 @@ def cells(text):
 
 def format_table():
     """The table of asks: number, name, whether it looks at the context, answer, growth."""
-    return [(int(number), re.match(r"\[(\w+)\]\(#(\w+)-(\w+)\)$", name), looks, answer, grows)
-            for number, name, looks, answer, grows, *_ in cells(section("## 6. ").split("\n### ")[0])[1:]]
+    return [(int(number), name, looks, answer, grows)
+            for number, name, looks, answer, grows, *_ in cells(section("## 6. "))[1:]]
 
 
 def format_section(number, name):
-    """The fields of an ask's body, and what is said of its answer. What has no such line has no fields or answer."""
-    text = section(f"### {number} {name}\n")
-    lines = re.findall(r"^- \*\*(\w+)\*\*: (.*?)(?=\n- |\n\n|\Z)", text, re.M | re.S)
-    said = {head: " ".join(words.split()) for head, words in lines}
-    body = re.sub(r"count `u32`, then that many groups `u32`", "`groups`", said.get("Body", ""))
+    """The fields of an ask's body, and what is said of its answer. What has no such words has no fields or answer."""
+    entry = re.search(rf"^- \*\*{number} {name}\*\*(.*?)(?=^- |\Z)", section("## 6. "), re.M | re.S)[1]
+    body, *parts = re.split(r"\*(Refusals|Answer|Effect)\*: ", " ".join(entry.split()))
+    body = re.sub(r"count `u32`, then that many groups `u32`", "`groups`", body)
     body = re.sub(r"count `u32`, then that many entries of 44 bytes", "`entries`", body)
     fields = " ".join(re.findall(r"`(id|u8|u32|i32|text|blob|groups|entries)`", body))
-    return fields, said.get("Answer", "nothing").removesuffix(".")
+    return fields, dict(zip(parts[::2], parts[1::2])).get("Answer", "nothing").strip(" .")
 
 
 def profile_table():
@@ -61,7 +60,7 @@ def listed_asks(text):
 
 def format_without_memory():
     """Those that never take memory, by the table of asks, and those that sometimes don't."""
-    always = {name[1] for _, name, _, _, grows in format_table() if grows == "no"}
+    always = {name for _, name, _, _, grows in format_table() if grows == "no"}
     return always, listed_asks(section("### Asks that take no memory").partition("nor do ")[2])
 
 

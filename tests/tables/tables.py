@@ -61,14 +61,13 @@ def try_definitions():
 def try_format():
     table = documents.format_table()
     compare("FORMAT, the table of asks", [(ask.number, ask.word, ask.answer, ask.grows) for ask in ASKS],
-            [(number, word_of(name[1]), documents.ANSWERS.get(answer, f"{answer}, which ANSWERS lacks"), grows)
+            [(number, word_of(name), documents.ANSWERS.get(answer, f"{answer}, which ANSWERS lacks"), grows)
              for number, name, _, answer, grows in table])
     for ask, (number, name, looks, answer, _) in zip(ASKS, table):
-        compare(f"FORMAT, the anchor of {name[1]}", (str(number), name[1].lower()), (name[2], name[3]))
-        compare(f"FORMAT, whether {name[1]} looks at the context", ask.looks, looks)
-        fields, said = documents.format_section(number, name[1])
-        compare(f"FORMAT, the body of {name[1]}", ask.fields, fields)
-        compare(f"FORMAT, the answer of {name[1]}", (ask.answer == "nothing", True),
+        compare(f"FORMAT, whether {name} looks at the context", ask.looks, looks)
+        fields, said = documents.format_section(number, name)
+        compare(f"FORMAT, the body of {name}", ask.fields, fields)
+        compare(f"FORMAT, the answer of {name}", (ask.answer == "nothing", True),
                 (said == "nothing", ask.answer == "bytes" or answer in said))
     compare_all("FORMAT, errors", rows.statuses(), documents.format_statuses())
 
@@ -140,8 +139,8 @@ def client_statuses():
 
 def try_client(name, found, statuses):
     """`found` has number, name, fields and answer of each ask. FORMAT.md has the names, and says what a serial is."""
-    table = {number: (matched[1], "serial" if answer == "serial" else documents.ANSWERS.get(answer))
-             for number, matched, _, answer, _ in documents.format_table()}
+    table = {number: (name, "serial" if answer == "serial" else documents.ANSWERS.get(answer))
+             for number, name, _, answer, _ in documents.format_table()}
     compare_all(name, by_number((ask.number, table[ask.number][0], ask.fields, table[ask.number][1])
                                 if ask.number in table else (ask.number,) for ask in ASKS), by_number(found))
     compare_all(f"{name}, errors", client_statuses(), statuses)
