@@ -414,7 +414,8 @@ RULES = {
         parts=True),
     "K19": Rule(
         "made on demand", makes_more, "*", "*",
-        "also by CLEAR, SETPERM, CHOWN, SET_TIMEOUT and as the key of LINK and MOVE", "ENOKEY",
+        "also by CLEAR, SETPERM, CHOWN, SET_TIMEOUT and as the key of LINK and MOVE",
+        "ENOKEY: made by GET_ID with creation, as a destination, and as the keyring into which ADD, LINK or MOVE links",
         "keyctl.c, KEY_LOOKUP_CREATE", "open", H + "clear @t", parts=True),
     "K33": Rule(
         "mask bits", wrong_mask, "EINVAL", "error", "EINVAL before the look-up", "EINVAL after it",
@@ -429,7 +430,8 @@ RULES = {
         "hello 3000000005 3000000007; id @t create; rdescribe @t"),
     "T1": Rule(
         "group of user keyrings", of_group, "*", "*",
-        "none: DESCRIBE tells 65534, and the group byte counts for nobody", "the gid of the uid's first context",
+        "none: DESCRIBE tells 65534, and the group byte counts for nobody",
+        "the gid of the uid's first context, whichever client's",
         "process_keys.c, look_up_user_keyrings", "open", H + "id @u; setperm @u 1f3f3f00; hello 1001 1000; print $1"),
     "F4": Rule(
         "known types", unknown_type, "*", "ENODEV",
@@ -484,7 +486,8 @@ RULES = {
     "K28": Rule(
         "late process keyring", later_process_ring, "*", "*",
         "older threads don't get it; a new thread gets a thread keyring where its maker has one",
-        "they share it; none", "process_keys.c, copy_creds", "Linux: process-keyring(7)",
+        "all contexts of the process share it; THREAD and FORK give none", "process_keys.c, copy_creds",
+        "Linux: process-keyring(7)",
         H + "thread; id @p create; context 2; id @p"),
     "U5": Rule(
         "user keyrings stay", spoilt, "ENOKEY", "*",
@@ -493,11 +496,13 @@ RULES = {
         H + "id @u; revoke @us; id @u"),
     "P2": Rule(
         "dead matches are displaced", revives, "*", "*", "ADD on an expired match updates and revives it",
-        "it makes a new key", "keyring.c, find_key_to_update", "manual: core.rst",
+        "a new key displaces it, as it does a revoked match and a keyring", "keyring.c, find_key_to_update",
+        "manual: core.rst",
         H + "add user k v @u; timeout $1 1; wait 1; add user k w @u"),
     "U2": Rule(
-        "possession of a match", updates, "*", "*", "ADD on a match asks WRITE of it with the keyring's possession",
-        "with its own", "keyring.c, find_key_to_update", "open", H + "join; add user k one @u; add user k two @u"),
+        "possession of a match", updates, "*", "*", "ADD on a match needs WRITE on it with the keyring's possession",
+        "with its own: a second ADD to -4 is EACCES in a session that doesn't link it",
+        "keyring.c, find_key_to_update", "open", H + "join; add user k one @u; add user k two @u"),
     "U7": Rule(
         "joining by name", any_ring_of_name, "*", "*",
         "JOIN takes any keyring of that name, also one that ADD made, a user keyring or an expired one",
@@ -517,15 +522,17 @@ RULES = {
         "Linux: keyctl(2)", H + "join; setperm @s 25000000; print @s"),
     "K27": Rule(
         "numbers of user keyrings aren't possessed", by_number, "*", "EACCES ENOKEY EKEYREVOKED EKEYEXPIRED",
-        "-4 and -5 are possessed for the call", "by levels alone", "process_keys.c, lookup_user_key", "open",
+        "-4 and -5 are possessed for the call, with what they link",
+        "by levels alone: where none has them the other bytes of their masks count",
+        "process_keys.c, lookup_user_key", "open",
         H + "join; setperm @u 1f000000; id @u"),
     "K26": Rule(
         "group byte counts alone", no_group_byte, "*", "*", "a group byte 00 falls back to the other byte",
         "it counts", "permission.c, key_task_permission", "Linux: keyrings(7)",
         H + "add user k v @u; setperm $1 3f3f003f; hello 1001 1000; rdescribe $1"),
     "K25": Rule(
-        "possession without rights", unsearchable, "*", "*", "a key without SEARCH isn't possessed", "it is",
-        "process_keys.c, lookup_user_key", "manual: keyrings(7)",
+        "possession without rights", unsearchable, "*", "*", "a key without SEARCH isn't possessed",
+        "it is, but the links of such a keyring don't count", "process_keys.c, lookup_user_key", "manual: keyrings(7)",
         H + "join; add user k v @s; setperm $2 37000000; rdescribe $2"),
     "K30": Rule(
         "nesting depth", nested, "*", "*", "ELOOP from 7 nested links on, and for deep cycles",
@@ -536,7 +543,8 @@ RULES = {
         "breadth-first by link order", "keyring.c, search_nested_keyrings", "Linux: keyrings(7)",
         H + "join" + BOTH_WAYS),
     "P1": Rule(
-        "expired keyrings are not followed", expired_ring, "*", "*", "its links are followed", "they aren't",
+        "expired keyrings are not followed", expired_ring, "*", "*", "its links are followed",
+        "they aren't, neither for possession nor in a search",
         "keyring.c, search_nested_keyrings", "open",
         H + "join; newring r @s; add user k v $2; timeout $2 1; wait 1; search @s user k"),
     "P3": Rule(
@@ -551,7 +559,8 @@ RULES = {
         H + "join; add user k v @s; timeout $2 1; wait 1; request user k"),
     "F2": Rule(
         "fault of a search", dead_in_search, "error", "error", "that of the match seen last",
-        "EKEYREVOKED before EKEYEXPIRED before EACCES", "keyring.c, keyring_search_iterator", "open",
+        "EKEYREVOKED before EKEYEXPIRED before EACCES, whatever the order of the matches",
+        "keyring.c, keyring_search_iterator", "open",
         H + "join; add user k v @s; revoke $2; newring r @s; add user k w $3; timeout $4 1; wait 1; search @s user k"),
 }
 

@@ -212,7 +212,7 @@ def try_bench():
 def try_types():
     """What is told of an unknown type, and how often a page counts the types up."""
     listed = re.compile(f"{', '.join(TYPES[:-1])} (?:and|or) {TYPES[-1]}")
-    for place, times in {"crates/krs_ctl/src/advice.rt": 1, "docs/FORMAT.md": 2, "docs/PROFILE.md": 2, "README.md": 1,
+    for place, times in {"crates/krs_ctl/src/advice.rt": 1, "docs/FORMAT.md": 2, "docs/PROFILE.md": 1, "README.md": 1,
                          "man/keyretain.1": 1, "man/keyretaind.8": 1, "man/keyretain-protocol.7": 1,
                          "man/keyretain-keyutils.7": 1, "man/keyretain-syscalls.7": 1}.items():
         plain = " ".join(re.sub(r"^\.Sq |`", "", rows.text_of(place), flags=re.M).split()).replace(" ,", ",")
@@ -220,10 +220,7 @@ def try_types():
 
 
 def try_profile():
-    lines, names = documents.profile_table()
-    compare("PROFILE, beside Linux", kernel_rules.table(), lines)
-    compare("rules beside Linux that PROFILE lacks", [],
-            [it.page for it in kernel_rules.RULES.values() if it.page not in names])
+    compare("PROFILE, beside Linux", kernel_rules.table(), documents.profile_table())
 
 
 # ---- What the proofs rest on
