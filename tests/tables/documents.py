@@ -158,10 +158,20 @@ def bench_operations():
             for word, *asks in rows}
 
 
-def costs_tables():
-    """The names in COSTS.md's table of instructions, and the operations in the newest results' table of nanoseconds."""
-    counted = text_of("docs/COSTS.md").split("\n## Instructions\n")[1]
-    first = cells(counted[counted.index("\n| Ask |"):].split("\n\n")[0])[1:]
+def results_section(name):
+    """The lines of a section of the newest results, without its head and its columns' names."""
     newest = max(os.listdir(f"{TOP}/bench/results"))
-    timed = text_of(f"bench/results/{newest}").split("\n[nanoseconds]\n")[1].split("\n\n")[0].splitlines()[1:]
-    return [row[0] for row in first], [line.split()[0] for line in timed]
+    text = text_of(f"bench/results/{newest}").split(f"\n[{name}]\n")[1].split("\n\n")[0]
+    return [it for it in text.splitlines() if not re.match(r"(commit|machine|command): ", it)][1:]
+
+
+def measured():
+    """The names of what instructions are counted of, and the operations that are timed."""
+    return ([re.split(r"  +", line)[0] for line in results_section("instructions")],
+            [line.split()[0] for line in results_section("nanoseconds")])
+
+
+def costs_asks():
+    """The names of the asks in COSTS.md's table."""
+    table = text_of("docs/COSTS.md").split("\n| Ask |")[1].split("\n\n")[0]
+    return sorted(name for row in cells(table) for name in row[0].split(", "))

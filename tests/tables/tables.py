@@ -197,16 +197,17 @@ def try_admission():
 
 def try_bench():
     operations = documents.bench_operations()
-    named, timed = documents.costs_tables()
+    named, timed = documents.measured()
     compare("bench/results, operations", sorted(operations), sorted(timed))
     counted = [(line, name) for lines in operations.values() for line, name in lines if name]
-    compare("COSTS, names of asks", [name for _, name in counted], named)
+    compare("bench/results, names of asks", [name for _, name in counted], named)
     asks = {command.word: command.ask for command in COMMANDS}
     for line, name in counted:
         compare(f"what `{line}` counts as {name}", asks.get(line.split(" ")[0]),
                 word_of(name.split(",")[0].split(" ")[0]))
     compare("asks that are counted", sorted(ask.word for ask in ASKS),
             sorted({word_of(name.split(",")[0].split(" ")[0]) for name in named}))
+    compare("COSTS, asks", sorted(ask.word for ask in ASKS), words_of(documents.costs_asks()))
 
 
 def try_types():
