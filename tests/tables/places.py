@@ -13,7 +13,8 @@ FILES = {"FORMAT": "docs/FORMAT.md", "vector": "docs/FORMAT.md", "keyretain-prot
          "the Python client, errors": "python/keyretain/errors.py", "the C client, errors": "c/common/frames.c",
          "the Python client": "python/keyretain/client.py", "the C client": "c/library/asks.c",
          "rows.c": "c/common/rows.c", "krs_admission.h": "c/supervisor/krs_admission.h",
-         "bench/results": "bench/results/0.1.0.txt", "COSTS": "docs/COSTS.md", "ASSURANCE": "docs/ASSURANCE.md"}
+         "bench/results": "bench/results/0.1.0.txt", "COSTS": "docs/COSTS.md",
+         "C-FUNCTIONS": "docs/printed/C-FUNCTIONS.md"}
 # Words that say nothing of the line.
 NOISE = {"errors", "wanted", "got", "None"}
 

@@ -232,7 +232,7 @@ def try_foreign():
     if reached is None:
         skipped("the C functions of the daemon: KEYRETAIN_AXIOMS isn't set, or no toolchain")
     else:
-        compare_all("ASSURANCE, the C functions that the daemon reaches", reached, foreign.listed())
+        compare_all("C-FUNCTIONS, those that the daemon reaches", reached, foreign.listed())
 
 
 def try_waiting():
