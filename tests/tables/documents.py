@@ -62,7 +62,7 @@ def format_without_memory():
 
 
 def format_statuses():
-    return {int(number): name for name, number in re.findall(r"^\| (E\w+) \| (\d+) \|", section("## 1. "), re.M)}
+    return {int(number): name for name, number in re.findall(r"\| (E\w+) \| (\d+) (?=\|)", section("## 1. "))}
 
 
 # ---- Manual pages

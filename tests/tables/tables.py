@@ -213,7 +213,7 @@ def try_bench():
 def try_types():
     """What is told of an unknown type, and how often a page counts the types up."""
     listed = re.compile(f"{', '.join(TYPES[:-1])} (?:and|or) {TYPES[-1]}")
-    for place, times in {"crates/krs_ctl/src/advice.rt": 1, "docs/FORMAT.md": 2, "docs/PROFILE.md": 1, "README.md": 1,
+    for place, times in {"crates/krs_ctl/src/advice.rt": 1, "docs/FORMAT.md": 1, "docs/PROFILE.md": 1, "README.md": 1,
                          "man/keyretain.1": 1, "man/keyretaind.8": 1, "man/keyretain-protocol.7": 1,
                          "man/keyretain-keyutils.7": 1, "man/keyretain-syscalls.7": 1}.items():
         plain = " ".join(re.sub(r"^\.Sq |`", "", rows.text_of(place), flags=re.M).split()).replace(" ,", ",")

@@ -1,11 +1,12 @@
-"""The frames that FORMAT.md and keyretain-protocol(7) spell, by the Python client and the C client, and each ask by
-both."""
+"""The frames that FORMAT.md, its printed page and keyretain-protocol(7) spell, by the Python client and the C client,
+and each ask by both."""
 import re
 import subprocess
 
 import keyretain
 import versions
 
+import bodies
 from documents import protocol_frames, section
 from places import compare
 
@@ -20,16 +21,10 @@ def words_in(text):
 
 
 def vectors():
-    """The frames of asks that the document spells: what, bytes."""
-    joined = []
-    for what, spelled in re.findall(r"^\| (.*?) \| (.*?) \|$", section("### Frame vectors"), re.M):
-        spelled = re.sub(r", then (\d+) bytes `00`", lambda zeros: "`" + "00" * int(zeros.group(1)) + "`", spelled)
-        spelled = re.sub(r"[^0-9a-f]", "", spelled)
-        if what.startswith("then "):
-            joined[-1] = (joined[-1][0], joined[-1][1] + spelled)
-        elif re.match(r"[A-Z_]{4,}\b", what):
-            joined.append((what, spelled))
-    return [(what, bytes.fromhex(spelled)) for what, spelled in joined]
+    """The frames of asks that are spelled: what, bytes."""
+    spelled = re.findall(r"^\| ([A-Z_]{3,}\b.*?) \| `(.*?)` \|$", section("### Frame vectors"), re.M)
+    spelled += [(ask, frame) for ask, _, frame in bodies.program("tools/frames").rows()]
+    return [(what, bytes.fromhex(frame)) for what, frame in spelled]
 
 
 def read_ask(whole):
@@ -78,7 +73,8 @@ def compare_clients(codec):
 def try_vectors(codec):
     """`codec` is None where the C client isn't there."""
     read = [(what, whole, read_ask(whole)) for what, whole in vectors()]
-    compare("more than fifteen vectors", True, len(read) > 15)
+    compare("vectors of all asks but two", sorted({*keyretain.ASKS} - {"DESCRIBE", "LEAVE"}),
+            sorted({what.split()[0] for what, *_ in read}))
     rows = re.findall(r"^\| .*? \| (`.*`) \|$", section("### Frame vectors"), re.M)
     spelled = {re.sub(r"[^0-9a-f]", "", row) for row in rows}
     for frame in protocol_frames():
