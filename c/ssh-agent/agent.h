@@ -95,8 +95,11 @@ bool put_signature(struct writer *writer, const struct key *key, struct bytes da
 bool is_guess(struct bytes message);
 
 /* Puts the answer to a message, with its length before it. `lifetime` is for keys added without one. False where it was
- * refused. */
+ * refused. A list leaves the connection open: who has asked for it signs next. */
 bool answer(struct bytes message, uint32_t lifetime, struct writer *reply);
+
+/* Before there are other processes: they then tell one another which keyring they have found. False without memory. */
+bool share_ring(void);
 
 /* Takes keys whose time is over out of the daemon's memory. */
 void sweep_ring(void);

@@ -1,6 +1,8 @@
 /* answer.c: see agent.h. Numbers and names are those of draft-ietf-sshm-ssh-agent. */
 #include <openssl/evp.h>
 #include <openssl/rand.h>
+#include <stdatomic.h>
+#include <sys/mman.h>
 
 #include "agent.h"
 #include "library/session.h"
@@ -19,6 +21,19 @@ static uint32_t context;
 static int32_t head, keyring;
 static unsigned char payload[PAYLOAD_MOST], made_lock[SALT_SIZE + HASH_SIZE]; /* the second is a lock */
 static int32_t entries[LINKS_MOST];
+static _Atomic uint64_t *known; /* by all processes: the keyring as it was found last, and behind it the daemon */
+
+bool share_ring(void) {
+    known = mmap(NULL, sizeof *known, PROT_READ | PROT_WRITE, MAP_SHARED | MAP_ANONYMOUS, -1, 0);
+    return known != MAP_FAILED;
+}
+
+/* The keyring and the daemon, as they are known. */
+static uint64_t knowledge(int32_t ring) {
+    int32_t process;
+    kr_peer(connection, NULL, NULL, &process);
+    return (uint64_t)ring << 32 | (uint32_t)process;
+}
 
 /* How many links a keyring has, and which; -1 with errno. */
 static int64_t read_ring(int32_t ring) {
@@ -36,7 +51,6 @@ static int32_t find_ring(void) {
     return all >= 0 || kr_found_none() ? 0 : -1;
 }
 
-/* Connects, and enters the session. */
 static bool open_context(void) {
     struct kr_identity identity;
     close_ring();
@@ -44,15 +58,28 @@ static bool open_context(void) {
     connection = kr_open_with(NULL, 0, PATIENCE_MILLISECONDS);
     int64_t made = connection ? kr_hello_as(connection, &identity) : -1;
     context = (uint32_t)made;
-    int entered = made < 0 ? -1 : kr_enter_session(connection, context, NULL);
-    head = entered > 0 ? KEY_SPEC_SESSION_KEYRING : KEY_SPEC_USER_KEYRING;
-    return entered >= 0;
+    return made >= 0;
 }
 
-/* False where the daemon doesn't tell. */
-static bool has_looked(void) { return (keyring = find_ring()) >= 0; }
+/* The same by few asks: the keyring that an earlier message's process has found. As long as that daemon runs no other
+ * key has its serial, and no other session's keyring that of the session. */
+static bool open_known_ring(void) {
+    struct kr_session session;
+    const char *text = getenv(KR_SESSION_VARIABLE);
+    uint64_t last = atomic_load(known);
+    keyring = (int32_t)(last >> 32);
+    if (keyring <= 0 || !open_context() || knowledge(keyring) != last) return false;
+    if (!text || !kr_parse_session(&session, text)) return true;
+    return session.serial > 0 && kr_join(connection, context, session.name) == session.serial;
+}
 
-int open_ring(void) { return open_context() && has_looked() ? kr_descriptor(connection) : -1; }
+int open_ring(void) {
+    int entered = open_context() ? kr_enter_session(connection, context, NULL) : -1;
+    head = entered > 0 ? KEY_SPEC_SESSION_KEYRING : KEY_SPEC_USER_KEYRING;
+    if (entered < 0 || (keyring = find_ring()) < 0) return -1; /* or the daemon doesn't tell */
+    atomic_store(known, knowledge(keyring));
+    return kr_descriptor(connection);
+}
 
 /* What was read stays. */
 static void close_connection(void) {
@@ -60,9 +87,13 @@ static void close_connection(void) {
     connection = NULL;
 }
 
-void close_ring(void) {
+static void wipe(void) {
     OPENSSL_cleanse(payload, sizeof payload);
     OPENSSL_cleanse(made_lock, sizeof made_lock);
+}
+
+void close_ring(void) {
+    wipe();
     close_connection();
 }
 
@@ -75,6 +106,7 @@ static bool have_ring(void) {
     if (!is_first && errno != EEXIST) return false;
     keyring = is_first ? made : find_ring();
     if (keyring == 0 && kr_link(connection, context, made, head) == 0) keyring = made; /* another user's was there */
+    if (keyring > 0) atomic_store(known, knowledge(keyring));
     return keyring > 0;
 }
 
@@ -174,16 +206,10 @@ static bool find_key(struct bytes public_key, struct key *key) {
     return read_added(read_entry(find_entry(name_of(public_key))), key);
 }
 
-/* The same by few asks: what the user keyring reaches has no lock, and the user's own key of this name. A session
- * reaches the user keyring's keys beside its own. Where it is otherwise the keyring is looked for first. */
-static bool find_at_once(struct bytes public_key, struct key *key) {
-    if (head != KEY_SPEC_USER_KEYRING) return false;
-    if (kr_search(connection, context, head, "user", lock_name, 0) >= 0 || errno != ENOKEY) return false;
-    return read_added(read_entry(kr_find_own(connection, context, head, "user", name_of(public_key))), key);
-}
-
+/* First by what a list has left open. */
 static bool find_unlocked(struct bytes public_key, struct key *key) {
-    return find_at_once(public_key, key) || (has_looked() && !is_locked() && find_key(public_key, key));
+    return ((connection || open_known_ring()) && !is_locked() && find_key(public_key, key)) ||
+           (open_ring() >= 0 && !is_locked() && find_key(public_key, key));
 }
 
 /* Whether the program of SSH_ASKPASS says yes, or nothing. Meanwhile neither a key nor a connection is held. */
@@ -247,7 +273,7 @@ static bool carry_out(struct bytes message, uint32_t lifetime, struct writer *re
     struct bytes asked = message;
     uint32_t kind = take_number(&asked, BYTE);
     if (kind == SIGN_REQUEST) return sign(asked, reply);
-    if (!has_looked()) return false;
+    if (open_ring() < 0) return false;
     if (kind == UNLOCK) return turn_lock(true, take_string(&asked));
     if (kind == REQUEST_IDENTITIES) return put_identities(reply), true;
     if (is_locked()) return false;
@@ -261,8 +287,9 @@ bool is_guess(struct bytes message) { return take_number(&message, BYTE) == UNLO
 
 bool answer(struct bytes message, uint32_t lifetime, struct writer *reply) {
     put_number(reply, 0, NUMBER);
-    bool is_done = open_context() && carry_out(message, lifetime, reply) && !reply->is_bad;
-    close_ring();
+    bool is_done = carry_out(message, lifetime, reply) && !reply->is_bad;
+    if (is_done && *message.at == REQUEST_IDENTITIES) wipe();
+    else close_ring();
     if (!is_done) *reply = (struct writer){ .at = reply->at, .length = NUMBER, .room = reply->room };
     if (reply->length == NUMBER) put_number(reply, is_done ? SUCCESS : FAILURE, BYTE);
     set_number(reply, 0, reply->length - NUMBER);

@@ -10,7 +10,7 @@
 #include "library/session.h"
 
 enum { ENTRIES = 8, NAME_ROOM = 80, RING = 3, FIRST = 4, PAYLOAD_MOST = 32767, CONTEXT = 7 };
-enum { SUCCESS = 6, FAILURE = 5, IDENTITIES_ANSWER = 12, SIGN_RESPONSE = 14 };
+enum { SUCCESS = 6, FAILURE = 5, REQUEST_IDENTITIES = 11, IDENTITIES_ANSWER, SIGN_RESPONSE = 14 };
 
 static struct entry {
     char name[NAME_ROOM];
@@ -50,6 +50,17 @@ int kr_enter_session(struct kr *connection, uint32_t context, const char *sessio
     return session != NULL;
 }
 
+void kr_peer(const struct kr *connection, uint32_t *uid, uint32_t *gid, int32_t *pid) {
+    if (connection != (const struct kr *)entries || uid || gid) abort();
+    *pid = 1;
+}
+
+/* No session is named here. */
+bool kr_parse_session(struct kr_session *session, const char *text) { return (void)session, (void)text, false; }
+int32_t kr_join(struct kr *connection, uint32_t context, const char *name) {
+    return (void)connection, (void)context, (void)name, -1;
+}
+
 static struct entry *entry_of(int32_t serial) {
     if (serial < FIRST || serial >= FIRST + ENTRIES) abort();
     return &entries[serial - FIRST];
@@ -63,8 +74,7 @@ static void let_go(struct entry *entry) {
 int32_t kr_search(struct kr *connection, uint32_t context, int32_t ring, const char *type, const char *name,
                   int32_t destination) {
     check(connection, context);
-    bool is_head = ring == KEY_SPEC_USER_KEYRING;
-    if (destination || strcmp(type, "user") != 0 || (ring != RING && !is_head)) abort();
+    if (destination || strcmp(type, "user") != 0 || ring != RING) abort();
     for (int i = 0; i < ENTRIES; i++)
         if (entries[i].payload && strcmp(entries[i].name, name) == 0) return FIRST + i;
     errno = ENOKEY;
@@ -73,7 +83,6 @@ int32_t kr_search(struct kr *connection, uint32_t context, int32_t ring, const c
 
 int32_t kr_find_own(struct kr *connection, uint32_t context, int32_t ring, const char *type, const char *name) {
     check(connection, context);
-    if (strcmp(type, "user") == 0) return kr_search(connection, context, ring, type, name, 0);
     if (ring == RING || strcmp(type, "keyring") != 0 || strcmp(name, "ssh-agent") != 0) abort();
     errno = ENOKEY;
     return has_ring ? RING : -1;
@@ -190,7 +199,9 @@ static void check_reply(struct bytes reply) {
 
 int LLVMFuzzerTestOneInput(const uint8_t *data, size_t size) {
     static unsigned char replied[NUMBER + MESSAGE_MOST];
+    static bool is_shared;
     struct bytes input = { data, size };
+    is_shared = is_shared || share_ring();
     while (input.at && input.length) {
         struct bytes message = take_string(&input);
         if (!message.length) continue; /* the agent has none that is empty */
@@ -199,11 +210,13 @@ int LLVMFuzzerTestOneInput(const uint8_t *data, size_t size) {
         memcpy(exact, message.at, message.length);
         answer((struct bytes){ exact, message.length }, 0, &reply);
         check_reply((struct bytes){ reply.at, reply.length });
-        if (is_open || reply.is_bad) abort();
+        if (is_open != (*exact == REQUEST_IDENTITIES && replied[NUMBER] == IDENTITIES_ANSWER)) abort();
+        if (reply.is_bad) abort();
         free(exact);
     }
     for (int i = 0; i < ENTRIES; i++) let_go(&entries[i]);
     let_go(&made);
     has_ring = false;
+    close_ring();
     return 0;
 }

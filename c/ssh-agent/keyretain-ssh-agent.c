@@ -1,7 +1,8 @@
 /* keyretain-ssh-agent: the protocol of ssh-agent(1) over keyretaind(8). See keyretain-ssh-agent(1).
  *
- * One process listens, and forks one for each client, which ends with its connection. Nothing is kept between two
- * messages: each message opens a connection to keyretaind, and private keys are wiped once they have signed. */
+ * One process listens, and forks one for each client, which ends with its connection. No key is kept between two
+ * messages: each opens a connection to keyretaind, or goes on with that of the list just before it, and private keys
+ * are wiped once they have signed. */
 #include "library/session.h"
 
 #include <err.h>
@@ -13,7 +14,7 @@
 
 /* A client may say nothing for as long as a server gives a login (LoginGraceTime in sshd_config(5)). */
 enum { CLIENTS_MOST = 256, IDLE_SECONDS = 120, STALL_SECONDS = 10, SWEEP_SECONDS = 60, MILLISECONDS = 1000,
-       TURN_MILLISECONDS = 100 };
+       TURN_MILLISECONDS = 100, SOON_MILLISECONDS = 1000 };
 enum { USAGE = 2, DECIMAL = 10 };
 enum { NOT_HELD = -1, NEVER_HELD = -2 };
 
@@ -48,6 +49,7 @@ static bool serve_message(int client) {
     struct writer reply = { .at = replied, .room = sizeof replied };
     struct bytes head = { message, NUMBER };
     alarm(IDLE_SECONDS);
+    if (poll(&(struct pollfd){ .fd = client, .events = POLLIN }, 1, SOON_MILLISECONDS) == 0) close_ring();
     if (recv(client, message, NUMBER, MSG_PEEK) <= 0) return false;
     alarm(STALL_SECONDS);
     if (recv(client, message, NUMBER, MSG_WAITALL) != NUMBER) return false;
@@ -228,7 +230,7 @@ int main(int count, char **words) {
     if (listener >= 0) path = NULL, refuse_descriptors(listener), look_for_daemon();
     else listener = begin_listening();
     if (prctl(PR_SET_DUMPABLE, 0) < 0 || setrlimit(RLIMIT_CORE, &(struct rlimit){ 0, 0 }) < 0) err(1, "core files");
-    if ((turns = memfd_create("turns", MFD_CLOEXEC)) < 0) err(1, "turns");
+    if ((turns = memfd_create("turns", MFD_CLOEXEC)) < 0 || !share_ring()) err(1, "memory");
     listening = getpid();
     set_signals();
     forget_variables();
