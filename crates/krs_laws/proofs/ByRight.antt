@@ -1,17 +1,17 @@
 -- Each accepted ask changes keys by right, and so does each step.
 use Rattle.std.proofs.Common.{[], ⊎_elim, ◌&&◌, ◌+◌, ◌==◌, ◌||◌, ◌∙◌, ◌∷◌, ◌≡◌, ◌⊎◌, ap, arith, Bool, codes, cond}
-use Rattle.std.proofs.Common.{Err, false, filter, inl, inr, IsSome, length, List, nat_lt, None, Ok, Option}
+use Rattle.std.proofs.Common.{Err, false, filter, inl, inr, IsSome, length, List, min, nat_lt, None, Ok, Option}
 use Rattle.std.proofs.Common.{option_map, refl, Result, Some, subst, sym, true, true≢false, ℕ, ℤ}
 use Rattle.std.proofs.lemmas.Option.{none-some, same_Some}
 use Rattle.krs_types.specs.{Caller.is_of_group, declared.ask.{Answer.Answer, Op.{Op, TheVariants.{Add, Chown}}}}
 use Rattle.krs_types.specs.declared.ask.Op.TheVariants.{Clear, GetId, Hello, Invalidate, Join, Link, Move, Request}
-use Rattle.krs_types.specs.declared.ask.Op.TheVariants.{Search, SetPerm}
+use Rattle.krs_types.specs.declared.ask.Op.TheVariants.{RestrictKeyring, Revoke, Search, SetPerm, SetTimeout}
 use Rattle.krs_types.specs.declared.{caller.Caller.Caller, context.{Context.Context, UidRings.UidRings}}
 use Rattle.krs_types.specs.declared.{errno.Errno.{Errno, TheVariants.{EACCES, EINVAL}}, event.Event.Event}
 use Rattle.krs_types.specs.{declared.rights.Want.TheVariants.{Either, Granted}, Growth.has_destination, Perm.perm_of}
 use Rattle.krs_types.specs.Rights.{LINK, SEARCH, SETATTR, WRITE}
 use Rattle.krs_model.specs.Asks.{Adding.{add, admitted, place_of}, Changing.{chown, emptied, if_may_own, if_owner}}
-use Rattle.krs_model.specs.Asks.Changing.{may_own, or_left, revoked, set_perm, with_expiry, with_owner, with_perm}
+use Rattle.krs_model.specs.Asks.Changing.{expiry_after, may_own, or_left, revoked, set_perm, with_expiry, with_owner, with_perm}
 use Rattle.krs_model.specs.Asks.{Finding.{made_where, request, search_from, sought_name}, Hello.{uid_ring, with_uid}}
 use Rattle.krs_model.specs.{Asks.Invalidating.invalidate, Revocation.Names}
 use Rattle.krs_model.specs.Asks.{Joining.{session_joined, session_ring}, Linked.{clear, cleared_content, link}}
@@ -22,7 +22,7 @@ use Rattle.krs_model.specs.{State.{Key, Links, Payload, raised, State}, Step.{ea
 use Rattle.krs_model.specs.{Sweep.{Attached, IsHeld, Linked, PicksHeld, roots}, Table.{at, map_values, put, Table}}
 use Rattle.krs_model.proofs.Asks.{Fares.meets_by, LaterByAsk.moved_is, Laws.law_of, Outcomes.{Meets, meets_after}}
 use Rattle.krs_model.proofs.{Asks.Outcomes.{meets_ok, meets_within}, Isolation.{Births.made_own, Keys.kept_links}}
-use Rattle.krs_model.proofs.{Lookups.{Laws.look_up_usable, Serials.{found_serial, own_there}}}
+use Rattle.krs_model.proofs.{Lookups.{Laws.look_up_usable, Serials.{own_there}}}
 use Rattle.krs_model.proofs.{MadeKeyring.State.HasMadeFor}
 use Rattle.krs_model.proofs.{MadeKeyring.State.{made_for_has, MadeNone, MadeOne}, Reach.Levels.{equal_is, only_in}}
 use Rattle.krs_model.proofs.{Reach.Levels.true_or, Sound.Changes.{LinksTo, not_there, Stands}}
@@ -30,11 +30,14 @@ use Rattle.krs_model.proofs.Sound.{KeyChanges.unlinked_lessens, NewContexts.{own
 use Rattle.krs_model.proofs.{Sound.Steps.{legal_sound, raised_sound, sound_stands}, Tables.Changes.{at_kept, at_map}}
 use Rattle.krs_model.proofs.Tables.{Counts.part_in, Each.{kept_is, mapped_is}}
 use Rattle.krs_laws.specs.Integrity.{AllChangesAreByRight, AsksAs, ChangesByRight, Emptied, HasRight, IsByRight}
-use Rattle.krs_laws.specs.Integrity.{IsMadeBy, Kept, Unlinked}
-use Rattle.krs_laws.proofs.{KeyLimits.both, Rightly.{linkable_made, right_found, right_made, Rightly}}
-use Rattle.krs_laws.proofs.Rightly.{rightly_changed, rightly_put, rightly_same, rightly_written}
-use Rattle.krs_laws.proofs.RightlyAsked.{added_rightly, found_rightly, linked_rightly, links_nothing, made_rightly}
-use Rattle.krs_laws.proofs.RightlyAsked.{moved_rightly, ring_made, unlinked_rightly, updated_then}
+use Rattle.krs_laws.specs.Integrity.{IsAsked, IsMadeBy, IsOverIn, Kept, Unlinked}
+use Rattle.krs_laws.proofs.{KeyLimits.both, Rightly.{linkable_made, names_found, right_found, Rightly}}
+use Rattle.krs_laws.proofs.Rightly.{rightly_changed, rightly_put, rightly_same, rightly_written, written_found}
+use Rattle.krs_laws.proofs.Rightly.{written_made}
+use Rattle.krs_laws.proofs.RightlyAsked.{added_rightly, found_alive, found_rightly, linked_rightly, links_nothing}
+use Rattle.krs_laws.proofs.RightlyAsked.{made_rightly, moved_rightly, requested_alive, ring_made, unlinked_rightly}
+use Rattle.krs_laws.proofs.RightlyAsked.{updated_then}
+use Rattle.std.proofs.lemmas.Grind.{common_steps}
 
 -- by right, where the store stands
 abbrev ByRight : State → ℕ → ℕ → Op → State → Type 0
@@ -135,11 +138,13 @@ owner_is caller key x h =
     ] refl h
 
 -- uid 0, or a context that leaves the uid, and the gid or gives one of its own
+abbrev KeepsOwner : Caller → ℕ → ℕ → Key → Type 0
+KeepsOwner caller uid gid key =
+    (or_left uid key.uid ≡ key.uid)
+    × ((or_left gid key.gid ≡ key.gid) ⊎ (is_of_group caller (or_left gid key.gid) ≡ true))
+
 abbrev OwnsSo : Caller → ℕ → ℕ → Key → Type 0
-OwnsSo caller uid gid key =
-    (caller.uid ≡ 0)
-    ⊎ ((or_left uid key.uid ≡ key.uid) × ((or_left gid key.gid ≡ key.gid)
-    ⊎ (is_of_group caller (or_left gid key.gid) ≡ true)))
+OwnsSo caller uid gid key = (caller.uid ≡ 0) ⊎ KeepsOwner caller uid gid key
 
 left_or_own :
     (caller : Caller) (gid there : ℕ) → ((or_left gid there == there) || is_of_group caller gid) ≡ true
@@ -172,45 +177,90 @@ may_own_is caller uid gid key x h =
       | false ↦ λ t e. cc
     ] refl h
 
-abbrev GivenSo : State → ℕ → ℕ → ℕ → ℕ → Key → Type 0
-GivenSo s client context n gid v =
-    (or_left gid v.gid ≡ v.gid)
-    ⊎ ((given : HasRight s client context (Granted SETATTR) n)
-    × ((given.whose.caller.uid ≡ 0) ⊎ (is_of_group given.whose.caller (or_left gid v.gid) ≡ true)))
+left_or_asked : (asked there : ℕ) → (or_left asked there ≡ there) ⊎ (or_left asked there ≡ asked)
+left_or_asked asked there =
+    elim (asked == 4294967295) as (λ b. (cond b there asked ≡ there) ⊎ (cond b there asked ≡ asked)) [
+      | true ↦ inl refl
+      | false ↦ inr refl
+    ]
+
+abbrev GivenTo : State → ℕ → ℕ → Op → ℕ → ℕ → ℕ → ℕ → Type 0
+GivenTo s client context op n before after gid =
+    (after ≡ before)
+    ⊎ ((right : HasRight s client context (Granted SETATTR) n) × (right.whose.caller.uid ≡ 0)
+    × ((given : ℕ) × IsAsked s client context op (λ id. Chown id after given) n))
+
+abbrev GivenGroup : State → ℕ → ℕ → Op → ℕ → ℕ → ℕ → ℕ → Type 0
+GivenGroup s client context op n before uid after =
+    (after ≡ before)
+    ⊎ ((right : HasRight s client context (Granted SETATTR) n)
+    × ((right.whose.caller.uid ≡ 0) ⊎ (is_of_group right.whose.caller after ≡ true))
+    × ((given : ℕ) × IsAsked s client context op (λ id. Chown id given after) n))
 
 given_by_right :
-    (s : State) (client context : ℕ) (op : Op) (n uid gid : ℕ) (v : Key)
-    (right : HasRight s client context (Granted SETATTR) n)
-    → OwnsSo right.whose.caller uid gid v → IsByRight s client context op n v (with_owner uid gid v)
-given_by_right s client context op n uid gid v right (inl root) =
-    let so : GivenSo s client context n gid v = inr (right, inl root) in search (Kept, inl, inr)
-given_by_right s client context op n uid gid v right (inr kept) =
-    let so : GivenSo s client context n gid v =
-    ⊎_elim (λ (e : or_left gid v.gid ≡ v.gid). inl e)
-    (λ (member : is_of_group right.whose.caller (or_left gid v.gid) ≡ true). inr (right, inr member)) kept.1 in
-    search (Kept, inl, inr)
+    (s : State) (client context : ℕ) (id : ℤ) (n uid gid : ℕ) (v : Key)
+    (right : HasRight s client context (Granted SETATTR) n) → Names s client context id n
+    → OwnsSo right.whose.caller uid gid v → IsByRight s client context (Chown id uid gid) n v (with_owner uid gid v)
+given_by_right s client context id n uid gid v right names owns =
+    let op = Chown id uid gid in
+    let owner : GivenTo s client context op n v.uid (or_left uid v.uid) gid =
+    ⊎_elim (λ (left : or_left uid v.uid ≡ v.uid). inl left)
+    (λ (is : or_left uid v.uid ≡ uid). ⊎_elim (λ (root : right.whose.caller.uid ≡ 0).
+    inr (right, root, (gid, (id, ap (λ (u : ℕ). Chown id u gid) (sym is), names))))
+    (λ (kept : KeepsOwner right.whose.caller uid gid v). inl kept.0) owns) (left_or_asked uid v.uid) in
+    let group : GivenGroup s client context op n v.gid uid (or_left gid v.gid) =
+    ⊎_elim (λ (left : or_left gid v.gid ≡ v.gid). inl left)
+    (λ (is : or_left gid v.gid ≡ gid).
+    let asked : IsAsked s client context op (λ i. Chown i uid (or_left gid v.gid)) n =
+    (id, ap (λ (g : ℕ). Chown id uid g) (sym is), names) in
+    ⊎_elim (λ (root : right.whose.caller.uid ≡ 0). inr (right, inl root, (uid, asked)))
+    (λ (kept : KeepsOwner right.whose.caller uid gid v). ⊎_elim (λ (left : or_left gid v.gid ≡ v.gid). inl left)
+    (λ (member : is_of_group right.whose.caller (or_left gid v.gid) ≡ true). inr (right, inr member, (uid, asked)))
+    kept.1) owns) (left_or_asked gid v.gid) in
+    search (Kept, inl)
 
 masked_by_right :
-    (s : State) (client context : ℕ) (op : Op) (n perm : ℕ) (v : Key)
-    (right : HasRight s client context (Granted SETATTR) n)
+    (s : State) (client context : ℕ) (id : ℤ) (n mask : ℕ) (v : Key)
+    (right : HasRight s client context (Granted SETATTR) n) → Names s client context id n
     → (right.whose.caller.uid ≡ 0) ⊎ (right.whose.caller.uid ≡ v.uid)
-    → IsByRight s client context op n v (with_perm perm v)
-masked_by_right s client context op n perm v right own = search (Kept, inl, inr)
+    → IsByRight s client context (SetPerm id mask) n v (with_perm mask v)
+masked_by_right s client context id n mask v right names own =
+    let asked : IsAsked s client context (SetPerm id mask) (λ i. SetPerm i mask) n = (id, refl, names) in
+    search (Kept, inl, inr)
+
+over_in : (clock seconds : ℕ) → IsOverIn clock seconds (expiry_after clock seconds)
+over_in clock seconds =
+    elim (seconds == 0) as (λ b. (seconds == 0) ≡ b
+    → IsOverIn clock seconds (cond b None (Some (min (clock + seconds) 18446744073709551615)))) [
+      | true ↦ λ t. inl (equal_is seconds 0 t, refl)
+      | false ↦ λ t. inr (λ e. true≢false (sym (ap (λ (n : ℕ). n == 0) e) ∙ t), refl)
+    ] refl
 
 timed_by_right :
-    (s : State) (client context : ℕ) (op : Op) (n : ℕ) (expiry : Option ℕ) (v : Key)
-    → HasRight s client context (Granted SETATTR) n → IsByRight s client context op n v (with_expiry expiry v)
-timed_by_right s client context op n expiry v right = search (Kept, inl, inr)
+    (s : State) (client context : ℕ) (id : ℤ) (n seconds : ℕ) (v : Key)
+    → HasRight s client context (Granted SETATTR) n → Names s client context id n
+    → IsByRight s client context (SetTimeout id seconds) n v (with_expiry (expiry_after s.clock seconds) v)
+timed_by_right s client context id n seconds v right names =
+    let asked : IsAsked s client context (SetTimeout id seconds) (λ i. SetTimeout i seconds) n = (id, refl, names) in
+    let over = over_in s.clock seconds in
+    search (Kept, inl, inr)
 
 revoked_by_right :
-    (s : State) (client context : ℕ) (op : Op) (n : ℕ) (v : Key) → HasRight s client context (Either WRITE SETATTR) n
-    → IsByRight s client context op n v (revoked v)
-revoked_by_right s client context op n v right = search (Emptied, inl, inr)
+    (s : State) (client context : ℕ) (id : ℤ) (n : ℕ) (v : Key) → HasRight s client context (Either WRITE SETATTR) n
+    → Names s client context id n → IsByRight s client context (Revoke id) n v (revoked v)
+revoked_by_right s client context id n v right names =
+    let asked : IsAsked s client context (Revoke id) Revoke n = (id, refl, names) in
+    search (Emptied, inl, inr)
 
 closed_by_right :
-    (s : State) (client context : ℕ) (op : Op) (n : ℕ) (v : Key) → HasRight s client context (Granted SETATTR) n
-    → IsByRight s client context op n v (closed_for_good v)
-closed_by_right s client context op n v right = search (Kept, inl, inr)
+    (s : State) (client context : ℕ) (id : ℤ) (type_name : List ℕ) (n : ℕ) (v : Key)
+    → HasRight s client context (Granted SETATTR) n → Names s client context id n
+    → IsByRight s client context (RestrictKeyring id type_name) n v (closed_for_good v)
+closed_by_right s client context id type_name n v right names =
+    let op = RestrictKeyring id type_name in
+    let asked : (t : List ℕ) × IsAsked s client context op (λ i. RestrictKeyring i t) n =
+    (type_name, (id, refl, names)) in
+    search (Kept, inl, inr)
 
 unlinked_by_right :
     (s : State) (client context : ℕ) (id : ℤ) (n gone : ℕ) (v : Key) → Names s client context id gone
@@ -253,26 +303,33 @@ chown_rightly s client context id uid gid =
     meets_after (look_up s c id (Granted SETATTR)) _ (λ there is.
     meets_after (if_may_own c.caller uid gid there.1) _ (λ x allowed.
     meets_ok (rightly_changed s client context _ there.0 (with_owner uid gid)
-    (λ v here. given_by_right s client context _ there.0 uid gid v
+    (λ v here. given_by_right s client context id there.0 uid gid v
     (right_found s client context c id (Granted SETATTR) there own is)
+    (names_found s client context c id (Granted SETATTR) there own is)
     (subst (OwnsSo c.caller uid gid)
     (same_Some there.1 v (sym (look_up_usable s c id (Granted SETATTR) there is).there ∙ here))
     (may_own_is c.caller uid gid there.1 x allowed)))
     (λ j v i. i)))))
+
+mask_is : (mask perm : ℕ) → perm_of mask ≡ Ok perm → mask ≡ perm
+mask_is mask perm h = grind (arith, common_steps)
 
 set_perm_rightly : (s : State) (client context : ℕ) (id : ℤ) (mask : ℕ) → Comes s client context (SetPerm id mask)
 unfolding set_perm
 set_perm_rightly s client context id mask =
     meets_after (context_of s client context) _ (λ c own.
     meets_after (look_up s c id (Granted SETATTR)) _ (λ there is.
-    meets_after (perm_of mask) _ (λ perm _.
+    meets_after (perm_of mask) _ (λ perm fit.
     meets_after (if_owner c.caller there.1) _ (λ x allowed.
     meets_ok (rightly_changed s client context _ there.0 (with_perm perm)
-    (λ v here. masked_by_right s client context _ there.0 perm v
+    (λ v here. subst (λ (m : ℕ). IsByRight s client context (SetPerm id mask) there.0 v (with_perm m v))
+    (mask_is mask perm fit)
+    (masked_by_right s client context id there.0 mask v
     (right_found s client context c id (Granted SETATTR) there own is)
+    (names_found s client context c id (Granted SETATTR) there own is)
     (subst (λ (z : Key). (c.caller.uid ≡ 0) ⊎ (c.caller.uid ≡ z.uid))
     (same_Some there.1 v (sym (look_up_usable s c id (Granted SETATTR) there is).there ∙ here))
-    (owner_is c.caller there.1 x allowed)))
+    (owner_is c.caller there.1 x allowed))))
     (λ j v i. i))))))
 
 clear_rightly : (s : State) (client context : ℕ) (id : ℤ) → Comes s client context (Clear id)
@@ -282,7 +339,7 @@ clear_rightly s client context id =
     meets_after (look_up s c id (Granted WRITE)) _ (λ there is.
     meets_after (ring_links there.1.content) _ (λ links _.
     meets_ok (rightly_written s client context _ s.keys there.0 cleared_content
-    (λ old _. right_found s client context c id (Granted WRITE) there own is)
+    (λ old _. written_found s client context _ c id there own refl is)
     (λ k v i. inl (cleared_links v.content k i)) (rightly_same s client context _)))))
 
 invalidate_rightly : (s : State) (client context : ℕ) (id : ℤ) → Comes s client context (Invalidate id)
@@ -290,11 +347,7 @@ unfolding invalidate
 invalidate_rightly s client context id =
     meets_after (context_of s client context) _ (λ c own.
     meets_after (look_up s c id (Granted SEARCH)) _ (λ there is.
-    let names : Names s client context id there.0 = record {
-      whose = c;
-      own = own;
-      named = found_serial s c id (Granted SEARCH) there is;
-    } in
+    let names = names_found s client context c id (Granted SEARCH) there own is in
     meets_ok (detached_rightly s client context id there.0 names
     (right_found s client context c id (Granted SEARCH) there own is))))
 
@@ -309,11 +362,10 @@ link_rightly s client context key ring stands =
     meets_after (look_up made.0 made.1 ring (Granted WRITE)) _ (λ into goes.
     meets_after (look_up made.0 made.1 key (Granted LINK)) _ (λ there is.
     meets_after (linked_into made.0 into there) _ (λ new linked.
-    let usable = look_up_usable made.0 made.1 key (Granted LINK) there is in
     meets_ok (linked_rightly s made.0 new client context _ into there
-    (λ old before. right_made s client context c ring made (Granted WRITE) into old own has none before
-    (look_up_usable made.0 made.1 ring (Granted WRITE) into goes))
-    (linkable_made s client context c ring made there.0 there.1 own has none usable.there usable.granted) linked
+    (λ old before. written_made s client context _ c ring made into old own has none refl goes before)
+    (linkable_made s client context c ring made there own has none
+    (look_up_usable made.0 made.1 key (Granted LINK) there is)) linked
     (made_rightly s client context _ c ring none (c, own, refl))))))))
 
 move_rightly :
@@ -328,15 +380,13 @@ move_rightly s client context key from to flags stands =
     let made = made_for s context c to in
     let has = has_made s client context c to stands own in
     let none = next_none s stands in
-    let usable = look_up_usable s c key (Granted LINK) there is in
     meets_within s _ (
     meets_after (look_up made.0 made.1 to (Granted WRITE)) _ (λ into goes.
     meets_after (moved made.0 (flags == 1) there first into) _ (λ new moves.
     meets_ok (moved_rightly s made.0 client context _ there first into new
-    (λ old before. right_made s client context c to made (Granted WRITE) into old own has none before
-    (look_up_usable made.0 made.1 to (Granted WRITE) into goes))
-    (λ old before. right_found s client context c from (Granted WRITE) first own out)
-    (inr (record { whose = c; own = own; key = there.1; there = usable.there; grants = usable.granted }))
+    (λ old before. written_made s client context _ c to made into old own has none (inr refl) goes before)
+    (λ old before. written_found s client context _ c from first own (inl refl) out)
+    (inr (right_found s client context c key (Granted LINK) there own is))
     (moved_is made.0 (flags == 1) there first into new moves)
     (made_rightly s client context _ c to none (c, own, refl))))))))))
 
@@ -346,14 +396,14 @@ add_rightly :
 unfolding add
 add_rightly s client context type_name desc payload ring stands =
     meets_after (context_of s client context) _ (λ c own.
-    meets_after (admitted type_name desc payload) _ (λ name _.
+    meets_after (admitted type_name desc payload) _ (λ name fit.
     let made = made_for s context c ring in
     let has = has_made s client context c ring stands own in
     let none = next_none s stands in
     let next = made_next s c ring made stands has in
     meets_after (place_of made.0 made.1 name ring) _ (λ place is.
-    meets_ok (added_rightly s client context _ c ring made name payload place own
-    (c, own, sym next.1) none next.0 has is
+    meets_ok (added_rightly s client context c type_name desc payload ring made name place own
+    (c, own, sym next.1) none next.0 has fit is
     (made_rightly s client context _ c ring none (c, own, refl))))))
 
 where_rightly :
@@ -377,7 +427,8 @@ search_rightly s client context head type_name desc dest stands =
     meets_after (look_up made.0 made.1 dest (Granted WRITE)) _ (λ into goes.
     meets_after (ring_links from.1.content) _ (λ links _.
     meets_after (ring_links into.1.content) _ (λ room _.
-    found_rightly s client context _ c dest made into (found made.0 made.1 from.0 name) own none has goes
+    found_rightly s client context _ c dest made into (found made.0 made.1 from.0 name) own none has refl
+    (found_alive made.0 made.1 from.0 name) goes
     (made_rightly s client context _ c dest none (c, own, refl))))))
     (meets_after (ring_links from.1.content) _ (λ links _.
     meets_after (found s c from.0 name) _ (λ serial _. meets_ok (rightly_same s client context _))))))))
@@ -395,7 +446,8 @@ request_rightly s client context type_name desc dest stands =
     meets_within s _ (meets_by (has_destination dest) _ _ (λ gives.
     meets_after (look_up made.0 made.1 dest (Granted WRITE)) _ (λ into goes.
     meets_after (ring_links into.1.content) _ (λ room _.
-    found_rightly s client context _ c dest made into (requested made.0 made.1 name) own none has goes
+    found_rightly s client context _ c dest made into (requested made.0 made.1 name) own none has refl
+    (requested_alive made.0 made.1 name) goes
     (made_rightly s client context _ c dest none (c, own, refl)))))
     (meets_after (requested s c name) _ (λ serial _. meets_ok (rightly_same s client context _))))))
 
@@ -409,6 +461,8 @@ ruleset rights = (
   unlinked_rightly,
   rightly_changed,
   right_found,
+  names_found,
+  written_found,
   revoked_by_right,
   timed_by_right,
   closed_by_right,

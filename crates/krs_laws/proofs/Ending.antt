@@ -5,14 +5,14 @@ use Rattle.std.proofs.Common.{ap₂, List, nat_le, negsuc, None, not, Ok, Option
 use Rattle.std.proofs.Common.{subst, suc, sym, true, zero, ℕ, ℤ, ⊎_elim}
 use Rattle.std.proofs.lemmas.{Bool.Decides.nat_tests, Grind.common_steps, Option.{none-some, same_Some}}
 use Rattle.std.specs.List.{list_any}
-use Rattle.krs_types.specs.declared.ask.{Answer.Answer, Op.{Op, TheVariants.{CloseQueue, Leave}}}
+use Rattle.krs_types.specs.declared.ask.{Answer.Answer, Op.{Op, TheVariants.{CloseQueue, Leave, SetFilter}}}
 use Rattle.krs_types.specs.declared.{errno.Errno.{Errno, TheVariants.EBUSY}, event.Event.Event, note.Record.Record}
 use Rattle.krs_types.specs.{Rights.VIEW, declared.rights.Want.TheVariants.Granted}
 use Rattle.krs_types.specs.declared.ask.Op.TheVariants as asks
 use Rattle.krs_model.specs.Asks.{Leaving.left, Linked.unless}
 use Rattle.krs_model.specs.Asks.{Watching.{after_read, new_queue, unwatched, watch, watch_id_of, watched}}
 use Rattle.krs_model.specs.Asks.Watching.{with_filter, with_watching}
-use Rattle.krs_model.specs.Notes.Posting.{after_note, after_notes, records_for}
+use Rattle.krs_model.specs.Notes.{Front.behind, Posting.{after_note, after_notes, records_for}}
 use Rattle.krs_model.specs.{Lookup.{context_of, look_up}}
 use Rattle.krs_model.specs.Queues.{queue_of, queues_without, Queues, queues_of, Watch, watch_at, with_watch}
 use Rattle.krs_model.specs.Queues.{without_watch, with_queues}
@@ -25,22 +25,24 @@ use Rattle.krs_model.proofs.Asks.{Done.unwatched_is, Later.{bind_ok, same_ok}, O
 use Rattle.krs_model.proofs.{Lookups.Serials.found_serial, Notes.Called.served_at}
 use Rattle.krs_model.proofs.{Sound.Steps.{legal_sound, raised_sound}}
 use Rattle.krs_model.proofs.{Tables.Distinct.{at_without_same, has_entry}}
-use Rattle.krs_laws.specs.Going.{AllQueuesAreByRight, QueuesByRight}
+use Rattle.krs_laws.specs.Going.{AllQueuesAreByRight, QueueBegins, QueuesByRight, QueueStays}
 use Rattle.krs_laws.specs.Noting.{IsWatched, OwnsQueue, queue_asked}
-use Rattle.krs_laws.proofs.Attaching.{Begun, Ended, ends_now, NeverThere, not_other, Now, now_alter, now_filter}
-use Rattle.krs_laws.proofs.Attaching.{now_put, now_same, now_without, Stayed, stays_now}
+use Rattle.krs_laws.proofs.Attaching.{begins_now, Begun, Ended, ends_now, NeverThere, not_other, Now, now_alter}
+use Rattle.krs_laws.proofs.Attaching.{now_filter, now_put, now_same, now_without, Stayed, stays_now}
 use Rattle.krs_laws.proofs.Watchers.{owners_ask, same_place}
 
 -- ---- queues
-abbrev SameQueue : Queue → Queue → Type 0
-SameQueue before after = (after.client ≡ before.client) × (after.capacity ≡ before.capacity)
+-- a queue as it was, but for what waits
+queue_same : (client : ℕ) (op : Op) (number : ℕ) (queue : Queue) (waiting : List Record)
+    → QueueStays client op number queue (record queue { waiting = waiting })
+queue_same client op number queue waiting = record { same_client = refl; same_capacity = refl; filter = inl refl }
 
 -- whose queue ends, and by what
 abbrev EndsQueue : ℕ → Op → ℕ → Queue → Type 0
 EndsQueue client op number queue = (queue.client ≡ client) × ((op ≡ CloseQueue number) ⊎ (op ≡ Leave))
 
 abbrev QueueNow : ℕ → Op → ℕ → Option Queue → Option Queue → Type 0
-QueueNow client op number = Now SameQueue (EndsQueue client op number) (λ queue. Unit {0})
+QueueNow client op number = Now (QueueStays client op number) (EndsQueue client op number) (QueueBegins client op)
 
 queue_now :
     (s : State) (client context : ℕ) (op : Op) (mid : State) (answer : Answer) → IsSound s
@@ -49,29 +51,39 @@ queue_now :
 unfolding left
 queue_now s client context _ _ _ sound owns (OfKeys op new answer other comes none) k =
     subst (λ (es : Table Queue). QueueNow client op k (at s.queues k) (at es k))
-    (sym (ap (λ (q : Queues). q.queues) comes.queues)) (now_same _ _ _ (at s.queues k) (λ a i. (refl, refl)))
+    (sym (ap (λ (q : Queues). q.queues) comes.queues)) (now_same _ _ _ (at s.queues k) (λ a i. queue_same client _ k a a.waiting))
 queue_now s client context _ _ _ sound owns (Opens capacity fits) k =
     now_put _ _ _ s.queues s.next_queue k (new_queue client capacity)
-    (sound.orderly.unused s.next_queue (omega arith)) (λ a. (refl, refl)) (λ e. tt)
+    (sound.orderly.unused s.next_queue (omega arith)) (λ a. queue_same client _ k a a.waiting)
+    (λ e. record { own = refl; asked = refl; filter = refl })
 queue_now s client context _ _ _ sound owns (Filters number entries queue there) k =
-    now_alter _ _ _ s.queues number k (with_filter entries) (λ a. (refl, refl)) (λ e a i. (refl, refl))
+    now_alter _ _ _ s.queues number k (with_filter entries) (λ a. queue_same client _ k a a.waiting)
+    (λ e a i. let mine = owns number refl in record {
+      same_client = refl;
+      same_capacity = refl;
+      filter = inr (
+        ap (λ (q : Queue). q.client) (same_Some a mine.queue (sym i ∙ mine.there)) ∙ mine.own,
+        (entries, ap (λ (n : ℕ). SetFilter n entries) (sym e), refl),
+      );
+    })
 queue_now s client context _ _ _ sound owns (Reads number room queue there) k =
-    now_alter _ _ _ s.queues number k (after_read room) (λ a. (refl, refl)) (λ e a i. (refl, refl))
+    now_alter _ _ _ s.queues number k (after_read room) (λ a. queue_same client _ k a a.waiting)
+    (λ e a i. queue_same client _ k a (behind room a.waiting))
 queue_now s client context _ _ _ sound owns (Closes number queue there) k =
     let mine = owns number refl in
-    now_without _ _ _ s.queues number k sound.orderly.distinct (λ a. (refl, refl))
+    now_without _ _ _ s.queues number k sound.orderly.distinct (λ a. queue_same client _ k a a.waiting)
     (λ e a i. (
       ap (λ (q : Queue). q.client) (same_Some a mine.queue (sym i ∙ mine.there)) ∙ mine.own,
       inl (ap CloseQueue (sym e)),
     ))
 queue_now s client context _ _ _ sound owns (Watches id watch_id number key n queue here there asked small) k =
-    now_same _ _ _ (at s.queues k) (λ a i. (refl, refl))
+    now_same _ _ _ (at s.queues k) (λ a i. queue_same client _ k a a.waiting)
 queue_now s client context _ _ _ sound owns (Unwatches id watch_id number key n queue here names there asked is) k =
-    now_same _ _ _ (at s.queues k) (λ a i. (refl, refl))
+    now_same _ _ _ (at s.queues k) (λ a i. queue_same client _ k a a.waiting)
 queue_now s client context _ _ _ sound owns Leaves k =
     now_filter _ _ _ (λ e. not (e.1.client == client)) s.queues k (at s.queues k) (at s.queues k)
-    sound.orderly.distinct refl (λ none. none) (now_same _ _ _ (at s.queues k) (λ a i. (refl, refl)))
-    (λ a b was stay t. (sym stay.0 ∙ not_other b.client client t, inr refl))
+    sound.orderly.distinct refl (λ none. none) (now_same _ _ _ (at s.queues k) (λ a i. queue_same client _ k a a.waiting))
+    (λ a b was stay t. (sym stay.same_client ∙ not_other b.client client t, inr refl))
 
 -- ---- watches
 in_filter : (p : Watch → Bool) (ws : List Watch) (w : Watch) → IsWatched w ws → p w ≡ true → IsWatched w (filter p ws)
@@ -200,19 +212,34 @@ watch_now s client context _ _ _ sound owns h Leaves w there =
     (λ t. inl (queue_in (queues_without client s.queues) w.0.1 t))
 
 -- ---- of a step
+record SameQueue (before after : Queue) : Type 0 where
+  client : after.client ≡ before.client
+  capacity : after.capacity ≡ before.capacity
+  filter : after.filter ≡ before.filter
+
 notes_keep : (notes : List Record) (queue : Queue) → SameQueue queue (after_notes notes queue)
-notes_keep [] queue = (refl, refl)
-notes_keep (note ∷ notes) queue = notes_keep notes (after_note note queue)
+notes_keep [] queue = record { client = refl; capacity = refl; filter = refl }
+notes_keep (note ∷ notes) queue =
+    let more = notes_keep notes (after_note note queue) in
+    record { client = more.client; capacity = more.capacity; filter = more.filter }
+
+stays_on :
+    (client : ℕ) (op : Op) (number : ℕ) (a b c : Queue) → QueueStays client op number a b → SameQueue b c
+    → QueueStays client op number a c
+stays_on client op number a b c stay more = grind (arith, common_steps)
+
+begins_on : (client : ℕ) (op : Op) (b c : Queue) → QueueBegins client op b → SameQueue b c → QueueBegins client op c
+begins_on client op b c begin more = grind (arith, common_steps)
 
 served_queues_now :
     (client : ℕ) (op : Op) (number : ℕ) (notes : List Record) (o p : Option Queue) → QueueNow client op number o p
     → QueueNow client op number o (option_map (after_notes notes) p)
 served_queues_now client op number notes _ _ NeverThere = NeverThere
 served_queues_now client op number notes _ _ (Stayed a b stay) =
-    let more = notes_keep notes b in
-    Stayed a (after_notes notes b) (more.0 ∙ stay.0, more.1 ∙ stay.1)
+    Stayed a (after_notes notes b) (stays_on client op number a b _ stay (notes_keep notes b))
 served_queues_now client op number notes _ _ (Ended a end) = Ended a end
-served_queues_now client op number notes _ _ (Begun b begin) = Begun (after_notes notes b) tt
+served_queues_now client op number notes _ _ (Begun b begin) =
+    Begun (after_notes notes b) (begins_on client op b _ begin (notes_keep notes b))
 
 served_queues :
     (s new : State) (event : Event) (answer : Answer) → IsSound s
@@ -234,6 +261,7 @@ served_queues s new event answer sound owns serves =
     record {
       ends = λ k a was is. ends_now a (now k) was is;
       stays = λ k a b was is. stays_now a b (now k) was is;
+      begins = λ k b was is. begins_now b (now k) was is;
       watches = λ w there. ⊎_elim
           (λ (h : IsWatched w mid.watches). ⊎_elim
           (λ stays. inl (subst (IsWatched w) (sym watches) stays))
@@ -248,7 +276,8 @@ served_queues s new event answer sound owns serves =
 refused_queues : (s new : State) (event : Event) → new ≡ s → QueuesByRight s event new
 refused_queues s new event same = subst (QueuesByRight s event) (sym same) (record {
   ends = λ k a was is. absurd (none-some a (sym is ∙ was));
-  stays = λ k a b was is. rw (same_Some a b (sym was ∙ is)) (refl, refl);
+  stays = λ k a b was is. rw (same_Some a b (sym was ∙ is)) (queue_same event.lane event.ask.op k b b.waiting);
+  begins = λ k b was is. absurd (none-some b (sym was ∙ is));
   watches = λ w there. inl there;
 })
 

@@ -1,22 +1,23 @@
 -- What is proved of the keys of an accepted ask before the sweep: they change by right. How it comes about: nothing is
 -- done, a key is put, what one holds is written, another part of it is changed.
-use Rattle.std.proofs.Common.{ap, false, inl, inr, List, None, Ok, Option, option_map, refl, Some, subst, sym}
+use Rattle.std.proofs.Common.{ap, inl, inr, List, None, Ok, Option, option_map, refl, Some, subst, sym}
 use Rattle.std.proofs.{Common.{true, ℕ, ℤ, ⊎_elim, ◌∙◌, ◌≡◌, ◌⊎◌}, lemmas.Option.{none-some, same_Some}}
 use Rattle.krs_types.specs.declared.{ask.Op.Op, context.Context.Context, rights.Want.Want}
-use Rattle.krs_types.specs.{declared.rights.Want.TheVariants.Granted, Rights.{allows, LINK, WRITE}}
-use Rattle.krs_model.specs.{Access.{rights_on}, Levels.is_in, Lookup.{context_of, look_up}}
-use Rattle.krs_model.specs.{Possession.{links_of_content, possessed}, Reach.links_of_key_at}
+use Rattle.krs_types.specs.{declared.rights.Want.TheVariants.Granted, Rights.{LINK, WRITE}}
+use Rattle.krs_model.specs.{Levels.is_in, Lookup.{context_of, look_up, serial_of}, Possession.links_of_content}
+use Rattle.krs_model.specs.{Reach.links_of_key_at, Revocation.Names}
 use Rattle.krs_model.specs.{State.{Content, Key, State}, Table.{alter, at, put, Table}, Usable.IsUsable}
-use Rattle.krs_model.proofs.{Lookups.Laws.look_up_usable, MadeKeyring.{Lookups.possessed_other, State.at_other}}
+use Rattle.krs_model.proofs.{Asks.Later.same_ok, Lookups.{Laws.look_up_usable, Serials.found_serial}}
+use Rattle.krs_model.proofs.MadeKeyring.{Lookups.possessed_other, State.at_other}
 use Rattle.krs_model.proofs.{MadeKeyring.State.{HasMade, HasMadeFor, MadeNone, MadeOne}, Sound.Changes.at_change}
 use Rattle.krs_model.proofs.{Sound.Changes.{at_put, IsChanged, IsPut, LinksTo}, Tables.Each.mapped_is}
-use Rattle.krs_laws.specs.Integrity.{HasRight, IsByRight, IsMadeBy, MayLink}
+use Rattle.krs_laws.specs.Integrity.{HasRight, IsByRight, IsMadeBy, IsWritten, WritesAt, Written}
 use Rattle.std.proofs.Common.{arith}
 use Rattle.std.proofs.lemmas.Grind.{common_steps}
 
 -- a key that may be linked, or that the ask made
 abbrev pub LinkedByRight : State → ℕ → ℕ → ℕ → Type 0
-LinkedByRight s client context k = (at s.keys k ≡ None) ⊎ MayLink s client context k
+LinkedByRight s client context k = (at s.keys k ≡ None) ⊎ HasRight s client context (Granted LINK) k
 
 -- the keys that an ask leaves, before the sweep
 pub record Rightly (s : State) (client context : ℕ) (op : Op) (keys : Table Key) : Type 0 where
@@ -101,14 +102,34 @@ rightly_then s client context op keys n f right mine links was = record {
 abbrev pub holding : (Content → Content) → Key → Key
 holding f key = record key { content = f key.content }
 
+pub rewritten :
+    (s : State) (client context : ℕ) (op : Op) (n : ℕ) (f : Content → Content) (before after : Key)
+    → IsWritten s client context op n → IsByRight s client context op n before after
+    → IsByRight s client context op n before (holding f after)
+rewritten s client context op n f before after written right = record {
+  kind = right.kind;
+  desc = right.desc;
+  joined = right.joined;
+  content = Written written;
+  uid = right.uid;
+  gid = right.gid;
+  perm = right.perm;
+  expiry = right.expiry;
+  revoked = right.revoked;
+  closed = right.closed;
+}
+
 -- what a key holds is written
 pub rightly_written :
     (s : State) (client context : ℕ) (op : Op) (keys : Table Key) (n : ℕ) (f : Content → Content)
-    → ((before : Key) → at s.keys n ≡ Some before → HasRight s client context (Granted WRITE) n)
+    → ((before : Key) → at s.keys n ≡ Some before → IsWritten s client context op n)
     → ((k : ℕ) (v : Key) → is_in k (links_of_content (f v.content)) ≡ true
     → (is_in k (links_of_content v.content) ≡ true) ⊎ LinkedByRight s client context k)
     → Rightly s client context op keys → Rightly s client context op (alter keys n (holding f))
-rightly_written s client context op keys n f right links was = grind (arith, common_steps, rightly_then)
+rightly_written s client context op keys n f written links was =
+    rightly_then s client context op keys n (holding f)
+    (λ before after there is right. rewritten s client context op n f before after (written before there) right)
+    (λ key none is mine. record { caller = mine.caller; asks = mine.asks; own = mine.own; gid = mine.gid }) links was
 
 -- a part of one key is changed
 pub rightly_changed :
@@ -163,34 +184,62 @@ right_found s client context c id want found own is = record {
   usable = look_up_usable s c id want found is;
 }
 
--- and what grants LINK there may be linked, or is the keyring that was made
-link_was :
-    (s t : State) (c d : Context) (desc before after : List ℕ) (k : ℕ) (key was : Key)
-    → HasMade s c t d desc before after → at s.keys s.next_serial ≡ None → at s.keys k ≡ Some was
-    → at t.keys k ≡ Some key → allows (Granted LINK) (rights_on key d.caller (possessed t d k)) false ≡ true
-    → (at s.keys k ≡ Some key) × (allows (Granted LINK) (rights_on key c.caller (possessed s c k)) false ≡ true)
-link_was s t c d desc before after k key was has none there is grants =
-    grind (arith, common_steps, none-some, possessed_other, at_other)
-
-made_link :
-    (s : State) (c : Context) (id : ℤ) (made : State × Context) (k : ℕ) (key was : Key) → HasMadeFor s c id made
-    → at s.keys s.next_serial ≡ None → at s.keys k ≡ Some was → at made.0.keys k ≡ Some key
-    → allows (Granted LINK) (rights_on key made.1.caller (possessed made.0 made.1 k)) false ≡ true
-    → (at s.keys k ≡ Some key) × (allows (Granted LINK) (rights_on key c.caller (possessed s c k)) false ≡ true)
-made_link s c id _ k key was MadeNone none there is grants = (is, grants)
-made_link s c id _ k key was (MadeOne t d desc before after has named) none there is grants =
-    link_was s t c d desc before after k key was has none there is grants
-
-pub linkable_made :
-    (s : State) (client context : ℕ) (c : Context) (id : ℤ) (made : State × Context) (k : ℕ) (key : Key)
+-- and an id that names it there named it before
+named_made :
+    (s : State) (client context : ℕ) (c : Context) (id : ℤ) (made : State × Context) (n : ℕ) (was : Key)
     → context_of s client context ≡ Ok c → HasMadeFor s c id made → at s.keys s.next_serial ≡ None
-    → at made.0.keys k ≡ Some key
-    → allows (Granted LINK) (rights_on key made.1.caller (possessed made.0 made.1 k)) false ≡ true
-    → LinkedByRight s client context k
-linkable_made s client context c id made k key own has none is grants =
-    elim (at s.keys k) as (λ o. at s.keys k ≡ o → LinkedByRight s client context k) [
+    → at s.keys n ≡ Some was → serial_of made.0 made.1 id ≡ Ok n → Names s client context id n
+named_made s client context c id _ n was own MadeNone none there is = record { whose = c; own = own; named = is }
+named_made s client context c id _ n was own (MadeOne t d desc before after has new) none there is =
+    absurd (none-some was (sym none ∙ ap (λ (z : ℕ). at s.keys z) (same_ok (serial_of t d id) s.next_serial n new is)
+    ∙ there))
+
+-- so the ask writes it by right
+pub written_made :
+    (s : State) (client context : ℕ) (op : Op) (c : Context) (id : ℤ) (made : State × Context) (found : ℕ × Key)
+    (was : Key) → context_of s client context ≡ Ok c → HasMadeFor s c id made → at s.keys s.next_serial ≡ None
+    → WritesAt op id → look_up made.0 made.1 id (Granted WRITE) ≡ Ok found → at s.keys found.0 ≡ Some was
+    → IsWritten s client context op found.0
+written_made s client context op c id made found was own has none writes is there = record {
+  right = right_made s client context c id made (Granted WRITE) found was own has none there
+      (look_up_usable made.0 made.1 id (Granted WRITE) found is);
+  id = id;
+  writes = writes;
+  named = found.0;
+  names = named_made s client context c id made found.0 was own has none there
+      (found_serial made.0 made.1 id (Granted WRITE) found is);
+  is = inl refl;
+}
+
+pub names_found :
+    (s : State) (client context : ℕ) (c : Context) (id : ℤ) (want : Want) (found : ℕ × Key)
+    → context_of s client context ≡ Ok c → look_up s c id want ≡ Ok found → Names s client context id found.0
+names_found s client context c id want found own is = record {
+  whose = c;
+  own = own;
+  named = found_serial s c id want found is;
+}
+
+pub written_found :
+    (s : State) (client context : ℕ) (op : Op) (c : Context) (id : ℤ) (found : ℕ × Key)
+    → context_of s client context ≡ Ok c → WritesAt op id → look_up s c id (Granted WRITE) ≡ Ok found
+    → IsWritten s client context op found.0
+written_found s client context op c id found own writes is = record {
+  right = right_found s client context c id (Granted WRITE) found own is;
+  id = id;
+  writes = writes;
+  named = found.0;
+  names = names_found s client context c id (Granted WRITE) found own is;
+  is = inl refl;
+}
+
+-- what may be linked there may be linked, or is the keyring that was made
+pub linkable_made :
+    (s : State) (client context : ℕ) (c : Context) (id : ℤ) (made : State × Context) (found : ℕ × Key)
+    → context_of s client context ≡ Ok c → HasMadeFor s c id made → at s.keys s.next_serial ≡ None
+    → IsUsable made.0 made.1 (Granted LINK) found → LinkedByRight s client context found.0
+linkable_made s client context c id made found own has none usable =
+    elim (at s.keys found.0) as (λ o. at s.keys found.0 ≡ o → LinkedByRight s client context found.0) [
       | None ↦ λ e. inl e
-      | Some was ↦ λ e.
-          let l = made_link s c id made k key was has none e is grants in
-          inr (record { whose = c; own = own; key = key; there = l.0; grants = l.1 })
+      | Some was ↦ λ e. inr (right_made s client context c id made (Granted LINK) found was own has none e usable)
     ] refl

@@ -3,9 +3,9 @@
 use Rattle.std.specs.Prelude.{◌≡◌, ◌≢◌, ◌⊎◌, List, negsuc, None, Ok, Option, Some, zero, ℕ, ℤ}
 use Rattle.krs_types.specs.{Rights.SEARCH, declared.ask.Op.Op}
 use Rattle.krs_types.specs.declared.ask.Op.TheVariants.{CloseQueue, Exec, Exit, Fork, Hello, Invalidate, Join}
-use Rattle.krs_types.specs.declared.ask.Op.TheVariants.{Leave, Thread, Watch}
+use Rattle.krs_types.specs.declared.ask.Op.TheVariants.{Leave, OpenQueue, SetFilter, Thread, Watch}
 use Rattle.krs_types.specs.declared.{context.{Context.Context, UidRings.UidRings}}
-use Rattle.krs_types.specs.declared.{event.Event.Event, rights.Want.TheVariants.Granted}
+use Rattle.krs_types.specs.declared.{event.Event.Event, note.FilterEntry.FilterEntry, rights.Want.TheVariants.Granted}
 use Rattle.krs_model.specs.{History.IsLegal, Joined.MayBeJoined, Lookup.{context_of, user_session_ring}}
 use Rattle.krs_model.specs.{Revocation.Names, State.{Queue, raised, State}}
 use Rattle.krs_model.specs.{Step.Step, Table.{at}}
@@ -104,15 +104,29 @@ pub record AttachesByRight (s : State) (event : Event) (new : State) : Type 0 wh
       → IsNew s rings.user × IsNew s rings.session
 
 -- ---- queues and watches
+-- A queue that stays is whose it was, and holds as many. Its filter stays, or its own client sets this one
+pub record QueueStays (client : ℕ) (op : Op) (number : ℕ) (before after : Queue) : Type 0 where
+  pub same_client : after.client ≡ before.client
+  pub same_capacity : after.capacity ≡ before.capacity
+  pub filter : (after.filter ≡ before.filter)
+      ⊎ ((before.client ≡ client)
+      × ((entries : List FilterEntry) × (op ≡ SetFilter number entries) × (after.filter ≡ Some entries)))
+
+-- a new queue is of the client that opens it, holds as many as asked, and has no filter
+pub record QueueBegins (client : ℕ) (op : Op) (queue : Queue) : Type 0 where
+  pub own : queue.client ≡ client
+  pub asked : op ≡ OpenQueue queue.capacity
+  pub filter : queue.filter ≡ None
+
 -- what an event does to queues and watches it does by right
 pub record QueuesByRight (s : State) (event : Event) (new : State) : Type 0 where
   -- a queue ends by CLOSE_QUEUE or LEAVE of its own client
   pub ends : (number : ℕ) (queue : Queue) → at s.queues number ≡ Some queue → at new.queues number ≡ None
       → (queue.client ≡ event.lane) × ((event.ask.op ≡ CloseQueue number) ⊎ (event.ask.op ≡ Leave))
-  -- one that stays is whose it was, and holds as many; its filter changes by SET_FILTER of its own client
   pub stays : (number : ℕ) (before after : Queue) → at s.queues number ≡ Some before
-      → at new.queues number ≡ Some after
-      → (after.client ≡ before.client) × (after.capacity ≡ before.capacity)
+      → at new.queues number ≡ Some after → QueueStays event.lane event.ask.op number before after
+  pub begins : (number : ℕ) (queue : Queue) → at s.queues number ≡ None → at new.queues number ≡ Some queue
+      → QueueBegins event.lane event.ask.op queue
   -- a watch ends with its queue, with its key, or by WATCH with -1 of the owner of its queue
   pub watches : (w : queues.Watch) → IsWatched w s.watches
       → IsWatched w new.watches ⊎ (at new.queues w.0.1 ≡ None) ⊎ (at new.keys w.0.0 ≡ None)

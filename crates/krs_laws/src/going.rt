@@ -9,8 +9,8 @@ pub fn attachments_change_by_right()
     ensures { (start : State) → IsSound start → AllAttachesByRight start }
 {}
 
-/// A queue ends by CLOSE_QUEUE or LEAVE of its own client alone. A watch ends with its queue or its key, or by WATCH of
-/// its queue's client.
+/// A queue comes by OPEN_QUEUE, has its filter by SET_FILTER, and ends by CLOSE_QUEUE or LEAVE: by each of these of its
+/// own client alone. A watch ends with its queue or its key, or by WATCH of its queue's client.
 pub fn queues_and_watches_end_by_right()
     ensures { (start : State) → IsSound start → AllQueuesAreByRight start }
 {}
