@@ -11,7 +11,8 @@ use Rattle.krs_types.specs.declared.{errno.Errno.{Errno, TheVariants.{EACCES, EI
 use Rattle.krs_types.specs.{declared.rights.Want.TheVariants.{Either, Granted}, Growth.has_destination, Perm.perm_of}
 use Rattle.krs_types.specs.Rights.{LINK, SEARCH, SETATTR, WRITE}
 use Rattle.krs_model.specs.Asks.{Adding.{add, admitted, place_of}, Changing.{chown, emptied, if_may_own, if_owner}}
-use Rattle.krs_model.specs.Asks.Changing.{expiry_after, may_own, or_left, revoked, set_perm, with_expiry, with_owner, with_perm}
+use Rattle.krs_model.specs.Asks.Changing.{expiry_after, may_own, or_left, revoked, set_perm, with_expiry, with_owner}
+use Rattle.krs_model.specs.Asks.Changing.{with_perm}
 use Rattle.krs_model.specs.Asks.{Finding.{made_where, request, search_from, sought_name}, Hello.{uid_ring, with_uid}}
 use Rattle.krs_model.specs.{Asks.Invalidating.invalidate, Revocation.Names}
 use Rattle.krs_model.specs.Asks.{Joining.{session_joined, session_ring}, Linked.{clear, cleared_content, link}}

@@ -51,7 +51,8 @@ queue_now :
 unfolding left
 queue_now s client context _ _ _ sound owns (OfKeys op new answer other comes none) k =
     subst (λ (es : Table Queue). QueueNow client op k (at s.queues k) (at es k))
-    (sym (ap (λ (q : Queues). q.queues) comes.queues)) (now_same _ _ _ (at s.queues k) (λ a i. queue_same client _ k a a.waiting))
+    (sym (ap (λ (q : Queues). q.queues) comes.queues))
+    (now_same _ _ _ (at s.queues k) (λ a i. queue_same client _ k a a.waiting))
 queue_now s client context _ _ _ sound owns (Opens capacity fits) k =
     now_put _ _ _ s.queues s.next_queue k (new_queue client capacity)
     (sound.orderly.unused s.next_queue (omega arith)) (λ a. queue_same client _ k a a.waiting)
@@ -82,7 +83,8 @@ queue_now s client context _ _ _ sound owns (Unwatches id watch_id number key n 
     now_same _ _ _ (at s.queues k) (λ a i. queue_same client _ k a a.waiting)
 queue_now s client context _ _ _ sound owns Leaves k =
     now_filter _ _ _ (λ e. not (e.1.client == client)) s.queues k (at s.queues k) (at s.queues k)
-    sound.orderly.distinct refl (λ none. none) (now_same _ _ _ (at s.queues k) (λ a i. queue_same client _ k a a.waiting))
+    sound.orderly.distinct refl (λ none. none)
+    (now_same _ _ _ (at s.queues k) (λ a i. queue_same client _ k a a.waiting))
     (λ a b was stay t. (sym stay.same_client ∙ not_other b.client client t, inr refl))
 
 -- ---- watches

@@ -43,8 +43,8 @@ step_done old new event serial sound done step =
             | Some before ↦ λ e.
                 let same : key.expiry ≡ before.expiry =
                 ⊎_elim (λ (h : key.expiry ≡ before.expiry). h)
-                (λ rest. ⊎_elim (λ h. absurd (none (Granted SETATTR) h.0)) (λ h. absurd (none (Granted WRITE) h.1.right))
-                rest)
+                (λ rest. ⊎_elim (λ h. absurd (none (Granted SETATTR) h.0))
+                (λ h. absurd (none (Granted WRITE) h.1.right)) rest)
                 (right.changed serial before key e there).expiry in
                 ap (is_over new.clock) same ∙ over_later old.clock new.clock before.expiry clock (done.over before e)
           ] refl;
