@@ -159,13 +159,19 @@ static void read_by_group(void) {
     waitpid(child, NULL, 0);
 }
 
-/* effective-group: the same by the effective gid alone, while the real one is root's. */
+/* effective-group: the same by the effective gid alone, while the real one is root's; then by a group, as a server has
+ * those of a client, and by none, as it has of the next. */
 static void read_by_effective_group(void) {
+    const gid_t group = OTHER - 3;
     char byte;
     key_serial_t key = add_key("user", "of a group", "x", 1, KEY_SPEC_USER_KEYRING);
-    bool fine = keyctl_chown(key, (uid_t)-1, OTHER - 3) == 0 && keyctl_setperm(key, GROUP_MAY_READ) == 0;
-    fine = fine && setgroups(0, NULL) == 0 && setegid(OTHER - 3) == 0 && seteuid(OTHER) == 0;
-    puts(fine ? word_of(keyctl_read(key, &byte, 1) == 1) : "failed");
+    bool fine = keyctl_chown(key, (uid_t)-1, group) == 0 && keyctl_setperm(key, GROUP_MAY_READ) == 0;
+    for (int way = 0; way < 3; way++) {
+        fine = fine && seteuid(0) == 0 && setgroups(way == 1, &group) == 0 && setegid(way == 0 ? group : 0) == 0;
+        fine = fine && seteuid(OTHER) == 0;
+        printf("%s ", fine ? word_of(keyctl_read(key, &byte, 1) == 1) : "failed");
+    }
+    puts("");
 }
 
 /* saved: one user with a process keyring, then another, for whom root's uid is but saved, and the first one again. */

@@ -1,14 +1,23 @@
 /* asks PATH VERSION MODE: calls of libkeyretain against the server of frames.py, with what they answer. all: each
  * function once. late: calls that are interrupted or out of patience, whose replies come late. first: the same of the
  * first call. restarted: signals that end no call. one: a call that is answered, and one more. fork: a call in a child.
- * */
+ * fork-old: the same where the kernel wipes nothing in a child. */
 #define _GNU_SOURCE
 #include <inttypes.h>
+
+#include <sys/mman.h>
 
 #include "check.h"
 #include "library/keyretain.h"
 
 static struct kr *connection;
+static bool is_old; /* as before Linux 4.14 */
+
+int madvise(void *at, size_t length, int advice) {
+    if (!is_old || advice != MADV_WIPEONFORK) return OURS(madvise)(at, length, advice);
+    errno = EINVAL;
+    return -1;
+}
 
 static void say(const char *what, int64_t answer) {
     if (answer < 0)
@@ -143,7 +152,8 @@ int main(int count, char **words) {
         const char *name;
         void (*run)(void);
     } modes[] = { { "all", ask_all }, { "late", ask_late }, { "first", ask_first }, { "restarted", ask_restarted },
-                  { "one", ask_one }, { "fork", ask_in_child } };
+                  { "one", ask_one }, { "fork", ask_in_child }, { "fork-old", ask_in_child } };
+    is_old = count == 3 && strcmp(words[2], "fork-old") == 0;
     if (count != 3 || !(connection = kr_open(words[1]))) return 2;
     for (size_t i = 0; i < sizeof modes / sizeof *modes; i++)
         if (strcmp(words[2], modes[i].name) == 0) modes[i].run();

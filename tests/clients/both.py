@@ -2,6 +2,8 @@
 one adds the other reads, updates, revokes and watches, and what one client alone kept is gone when it ends."""
 import ctypes
 import errno
+import os
+import signal
 import sys
 import time
 
@@ -156,26 +158,40 @@ def try_python_ends(python, shared):
     c.close()
 
 
+def try_made_just_now(c, python):
+    """A session may have had the serial that JOIN gives next, of a daemon before: that isn't entered."""
+    ids = os.geteuid(), os.getegid()
+    own, other = c.ask("hello", *ids, 0, None), python.hello(*ids)
+    named = b"%d:new" % (python.join(other) + 1)
+    compare("a session of that serial that is made just now", "EKEYREVOKED", c.ask("enter_session", own, named))
+
+
 def try_unanswered():
-    """A JOIN by a name that isn't answered in time may be carried out yet, when another user's keyring has the name: so
-    its context ends."""
+    """A JOIN by a name that isn't answered in time, or is interrupted, may be carried out yet, when another user's
+    keyring has the name: so its context ends."""
     def serve(end):
         for tag, name, _ in end.asks():
             asked.append(name)
             if name == "HELLO":
                 end.socket.sendall(reply(tag, number(1)))
 
-    def by_library(path):
+    def by_library(path, interrupts=False):
         c = Library(path)
-        c.library.kr_set_patience(c.connection, 300)
+        c.library.kr_set_patience(c.connection, 20000 if interrupts else 300)
+        c.library.kr_set_interruptible(c.connection, interrupts)
         c.ask("hello", 1000, 1000, 0, None)
+        signal.setitimer(signal.ITIMER_REAL, 0.3 if interrupts else 0)
         return c.ask("enter_session", 1, b"5:work"), c.close()
+
+    def interrupted(path):
+        signal.signal(signal.SIGALRM, lambda *_: None)
+        return by_library(path, True)
 
     def by_python(path):
         with keyretain.Client(path, timeout=0.3) as client:
             return (outcome(client.enter_session, client.hello(1000, 1000), "5:work"),)
 
-    for run, refused in (by_library, "ETIMEDOUT"), (by_python, "TimeoutError"):
+    for run, refused in (by_library, "ETIMEDOUT"), (interrupted, "EINTR"), (by_python, "TimeoutError"):
         asked = []
         with served(serve) as path:
             compare(f"a session that isn't entered in time: {run.__name__}", refused, run(path)[0])
@@ -188,6 +204,7 @@ def main():
     own, other = c.ask("hello", 1000, 1000, 0, None), python.hello(1000, 1000)
     try_notes(c, python, own, other, *try_keys(c, python, own, other))
     try_filters(c, python, own, other)
+    try_made_just_now(c, python)
     try_python_ends(python, try_ends(c, python, own, other))
     try_unanswered()
     conclude()

@@ -110,8 +110,9 @@ def try_restarted():
 
 
 def try_child():
-    compare("a call in a child", ["hello: 77", "in the child: ECONNRESET, broken", "in the parent: 77"],
-            run("fork", plain)[0])
+    for mode in "fork", "fork-old":
+        compare(f"a call in a child, {mode}", ["hello: 77", "in the child: ECONNRESET, broken", "in the parent: 77"],
+                run(mode, plain)[0])
 
 
 def try_statuses():

@@ -1,5 +1,5 @@
 """holding.py KEEPER: whether keyretain-keeper --hold goes on where a daemon doesn't say for a while what the keyring
-has, and ends where there is no keyring any more."""
+has, and ends where there is no keyring any more; and that all its asks together end within its patience."""
 import errno
 import itertools
 import os
@@ -7,6 +7,7 @@ import struct
 import subprocess
 import sys
 import threading
+import time
 
 from compare import compare, conclude
 from servers import reply, served
@@ -57,6 +58,18 @@ def readings_of(keeper, *readings):
     return daemon.count
 
 
+def said_to_slow(keeper):
+    """What it says with a patience of a second, to a daemon whose answers take a third of one each."""
+    def serve(end):
+        for tag, name, values in end.asks():
+            time.sleep(0.35)
+            end.socket.sendall(reply(tag, FORMS[keyretain.ASKS[name].answer]))
+
+    with served(serve) as path:
+        return subprocess.run([keeper, "--socket", path, "--patience", "1000"], input=b"", stdout=subprocess.PIPE,
+                              check=False).stdout[:10]
+
+
 # The last two looks find nothing, as the name of its session is given up between them.
 compare("a keyring without keys", 1, readings_of(sys.argv[1]))
 compare("keys that go", 4, readings_of(sys.argv[1], LINK, LINK))
@@ -64,4 +77,5 @@ compare("a daemon without memory", 6, readings_of(sys.argv[1], LINK, errno.ENOME
 compare("no memory at first", 4, readings_of(sys.argv[1], errno.ENOMEM, LINK))
 for gone in errno.ENOKEY, errno.EKEYREVOKED, errno.EACCES:
     compare(f"a keyring that is gone, {gone}", 3, readings_of(sys.argv[1], LINK, gone, gone))
+compare("a daemon that is slow at each ask", b"failed 110", said_to_slow(sys.argv[1]))
 conclude()

@@ -118,6 +118,16 @@ END
   kill_daemon TERM
 }
 
+# Where each lock of the library is wanted: what five runs say, and what the sanitizer does.
+try_together() {
+  local name
+  chmod 711 "$dir" && chmod 666 "$path" # each identity connects by itself
+  for name in busy busy-address,undefined busy-thread; do
+    [ ! -x "$dir/$name" ] || is "$name: threads that ask for the first time, and end, beside one that joins" answered \
+      "$(for _ in 1 2 3 4 5; do timeout 120 "$dir/$name" together 2>&1; done | grep -e '^[A-Za-z]' | sort -u)"
+  done
+}
+
 # calls_of RING COUNT [WORD ..]: how many system calls a program makes in all that reads a key of this ring so often, as
 # one that has no rights, run by these words: the least of three runs, as on a busy machine a connection may seem to be
 # no longer used, and is made once more
@@ -312,6 +322,8 @@ try_entered() {
   is 'a key of the session that the environment names' ok "$(KEYRETAIN_SESSION=$ring:entered "$dir/acts" read "$key")"
   is 'the same by another serial' EACCES "$(KEYRETAIN_SESSION=$((ring + 1)):entered "$dir/acts" read "$key")"
   is 'nor is that the session' EKEYREVOKED "$(KEYRETAIN_SESSION=$((ring + 1)):entered "$dir/acts" session)"
+  is 'what holds another session than the one that is named lets no connection go' '1 1 1 1 answered' \
+    "$(in_session -- env KEYRETAIN_SESSION="$ring:entered" timeout 60 "$dir/busy" held)"
   end_fed
 }
 
