@@ -318,31 +318,12 @@ def try_capabilities():
         compare("the path in a program with capabilities", "/run/keyretain/keyretain.sock", told.stdout.strip())
 
 
-def try_false_proc():
-    """What isn't proc(5) is believed nothing, though it has the files: as below another user's root directory."""
-    def look(write):
-        system, private, new_namespace = ctypes.CDLL(None, use_errno=True), 1 << 14 | 1 << 18, 0x20000
-        if system.unshare(new_namespace) or system.mount(b"x", b"/", None, private, None) or \
-                system.mount(b"x", b"/proc", b"tmpfs", 0, b"size=0"):
-            return os.write(write, b"skipped")
-        for name, text in (("sys/kernel/overflowuid", "4242"), ("self/uid_map", "0 0 4294967295")):
-            os.makedirs(os.path.dirname("/proc/" + name))
-            with open("/proc/" + name, "w", encoding="ascii") as file:
-                file.write(text)
-        return os.write(write, str([places._is_one_user(uid) for uid in (0, 4242, 65534)]).encode())
-
-    told = told_by(look)
-    if told == "skipped":
-        return skipped("a false proc(5): no mount namespace may be made")
-    return compare("who is one user by a false proc(5)", "[True, True, False]", told)
-
-
 if __name__ == "__main__":
     os.environ.pop("KEYRETAIN_SOCKET", None)
     cases = [try_places, try_names, try_peer]
     if sys.argv[1:] != ["one"]:
         cases += [try_found, try_found_root, try_effective, try_another_runtime_directory, try_closed,
-                  try_named, try_unknown, try_system, try_set_uid, try_capabilities, try_false_proc]
+                  try_named, try_unknown, try_system, try_set_uid, try_capabilities]
     for case in cases:
         attempt(case)
     servers.conclude()
