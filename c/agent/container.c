@@ -278,8 +278,10 @@ void containers_reap(void) {
 /* A server that waits for its container's memory, as for a page of a FUSE file, may end long after: it is left. */
 void containers_end(void) {
     const int64_t deadline = kr_now() + END_PATIENCE;
+    unsigned served = 0;
     for (unsigned i = 0; i < all.settings.most; i++)
-        if (all.containers[i].server > 0) kill(all.containers[i].server, SIGKILL);
+        if (all.containers[i].server > 0) served += kill(all.containers[i].server, SIGKILL) == 0;
+    if (served) fprintf(stderr, "keyretain-agent: ends, and the keys of %u containers with it\n", served);
     for (unsigned i = 0; i < all.settings.most; i++) {
         if (all.containers[i].server <= 0) continue;
         while (waitpid(all.containers[i].server, NULL, WNOHANG) == 0 && kr_now() < deadline) poll(NULL, 0, LOOK);

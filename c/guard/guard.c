@@ -173,6 +173,7 @@ int main(int count, char **words) {
     }
     begin();
     run();
+    if (used) tell(OF_THE_END, "ends, and the sessions of %u connections with it\n", used);
     if (options.listen_path) unlink(options.listen_path);
     return 0;
 }

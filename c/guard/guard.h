@@ -50,8 +50,9 @@ uint32_t *borrow_groups(int client, size_t *count);
 void return_groups(void);
 
 /* A line to standard error, if it takes one at once. At most ten are told in a second, as whoever is refused may ask
- * again at once, and at most eight that clients bring about: none of them hides what is wrong with the daemon. */
-enum lines { OF_CLIENTS = 8, OF_DAEMON = 10 };
+ * again at once, and at most eight that clients bring about: none of them hides what is wrong with the daemon. Its last
+ * line comes in any case. */
+enum lines { OF_CLIENTS = 8, OF_DAEMON = 10, OF_THE_END };
 void tell(enum lines most, const char *format, ...) __attribute__((format(printf, 2, 3)));
 
 /* ---- refused.c: clients that get no place. Each is told so, by EDQUOT in reply to its first ask, and then

@@ -81,6 +81,8 @@ try_agent_killed() {
 try_agent_ended() {
   begin_container a print kept add k v @s
   end_agent 'an agent with a container'
+  is 'how much is lost' 'keyretain-agent: ends, and the keys of 1 containers with it' \
+    "$(tail -n 1 "${errors:-$dir/$variant.err}")"
   is 'its server and its daemon' 1 "$(is_gone "$server" && is_gone "$keeper" && echo 1)"
   end_container 'a container whose agent has ended' 'ENOSYS ENOSYS '
 }

@@ -39,7 +39,8 @@ def try_log():
     told = [re.sub(r'pid \d+', 'pid N', line) for line in open(run.errors.name)]
     check('what is told', told, [
         f'refused: uid {UID}, gid {GID} (pid N) named uid {UID + 5}, gid {GID}, 2 groups\n',
-        f'refused: uid {UID}, gid {GID} (pid N) named uid {UID}, gid 9999, 0 groups\n'])
+        f'refused: uid {UID}, gid {GID} (pid N) named uid {UID}, gid 9999, 0 groups\n',
+        'ends, and the sessions of 1 connections with it\n'])
 
 
 @by_root('refusals of two users')
