@@ -4,11 +4,13 @@
 // end, where `apart` is said in a user namespace too, whose maps are written before it gets its first line; and where
 // `within` is said, as it is.
 //
-//   add|request|keyctl WORD ..   the system call; a word is nNUMBER, sTEXT or bBYTES in hexadecimal, z (null), or o,
-//                                a place for bytes put out and its size
+//   add|request|keyctl|pipe2|ioctl|read WORD ..
+//                                the system call; a word is nNUMBER, sTEXT or bBYTES in hexadecimal, z (null), o, a
+//                                place for bytes put out and its size, or p, a place alone
 //   thread N, fork N             a thread, or a process, that is context N
 //   exec, exit                   execve(2) of this program, which goes on as this context; the end of the thread
 //   user UID GID [GROUP ..]      another user for good
+//   fill COUNT RING              adds so many keys f0, f1 .. to a keyring
 //   settle                       waits until each processor has left what it was at: membarrier(2)
 #define _GNU_SOURCE
 #include <errno.h>
@@ -63,6 +65,8 @@ static void call(int context, long number, char **words, int count) {
       values[given++] = atol(word);
     else if (words[i][0] == 'o')
       values[given++] = (long)out, values[given++] = OUT, puts = 1;
+    else if (words[i][0] == 'p')
+      values[given++] = (long)out;
     else
       values[given++] = words[i][0] == 'z' ? 0 : (long)bytes_of(word);
   }
@@ -80,6 +84,16 @@ static int user(char **words, int count) {
     return -errno;
   if (syscall(SYS_setresgid, gid, gid, gid) || syscall(SYS_setresuid, uid, uid, uid))
     return -errno;
+  return 0;
+}
+
+static long fill(long count, long ring) {
+  for (long i = 0; i < count; i++) {
+    char name[24];
+    sprintf(name, "f%ld", i);
+    if (syscall(SYS_add_key, "user", name, "v", 1L, ring) < 0)
+      return -errno;
+  }
   return 0;
 }
 
@@ -110,6 +124,8 @@ static int control(int context, char **words, int count) {
     value = start_thread(other);
   } else if (!strcmp(words[0], "user")) {
     value = user(words + 1, count - 1);
+  } else if (!strcmp(words[0], "fill") && count > 2) {
+    value = fill(atol(words[1]), atol(words[2]));
   } else if (!strcmp(words[0], "settle")) {
     value = syscall(SYS_membarrier, MEMBARRIER_CMD_GLOBAL, 0, 0);
   } else if (!strcmp(words[0], "exec")) {
@@ -121,6 +137,18 @@ static int control(int context, char **words, int count) {
   if (!strcmp(words[0], "exit"))
     syscall(SYS_exit, 0);
   return context;
+}
+
+static long call_number(const char *name) {
+  static const struct {
+    const char *name;
+    long number;
+  } calls[] = {{"add", SYS_add_key}, {"request", SYS_request_key}, {"keyctl", SYS_keyctl},
+               {"pipe2", SYS_pipe2}, {"ioctl", SYS_ioctl}, {"read", SYS_read}};
+  for (size_t i = 0; i < sizeof calls / sizeof *calls; i++)
+    if (!strcmp(name, calls[i].name))
+      return calls[i].number;
+  return -1;
 }
 
 static void *serve(void *number) {
@@ -135,10 +163,9 @@ static void *serve(void *number) {
     int count = 0;
     while (count < WORDS && (words[count] = strsep(&rest, " ")))
       count++;
-    long call_number = !strcmp(words[0], "add") ? SYS_add_key : !strcmp(words[0], "request") ? SYS_request_key
-      : !strcmp(words[0], "keyctl") ? SYS_keyctl : -1;
-    if (call_number >= 0)
-      call(context, call_number, words + 1, count - 1);
+    long number_of_call = call_number(words[0]);
+    if (number_of_call >= 0)
+      call(context, number_of_call, words + 1, count - 1);
     else
       context = control(context, words, count);
   }

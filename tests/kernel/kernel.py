@@ -112,7 +112,7 @@ def run_seed(given, seed):
             nonlocal drawer
             if at >= given.lines:
                 return None
-            drawer = drawer or scripts.Drawer(it.world, seed, given.root, calls=bool(given.calls))
+            drawer = drawer or scripts.Drawer(it.world, seed, given.root, bool(given.calls), notes=it.has_notes)
             for _ in range(30):
                 line = drawer.draw()
                 if is_control(it.world, line) or not rules.parting(line_of(it, line)) or drawer.likely(0.01):
@@ -157,7 +157,8 @@ def tell(given, totals, pairs, ends, lines):
     print(f"{sum(ends.values())} scripts, {lines} lines: {dict(ends)}")
     print("rules met: " + ", ".join(f"{name} {count}" for name, count in totals.most_common()))
     print("rules that no seed needs: " + " ".join(
-        name for name, rule in rules.RULES.items() if not totals[name] and rule.of_calls <= bool(given.calls)))
+        name for name, rule in rules.RULES.items()
+        if not totals[name] and rule.of_calls <= bool(given.calls) and rule.of_notes <= sides.has_notes()))
     if given.coverage:
         coverage.tell(pairs)
 
@@ -241,7 +242,9 @@ def probe(given, name, pace=1):
 
 
 def probes(given):
-    for name in given.words or [name for name, rule in rules.RULES.items() if rule.of_calls == bool(given.calls)]:
+    notes = sides.has_notes()
+    for name in given.words or [name for name, rule in rules.RULES.items()
+                                if rule.of_calls == bool(given.calls) and rule.of_notes <= notes]:
         try:
             check(f"the probe of {name}", probe(given, name))
         except Exception:

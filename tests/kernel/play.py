@@ -1,7 +1,7 @@
 """A script on both sides, line by line."""
 import time
 
-from sides import BYTES, NUMBERED, PATIENCE, serials
+from sides import BYTES, CAPACITY, NUMBERED, PATIENCE, QUEUES, records, serials
 from lines import RINGS
 from rules import MAKING, Line
 from world import Key, World
@@ -9,6 +9,7 @@ from world import Key, World
 EPOCH = 1_000_000  # the moment here at which scripts begin
 TICK = 0.012  # seconds, the most by which the kernel's count of seconds is late
 SETTLED = 8  # times that the kernel is waited for, at least
+REMOVAL = 0  # WATCH_TYPE_META, WATCH_META_REMOVAL_NOTIFICATION
 
 
 class Late(Exception):
@@ -27,8 +28,8 @@ def show(answer):
     if isinstance(answer, (bytes, str)):
         text = answer.decode("latin-1") if isinstance(answer, bytes) else answer
         return repr(text) if len(text) < 80 else f"{text[:60]!r} .. {len(text)} bytes"
-    if isinstance(answer, list):
-        return " ".join(map(show, answer))
+    if isinstance(answer, (list, tuple)):
+        return " ".join(map(show, answer)) if isinstance(answer, list) else f"({', '.join(map(show, answer))})"
     return "ok" if answer is None else f"${answer.number}" if isinstance(answer, Key) else str(answer)
 
 
@@ -46,6 +47,9 @@ class Play:
         self.held = False  # whether the line names a key that is kept
         self.kernel, self.other = kernel, other
         self.other.set_moment(EPOCH)
+        self.has_notes = kernel.notes and not of_calls
+        for _ in QUEUES if self.has_notes else ():
+            self.other.say(f"open {CAPACITY}")
 
     def end(self):
         self.kernel.end()
@@ -82,6 +86,8 @@ class Play:
         if self.world.context is None or self.world.context.ended:
             return None
         there, mine = self.places[self.world.current]
+        if word == "fill":
+            return self.fill(there, mine, *words)
         here = self.other.answer(mine, word, words, self.serial(self.of_here))
         if {"@u", "@us", "@s"} & set(words):
             self.world.entered.add(self.world.context.uid)
@@ -94,11 +100,26 @@ class Play:
         if word == "invalidate" and linux is None:
             self.kernel.collect()
         self.last = linux, here
-        return self.judge(line, linux, here)
+        linux = self.judge(line, linux, here)
+        self.await_notes()
+        return linux
+
+    def fill(self, there, mine, count, ring):
+        """Adds many keys to a keyring, of which no more is known than that it is full."""
+        linux = self.kernel.fill(there, int(count), self.serial(self.of_linux)(ring))
+        here = self.other.fill(mine, int(count), self.serial(self.of_here)(ring))
+        if linux or here:
+            raise Difference(f"fill {count} {ring}", linux, here)
+        self.world.key(ring).full = True
 
     def judge(self, line, linux, here):
         """Whether both answers are one; then what the line changes is taken down."""
         word, *words = line.split()
+        if word == "readq":
+            there, mine = self.notes(linux, "=", self.linux), self.notes(here, "<", self.here)
+            if there != mine:
+                raise Difference(line, there, mine)
+            return linux
         if isinstance(linux, str) or isinstance(here, str):
             if isinstance(linux, str) and isinstance(here, str):
                 self.made(word, words)
@@ -157,6 +178,14 @@ class Play:
         if {self.linux.get(it) for it in there} != {self.here.get(it) for it in mine}:
             raise Difference(line, [self.linux.get(it, it) for it in there], [self.here.get(it, it) for it in mine])
 
+    def notes(self, data, order, keys):
+        """Notes with keys for serials, but for those of keys that Linux keeps and that are gone here."""
+        if isinstance(data, str):
+            return [] if data == "EAGAIN" else data
+        found = [(kind, info, *[keys.get(it, "?" if it else 0) for it in those])
+                 for kind, info, *those in records(data, order)]
+        return [it for it in found if not (it[0] == REMOVAL and it[2] in self.kept)]
+
     def control(self, word, words):
         """Contexts that come and go."""
         number, sides = len(self.places) + 1, (self.kernel, self.other)
@@ -171,6 +200,7 @@ class Play:
                     side.control(place, word)
         self.last = number, number
         self.world.accept(word, words, None, number)
+        self.await_notes()
 
     # ---- What the kernel does later
 
@@ -179,6 +209,18 @@ class Play:
         gone = {self.world.key(it) for it in words if it.startswith("$") and self.world.key(it).gone}
         if word == "join" and words:
             gone = {key for key in self.world.keys if key.gone and key.match == ("keyring", words[0])}
+        self.await_gone(gone)
+        self.held = bool(gone & self.kept)
+
+    def await_notes(self):
+        """Waits for the removal records of watched keys, which come a little after these have gone."""
+        gone = {key for key in self.world.keys if key.gone and key.watched and key.number}
+        if self.has_notes and gone - self.buried - self.kept:
+            self.await_gone(gone)
+            self.kernel.collect()
+
+    def await_gone(self, gone):
+        """Waits until the kernel has let go these keys, or has kept them so long that something must hold them."""
         for key in gone - self.buried - self.kept:
             # where nothing is known to keep it, it goes however busy the machine is
             until = time.monotonic() + (0 if self.world.keeps else PATIENCE)
@@ -190,7 +232,6 @@ class Play:
                 self.kernel.settle()
                 at += 1
             (self.kept if is_kept else self.buried).add(key)
-        self.held = bool(gone & self.kept)
 
     # ---- Time
 

@@ -6,8 +6,11 @@ from world import SEARCH, TYPES, Key
 
 # Where a word that is -1, -2 or -3 may make a keyring: in Linux, and here.
 MAKING = {"add": (3,), "newring": (1,), "link": (0, 1), "move": (0, 2), "clear": (0,), "chown": (0,), "chgrp": (0,),
-          "setperm": (0,), "timeout": (0,), "search": (3,), "request": (2,), "id": (0,)}
+          "setperm": (0,), "timeout": (0,), "search": (3,), "request": (2,), "id": (0,), "watch": (0,)}
 MADE_HERE = {"add": (3,), "newring": (1,), "link": (1,), "move": (2,), "search": (3,), "request": (2,), "id": (0,)}
+
+
+SETATTR = 7 << 24 | 1  # of a note, its type and subtype: linux/watch_queue.h
 
 
 class Line(NamedTuple):
@@ -354,12 +357,31 @@ def first_ended(it):
     return it.world.of_calls and it.world.left
 
 
+def notes_of_closing(it):
+    """Without setattr notes of closed keyrings both have the same."""
+    def others(notes):
+        return [note for note in notes if not (note[0] == SETATTR and note[2] != "?" and note[2].closed)]
+
+    return it.word == "readq" and isinstance(it.linux, list) and others(it.linux) == others(it.here)
+
+
+def watch_holds(it):
+    """A key that is gone here, where somebody has set a watch."""
+    return it.held and any(key.watches for key in it.world.keys)
+
+
+def full(it):
+    """A keyring with as many links as it may have here."""
+    return it.word in ("add", "newring", "link", "move") and it.world.key(it.words[-1]).full
+
+
 class Rule(NamedTuple):
     """`page` is the rule's name in PROFILE.md, whose table has what is done `there`, in Linux, and `here`, and where in
     the kernel's code. `whose`: `Linux` departs from the manual that is named; `open` is what no manual says; by
     `manual` Linux does what the manual that is named says, or is nearer to it. `state` says where the rule holds,
     `linux` and `mine` what is answered then: names of errors, `ok`, `error` for any, `*` for anything. `parts`: a line
-    in that state leaves the two apart whatever they answer. `of_calls`: where system calls are answered."""
+    in that state leaves the two apart whatever they answer. `of_calls`: where system calls are answered. `of_notes`:
+    where the kernel has notes."""
 
     page: str
     state: Callable
@@ -372,6 +394,7 @@ class Rule(NamedTuple):
     probe: str
     parts: bool = False
     of_calls: bool = False
+    of_notes: bool = False
 
 
 H = "hello 1000 1000; "
@@ -455,6 +478,18 @@ RULES = {
         "place of a link", other_match, "*", "*", "UNLINK and MOVE take out another key of equal type and description",
         "ENOENT", "keyring.c, __key_unlink_begin", "Linux: keyctl(2)",
         H + "newring a @u; add user k 1 $1; add user k 2 @u; unlink $3 $1"),
+    "N1": Rule(
+        "closed keyrings", notes_of_closing, "*", "*", "RESTRICT_KEYRING gives a setattr note", "none",
+        "keyring.c, keyring_restrict", "open",
+        H + "newring r @u; watch $1 1 1; restrict $1; readq 1 65536", of_notes=True),
+    "N2": Rule(
+        "watches hold nothing", watch_holds, "*", "*",
+        "a watch keeps the thread, process and session keyrings of its maker alive", "they drop",
+        "kernel/watch_queue.c, add_watch_to_object", "open",
+        H + "join a; watch @u 1 1; join b; rdescribe $1", of_notes=True),
+    "U13": Rule(
+        "full keyrings", full, "*", "ENFILE", "no limit of links", "ENFILE from 65535 on, but where one is displaced",
+        "keyring.c, __key_link_begin", "Linux: keyctl(2)", H + "newring r @u; fill 65535 $1; add user more v $1"),
     "U14": Rule(
         "user keyrings stay", made_anew, "*", "*", "one that was invalidated is made anew at the next look-up",
         "ENOKEY, until the last context of the uid has ended", "process_keys.c, look_up_user_keyrings",
@@ -590,7 +625,7 @@ def parting(line):
 def goes_on(play, line):
     """Whether the two stay together over a difference: nothing changes, or the same."""
     finds = line.word in ("search", "request") and not line.places(MAKING)
-    if line.refused or finds or line.word in ("print", "rdescribe"):
+    if line.refused or finds or line.word in ("print", "rdescribe", "readq"):
         return True
     if line.word == "join" and line.linux == 0 and isinstance(line.here, Key):
         play.world.accept("join", line.words, line.here)

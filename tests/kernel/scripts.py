@@ -20,13 +20,15 @@ WORDS = {"add": 16, "newring": 9, "print": 9, "rdescribe": 5, "update": 5, "link
          "search": 8, "request": 6, "setperm": 5, "chown": 1.5, "chgrp": 1.5, "timeout": 3, "revoke": 1.5,
          "invalidate": 1.2, "clear": 1, "restrict": 0.6, "id": 5, "wait": 1, "hello": 1.5, "context": 6, "thread": 1.5,
          "fork": 1.5, "exec": 0.7, "exit": 0.7, "join": 3}
+NOTES = {"watch": 9, "readq": 7, "filter": 0.5}  # where there are queues
+ROOM = 65536  # of a read
 MOST = 14  # contexts
 
 
 class Drawer:
     """Draws lines, of what `world` has. `root`: among all users, where user keyrings stay as they are."""
 
-    def __init__(self, world, seed, root=False, calls=False, most=MOST):
+    def __init__(self, world, seed, root=False, calls=False, most=MOST, notes=False):
         self.world, self.chance, self.root, self.most = world, random.Random(seed), root, most
         chance = self.chance
         self.users = chance.sample(USERS, chance.choice([1, 2, 2, 3, 4]))
@@ -46,7 +48,8 @@ class Drawer:
         self.special = chance.choice([0.15, 0.3, 0.5])
         self.harm = chance.choice([0, 0, 0.3, 1])  # of user keyrings
         self.deep = chance.random() < 0.3
-        self.weights = {word: weight * chance.choice([0.3, 1, 1, 2.5]) for word, weight in WORDS.items()}
+        words = WORDS | (NOTES if notes and self.likely(0.6) else {})
+        self.weights = {word: weight * chance.choice([0.3, 1, 1, 2.5]) for word, weight in words.items()}
         self.weights["wait"] *= chance.choice([0, 0, 1, 3])
         if not self.weights["wait"]:
             self.weights["timeout"] /= 2
@@ -83,6 +86,9 @@ class Drawer:
             "timeout": lambda: f"{self.victim()} {self.seconds()}",
             "clear": lambda: self.victim() if self.likely(0.5) else ring(),
             "restrict": lambda: f"{self.victim()}{self.restriction()}",
+            "watch": lambda: f"{key()} {self.queue()} {self.either('off', 0, 255, *range(1, 9))}",
+            "readq": lambda: f"{self.queue()} {ROOM}",
+            "filter": lambda: " ".join([self.queue(), *(self.entry() for _ in range(self.either(1, 1, 2, 16, 17)))]),
             "id": lambda: f"{self.either(self.attached(), self.attached(), key())}{self.either('', ' create')}",
         }[word]()
 
@@ -239,6 +245,17 @@ class Drawer:
 
     def seconds(self):
         return self.one([0, 1000, 4294967295] + [1, 1, 1, 2, 2] * bool(self.weights["wait"]))
+
+    def queue(self):
+        return self.either("1", "1", "2")
+
+    def entry(self):
+        """What a filter lets pass: a type, what `info` must be in the bits of a mask, and subtypes."""
+        info, mask = self.either((0, 0), (0, 0), (0x300, 0xff00), (0x100, 0x100), (0, 0x200))
+        if self.strange():
+            info, mask = self.either((0x10, 0x7f), (1, 0), (0x300, 0x200), (0x10000, 0x10000))
+        types = self.either(1, 1, 1, 0, 2, 0xffffff) if self.strange() else 1
+        return f"{types:x}:{info:x}:{mask:x}:{self.either(0xffffffff, 0x1ff, self.chance.randrange(512)):x}"
 
     def destination(self):
         return f" {self.key() if self.likely(0.1) else self.ring()}" if self.likely(0.25) else ""

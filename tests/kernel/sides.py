@@ -19,6 +19,8 @@ from lines import RINGS
 from scripts import EMPTY, OF_SESSION, OUTSIDE
 
 FIRST, CONTEXTS, ABOVE = 3, 24, 100  # the sockets of contexts.c; how many; where they stand here
+QUEUES, CAPACITY = (FIRST + CONTEXTS, FIRST + CONTEXTS + 2), 64  # the pipes of notes, behind these; their size
+SET_SIZE, SET_FILTER = 0x5760, 0x5761  # linux/watch_queue.h
 PATIENCE = 30
 NAMES = {number: name for number, name in errno.errorcode.items()} | {35: "EDEADLK", 95: "EOPNOTSUPP"}
 NUMBERS = {name: number for number, name in NAMES.items()}
@@ -38,6 +40,13 @@ def payload(word):
     return f"b{data.hex()} n{len(data)}"
 
 
+def entries(words):
+    """A struct watch_notification_filter. Its entries have a type, two words for `info`, and eight of subtypes."""
+    rows = [[int(it, 16) for it in word.split(":")] for word in words]
+    return "b" + struct.pack("II", len(rows), 0).hex() + "".join(
+        struct.pack("11I", *row, *[0] * 7).hex() for row in rows)
+
+
 # Of each word of a script the call, where ID, TEXT, DATA and the like stand for what the words say.
 CALLS = {
     "add": ("add", text, text, payload, "id"), "newring": ("add", b"keyring", text, "z n0", "id"),
@@ -49,9 +58,11 @@ CALLS = {
     "search": ("keyctl n10", "id", text, text, "to"), "print": ("keyctl n11", "id", "o"),
     "timeout": ("keyctl n15", "id", "number"), "invalidate": ("keyctl n21", "id"),
     "restrict": ("keyctl n29", "id", "name", "z"), "move": ("keyctl n30", "id", "id", "id", "flag"),
+    "watch": ("keyctl n32", "id", "queue", "watch"), "readq": ("read", "queue", "o"),
+    "filter": ("ioctl", "queue", f"n{SET_FILTER}", "entries"),
 }
 NUMBERED = {"add", "newring", "request", "id", "join", "search", "hello", "thread", "fork"}
-BYTES = {"print", "rdescribe"}
+BYTES = {"print", "rdescribe", "readq"}
 
 
 def call_of(word, words, serial):
@@ -68,6 +79,12 @@ def call_of(word, words, serial):
             said.append(f"n{serial(rest.pop(0)) if rest else 0}")
         elif part == "number":
             said.append(f"n{rest.pop(0)}")
+        elif part == "queue":
+            said.append(f"n{QUEUES[int(rest.pop(0)) - 1]}")
+        elif part == "watch":
+            said.append(f"n{rest.pop(0).replace('off', '-1')}")
+        elif part == "entries":
+            said.append(entries(rest))
         elif part == "mask":
             said.append(f"n{int(rest.pop(0), 16)}")
         elif part == "name":
@@ -83,6 +100,27 @@ def call_of(word, words, serial):
 def serials(data, order):
     """The serials of a keyring, in a machine's order of bytes."""
     return [it for it, in struct.iter_unpack(f"{order}I", data)] if len(data) % 4 == 0 else None
+
+
+def records(data, order):
+    """Notes, each a tuple of type and subtype, info, and up to two words behind: linux/watch_queue.h."""
+    found = []
+    while data:
+        length = max(8, data[4] & 0x7F) if len(data) > 4 else 8
+        found.append(struct.unpack(f"{order}{length // 4}I", data[:length]))
+        data = data[length:]
+    return found
+
+
+def has_notes():
+    """Whether this kernel has pipes of notes, and so CONFIG_WATCH_QUEUE."""
+    try:
+        ends = os.pipe2(os.O_EXCL)
+    except OSError:
+        return False
+    for it in ends:
+        os.close(it)
+    return True
 
 
 class Calls:
@@ -132,6 +170,9 @@ class Calls:
     def control(self, context, word):
         self.say(context, word)
 
+    def fill(self, context, count, ring):
+        return self.say(context, f"fill {count} {ring}")[0]
+
     def answer(self, context, word, words, serial):
         """What a line is answered."""
         value, data = self.say(context, call_of(word, words, serial))
@@ -159,6 +200,11 @@ class Kernel(Calls):
                     file.write(MAPS)
         self.ends[0].send(b"g")
         self.receive(0)
+        self.notes = has_notes()
+        for it in QUEUES if self.notes else ():  # all contexts inherit them
+            if self.say(0, f"pipe2 p n{os.O_EXCL | os.O_NONBLOCK}")[0] or self.say(
+                    0, f"ioctl n{it} n{SET_SIZE} n{CAPACITY}")[0]:
+                raise Lost("a pipe of notes")
         self.helper = self.make(0, "fork")
         self.inherits = self.has_session()
         self.sentinels = self.say(self.helper, "keyctl n1 z")[0]
@@ -218,7 +264,7 @@ class Kernel(Calls):
 
 
 class Script:
-    """`keyretain script`, by its lines. A context is named by its number, and `here` is the current one."""
+    """`keyretain script`, by its lines. A context is named by its number, and `current` is the current one."""
 
     def __init__(self, program):
         pipes = {"stdin": subprocess.PIPE, "stdout": subprocess.PIPE, "stderr": subprocess.DEVNULL}
@@ -247,6 +293,8 @@ class Script:
             return said.split(b" ")[2].decode()
         if word in NUMBERED:
             return int(said)
+        if word == "readq":
+            return bytes.fromhex(said.decode())
         if word in BYTES:
             return bytes.fromhex(said[5:].decode()) if said.startswith(b":hex:") else said
         return None
@@ -260,6 +308,11 @@ class Script:
 
     def control(self, context, word):
         self.answer(context, word, [], None)
+
+    def fill(self, context, count, ring):
+        """Adds so many keys f0, f1 .. to a keyring. Returns how many were refused."""
+        self.answer(context, "rdescribe", [str(ring)], None)
+        return sum(self.say(f"add user f{at} v {ring}").startswith(b"error") for at in range(count))
 
     def set_moment(self, moment):
         self.say(f"moment {moment}")

@@ -25,6 +25,9 @@ class Key:
     kept: bool = False  # whether it was a thread, process or session keyring when it was invalidated
     changed: bool = False  # its mask or owner
     regrouped: bool = False
+    watched: bool = False
+    watches: bool = False  # whether it was a thread, process or session keyring of who set a watch
+    full: bool = False
     uid_of: int | None = None  # the user whose it is
     links: dict = field(default_factory=dict)  # of a keyring, by type and name
 
@@ -73,7 +76,7 @@ class World:
     @property
     def keeps(self):
         """Whether Linux may keep what is gone here."""
-        return self.executed or self.left or bool(self.outlived) or any(key.kept for key in self.keys)
+        return self.executed or self.left or bool(self.outlived) or any(key.kept or key.watches for key in self.keys)
 
     # ---- What words stand for
 
@@ -308,6 +311,12 @@ class World:
 
     def do_restrict(self, words, _):
         self.key(words[0]).closed = True
+
+    def do_watch(self, words, _):
+        self.making(words[0])
+        self.key(words[0]).watched = True
+        for key in next(self.levels()):
+            key.watches = key.watches or words[2] != "off"
 
     def do_search(self, words, key):
         if len(words) > 3 and words[3] != "0" and isinstance(key, Key):
