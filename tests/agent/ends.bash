@@ -228,7 +228,8 @@ try_started() {
   one_goes 'an agent whose caller ignores SIGCHLD'
   until_true has_no_containers
   one_goes 'the next container, of one at a time'
-  is_root && is 'a standard input that was closed' /dev/null "$(readlink "/proc/$agent/fd/0")"
+  where is_root 'a standard input that was closed: only root may look' \
+    is 'a standard input that was closed' /dev/null "$(readlink "/proc/$agent/fd/0")"
   end_by INT "$agent"
   is 'an agent that is interrupted' 0 "$status"
   is 'what it leaves' '' "$(ls "$folder")"
@@ -285,8 +286,8 @@ try_strange_numbers() {
   is_root || apart=(unshare --user --map-root-user --pid --fork --kill-child)
   "${apart[@]}" true 2>/dev/null ||
     { skipped 'an agent whose /proc has other numbers: no PID namespace may be made'; return; }
-  timeout "$patience" "${apart[@]}" "$dir/$variant/keyretain-agent" --daemon "$keyretaind" --socket "$dir/other.sock" \
-    --folder "$dir/other" >/dev/null 2>>"$dir/$variant.err" </dev/null
+  timeout -k 1 "$patience" "${apart[@]}" "$dir/$variant/keyretain-agent" --daemon "$keyretaind" \
+    --socket "$dir/other.sock" --folder "$dir/other" >/dev/null 2>>"$dir/$variant.err" </dev/null
   is 'an agent whose /proc has other numbers' 3 "$?"
 }
 
@@ -393,7 +394,8 @@ try_rights() {
   else
     is 'who looks into an agent' 'no no no' "$(looks_into "$agent") $(looks_into "$server") $(looks_into "$keeper")"
   fi
-  ! is_root || is "descriptors of a server that aren't its own" '' "$(foreign_descriptors "$server")"
+  where is_root "descriptors of a server that aren't its own: only root may look" \
+    is "descriptors of a server that aren't its own" '' "$(foreign_descriptors "$server")"
   end_container 'a container that was looked at' ''
 }
 

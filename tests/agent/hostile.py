@@ -60,11 +60,12 @@ def main(path, seed):
     sends(path, 'more than a mebibyte', b'{"a":"' + b'x' * (1 << 20))
     sends(path, 'a text of a mebibyte, and nothing more', b'{"a":"' + b'x' * ((1 << 20) - 7))
     sends(path, 'an object, and then much', GOOD + b'x' * 100000, [null])
-    client = connect(path)
-    compare('a silent one', True, has_ended(client))
-    drips(path)
+    is_ended = has_ended(connect(path))
+    compare('a silent one', True, is_ended)
+    if is_ended:  # else each of those to come is waited for
+        drips(path)
+        many_silent(path)
     descriptors_in_pieces(path, null)
-    many_silent(path)
     for _ in range(200):
         data = bytearray(GOOD)
         for _ in range(some.randrange(6)):

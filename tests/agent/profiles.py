@@ -1,12 +1,13 @@
 """profiles.py SCRIPT: what keyretain-seccomp makes of profiles: each call but the three keeps its rules, and pipe2(2)
 and ioctl(2) do where they aren't for pipes of notes."""
+import itertools
 import json
 import os
 import subprocess
 import sys
 import tempfile
 
-from compare import compare, conclude
+from compare import compare, conclude, write
 
 CALLS = {'add_key', 'request_key', 'keyctl'}
 # Second arguments: those for pipes of notes (O_NOTIFICATION_PIPE; IOC_WATCH_QUEUE_SET_SIZE and _SET_FILTER), others.
@@ -47,22 +48,23 @@ def rules_of(profile):
     return rules
 
 
-def matching(profile, call, second):
-    """What the rules say that match a call with this second argument, and with 0 as the others."""
+def matching(profile, call, *given):
+    """What the rules say that match a call with these arguments."""
     for name, rest in each_rule(profile):
-        arguments = rest.pop('args', None) or []
-        if name == call and all(HOLDS[at['op']](second if at['index'] == 1 else 0, at) for at in arguments):
+        if name == call and all(HOLDS[at['op']](given[at['index']], at) for at in rest.pop('args', None) or []):
             yield rest
 
 
 def try_second(name, before, after):
     for call, (of_notes, others) in OF_NOTES.items():
-        for second in of_notes:
-            rules = [rule for rule in matching(after, call, second) if rule not in LOOKS]
-            compare(f'{name}: {call} {second:x}', [{'action': 'SCMP_ACT_NOTIFY'}], rules)
-        for second in others:
-            compare(f'{name}: {call} {second:x}', list(matching(before, call, second)),
-                    list(matching(after, call, second)))
+        for given in itertools.product((0, 1), of_notes):
+            rules = [rule for rule in matching(after, call, *given) if rule not in LOOKS]
+            compare(f'{name}: {call} {given[1]:x}', [{'action': 'SCMP_ACT_NOTIFY'}], rules)
+        for given in itertools.product((0, 1), others):
+            compare(f'{name}: {call} {given[1]:x}', list(matching(before, call, *given)),
+                    list(matching(after, call, *given)))
+    indices = [[at['index'] for at in rest.get('args') or []] for _, rest in each_rule(after)]
+    compare(f'{name}: arguments that a rule names twice', [], [it for it in indices if len(it) > len({*it})])
 
 
 def try_profile(script, name, profile):
@@ -71,7 +73,7 @@ def try_profile(script, name, profile):
     after = json.loads(got.stdout)
     rules, before = rules_of(after), rules_of(profile)
     handed_over = ['{"action": "SCMP_ACT_NOTIFY"}']
-    compare(f'{name}: the three calls', True, all(rules.pop(call) == handed_over for call in CALLS))
+    compare(f'{name}: the three calls', True, all([rules.pop(call, None) == handed_over for call in CALLS]))
     try_second(name, profile, after)
     compare(f'{name}: all others', {call: rule for call, rule in before.items() if call not in CALLS}, rules)
     compare(f'{name}: the agent', ('/a', 'keyretain with notes'),
@@ -87,11 +89,13 @@ LOOKS = [{'action': 'SCMP_ACT_LOG', 'looks': True}]
 def try_environment(script):
     """It may be another user's, as after su(1)."""
     with tempfile.TemporaryDirectory() as folder:
-        with open(os.path.join(folder, 'argparse.py'), 'w', encoding='utf-8') as file:
-            file.write('raise SystemExit("the code of another user")\n')
-        environment = {**os.environ, 'PYTHONPATH': folder}
+        write(f'{folder}/argparse.py', 'raise SystemExit("the code of another user")\n')
+        os.mkdir(f'{folder}/LC_MESSAGES')
+        with open(f'{folder}/LC_MESSAGES/messages.mo', 'wb') as file:
+            file.write(b'\xde\x12\x04\x95')  # what tells of messages is broken off behind it
+        environment = {**os.environ, 'PYTHONPATH': folder, 'LANGUAGE': folder}
         got = subprocess.run([script, '--help'], env=environment, capture_output=True, text=True)
-    compare(f'a variable that names a folder: {got.stderr}', 0, got.returncode)
+    compare(f'variables that name a folder: {got.stderr}', 0, got.returncode)
 
 
 def main(script):

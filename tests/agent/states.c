@@ -102,6 +102,21 @@ static void try_states(void) {
         check(not_taken[i].name, !read_container_state(not_taken[i].text, strlen(not_taken[i].text), &state));
 }
 
+/* A process id beyond those that there are is none, as 0 and what is no number. */
+static void try_first(void) {
+    static const struct {
+        const char *text;
+        int first;
+    } ids[] = { { "7", 7 }, { "2147483647", 2147483647 }, { "2147483648", 0 }, { "4294967303", 0 }, { "-7", 0 },
+                { "0", 0 }, { "\"7\"", 0 } };
+    for (size_t i = 0; i < sizeof ids / sizeof *ids; i++) {
+        struct container_state state;
+        char text[128];
+        snprintf(text, sizeof text, FIRST "\"state\":{\"id\":\"a\",\"pid\":%s}}", ids[i].text);
+        check(text, read_container_state(text, strlen(text), &state) && state.first == ids[i].first);
+    }
+}
+
 /* Ids of 255 and of 256 bytes; objects that are nested 32 and 33 deep. */
 static void try_limits(void) {
     struct container_state state;
@@ -169,6 +184,7 @@ static void try_scans(void) {
 
 int main(void) {
     try_states();
+    try_first();
     try_limits();
     try_much();
     try_scans();

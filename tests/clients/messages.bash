@@ -50,9 +50,11 @@ try_words_of_programs() {
   says 'a word of the keeper' 2 'no option: x' "$dir/c/keyretain-keeper" x
   lists keyretain-session '--join' '--syscalls' '-h, --help'
   lists keyretain-keeper '--name NAME' '--hold RING' '--socket PATH' '--deaf' '--no-link'
-  [ -x "$dir/c/keyretain-agent" ] || return
+  [ -x "$dir/c/keyretain-agent" ] || { skipped 'words of the agent: no jansson.h (libjansson-dev)'; return; }
   lists keyretain-agent '--socket PATH' '--folder PATH' '--daemon PROGRAM' '--containers N' '--memory MEBIBYTES'
   says 'a number of the agent' 2 'no number from 1 to 4096: x' "$dir/c/keyretain-agent" --containers x
+  says 'no containers' 2 'no number from 1 to 4096: 0' "$dir/c/keyretain-agent" --containers 0
+  says 'a word of the agent' 2 'no option: x' "$dir/c/keyretain-agent" x
 }
 
 try_faults() {
