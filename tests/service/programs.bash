@@ -93,6 +93,8 @@ try_causes() {
     'DATA is pairs of hexadecimal digits behind hex:')" --socket "$path" update 5 hex:secret </dev/null
   tells 'a payload in place of a keyring' "$(two 'not as it is used: add TYPE DESC DATA RING' "RING is $key")" \
     --socket "$path" add user t @u secret </dev/null
+  tells 'a payload in place of a key' "$(two 'not as it is used: update KEY DATA' "KEY is $key")" \
+    --socket "$path" update secret 5 </dev/null
   tells 'a line that is no command' \
     "$(two 'line 2: no such command: \x1b[31mh\xe9' 'keyretain --help lists the commands')" \
     script < <(printf 'hello 1 1\n\033[31mh\351 5\n')

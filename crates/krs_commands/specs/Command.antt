@@ -1,12 +1,16 @@
 -- The commands of a client, a row each: keyretain(1), "Commands".
-use Rattle.std.specs.Prelude.{[], ◌++◌, ◌∷◌, ◌≡◌, Bool, bytes_eq, codes, false, find, if◌then◌else◌, List, map, None}
-use Rattle.std.specs.Prelude.{Option, pos, Some, true, ℕ, ℤ}
+use Rattle.std.specs.Prelude.{[], ◌++◌, ◌||◌, ◌∷◌, ◌≡◌, Bool, bytes_eq, codes, false, find, if◌then◌else◌, List, map}
+use Rattle.std.specs.Prelude.{None, Option, pos, Some, true, ℕ, ℤ}
 use Rattle.krs_types.specs.{Caller.unchanged, declared.ask.Op.Op}
 use Rattle.krs_words.specs.Number.{data_of, hexadecimal_of, key_of, u32_of, u32s_of, u64_of, watch_id_of}
 use Rattle.krs_words.specs.Parsed.{◌>>=◌}
 use Rattle.krs_commands.specs.{Entry.entries_of, declared.command.Command.Command}
 use Rattle.krs_commands.specs.declared.command.Command.TheVariants as command
 use Rattle.krs_types.specs.declared.ask.Op.TheVariants as op
+
+-- `add` and `update` have a payload among their words
+abbrev pub has_payload : List ℕ → Bool
+has_payload first = bytes_eq first (codes "add") || bytes_eq first (codes "update")
 
 -- what one word says, read so
 abbrev pub one_of : {A : Type 0} → (List ℕ → Option A) → List (List ℕ) → Option A

@@ -1,4 +1,6 @@
 //! How commands are used, and which word of one isn't as it is used.
+ghost use Rattle.std.specs.Prelude.{[], ◌≡◌, get_or, IfSome, map, None, true};
+ghost use Rattle.krs_commands.specs.Command.{has_payload};
 
 use crate::commands;
 use krs_words::{hexadecimal_word, key_word, u32_word, u64_word, watch_word};
@@ -15,7 +17,8 @@ const USAGES: [(&str, &str); 34] = commands!(usages);
 /// A word that isn't what stands at its place in the usage of its command.
 #[derive(Clone, Copy)]
 pub struct Misfit<'a> {
-    pub word: &'a [u8],
+    /// None where a word of its command is a payload: whichever it is, it may be told to nobody.
+    pub word: Option<&'a [u8]>,
     /// What stands at its place, such as `KEY`.
     pub place: &'static [u8],
 }
@@ -47,11 +50,33 @@ pub fn usage_of(word: &[u8]) -> &'static [u8] {
 
 /// The first of the words behind a first word that isn't what stands at its place. Where there are too few or too many,
 /// none is.
-pub fn first_misfit<'a>(words: &[&'a [u8]]) -> Option<Misfit<'a>> {
-    let [first, words @ ..] = words else {
+pub fn first_misfit<'a>(words: &[&'a [u8]]) -> Option<Misfit<'a>>
+    ensures unquoted { has_payload (get_or (map (λ word. word.now) words.now) 0 []) ≡ true
+        → IfSome result (λ found. found.word ≡ None) }
+{
+    let [first, behind @ ..] = words else {
         return None;
     };
-    let mut left = words;
+    let found = misfit_behind(first, behind)?;
+    if has_payload(first) {
+        return Some(Misfit {
+            word: None,
+            ..found
+        });
+    }
+    Some(found)
+}
+
+/// Whether a word of such a command is a payload.
+fn has_payload(first: &[u8]) -> bool
+    ensures { result ≡ has_payload first.now }
+{
+    first == b"add".as_slice() || first == b"update".as_slice()
+}
+
+/// The same of the words behind a first word.
+fn misfit_behind<'a>(first: &[u8], behind: &[&'a [u8]]) -> Option<Misfit<'a>> {
+    let mut left = behind;
     let mut place: &'static [u8] = b"";
     for form in usage_of(first).split(|byte| *byte == b' ') {
         let form = bare(form);
@@ -64,7 +89,10 @@ pub fn first_misfit<'a>(words: &[&'a [u8]]) -> Option<Misfit<'a>> {
                 return None;
             };
             if !fits(place, word) {
-                return Some(Misfit { word, place });
+                return Some(Misfit {
+                    word: Some(word),
+                    place,
+                });
             }
             left = more;
         }
@@ -76,7 +104,10 @@ pub fn first_misfit<'a>(words: &[&'a [u8]]) -> Option<Misfit<'a>> {
 fn misfit_among<'a>(words: &[&'a [u8]], place: &'static [u8]) -> Option<Misfit<'a>> {
     for word in words {
         if !fits(place, word) {
-            return Some(Misfit { word, place });
+            return Some(Misfit {
+                word: Some(word),
+                place,
+            });
         }
     }
     None

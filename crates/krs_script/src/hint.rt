@@ -83,22 +83,17 @@ fn elsewhere(first: &[u8]) -> &'static [u8] {
     FITS_NO_FRAME
 }
 
-/// Which word isn't what stands at its place, if one is. Where one of the words is a payload, none is quoted.
+/// Which word isn't what stands at its place, if one is.
 fn push_misfit(text: &mut Vec<u8>, words: &[&[u8]]) -> Result<(), AllocError> {
     let Some(found) = first_misfit(words) else {
         return Ok(());
     };
     text.extend_from_slice(b"\nkeyretain: ")?;
-    if !has_payload(first_of(words)) {
-        push_quoted(text, found.word)?;
+    if let Some(word) = found.word {
+        push_quoted(text, word)?;
         text.extend_from_slice(b" is none: ")?;
     }
     text.extend_from_slice(found.place)?;
     text.extend_from_slice(b" is ")?;
     text.extend_from_slice(found.wanted().as_bytes())
-}
-
-/// Whether one of the words of this command is a payload.
-fn has_payload(first: &[u8]) -> bool {
-    first == b"add".as_slice() || first == b"update".as_slice()
 }
