@@ -29,12 +29,12 @@ impl Latest {
     fn begin(&self, time: u64, steady: u64) -> u64
         ensures { time / 1000 ≤ result }
     {
-        let lead = self.lead.load(Ordering::Relaxed);
+        let lead = self.lead.load(Ordering::SeqCst);
         let time = time.max(steady.saturating_add(lead));
         let seconds = self.meet(time / 1000);
         let known = time.max(seconds.saturating_mul(1000));
         self.lead
-            .fetch_max(known.saturating_sub(steady), Ordering::Relaxed);
+            .fetch_max(known.saturating_sub(steady), Ordering::SeqCst);
         seconds
     }
 
@@ -42,11 +42,11 @@ impl Latest {
     fn meet(&self, seconds: u64) -> u64
         ensures { seconds ≤ result }
     {
-        let known = self.seconds.load(Ordering::Relaxed);
+        let known = self.seconds.load(Ordering::SeqCst);
         if known >= seconds {
             return known;
         }
-        let before = self.seconds.fetch_max(seconds, Ordering::Relaxed);
+        let before = self.seconds.fetch_max(seconds, Ordering::SeqCst);
         before.max(seconds)
     }
 }
