@@ -17,6 +17,7 @@ import foreign
 from places import compare, compare_all
 import rows
 import vectors
+import wanting
 
 sys.path.insert(0, f"{rows.TOP}/tests/kernel")
 import rules as kernel_rules  # noqa: E402
@@ -260,6 +261,11 @@ def try_unsafe():
             sorted(sum(ends, [])))
 
 
+def try_wanting():
+    """Contracts let ENOMEM stand in place of many answers. So who answers it without a callee that did is known."""
+    compare_all("who answers that memory ran out", wanting.KNOWN, wanting.makers())
+
+
 def try_bodies():
     compare("wrong bodies that can't be applied", {}, bodies.misfits())
     compare("wrong lines that can't be applied", {}, bodies.misfit_lines())
@@ -267,7 +273,7 @@ def try_bodies():
 
 
 for case in (try_definitions, try_format, try_lists, try_profile, try_pages, try_python, try_admission, try_bench,
-             try_types, try_foreign, try_waiting, try_unsafe, try_bodies):
+             try_types, try_foreign, try_waiting, try_unsafe, try_wanting, try_bodies):
     attempt(case)
 if os.access(KEYRETAIN, os.X_OK):
     try_help()
