@@ -4,6 +4,8 @@
 
 #include <sys/auxv.h>
 
+enum { ENDING_MILLISECONDS = 20 };
+
 static bool is_in_container;
 
 void admission_begin(bool is_container, pid_t first) {
@@ -68,13 +70,16 @@ void admission_put_first(struct kr_identity *identity) {
 
 /* ---- Sessions ---- */
 
-/* Who has begun it, as that one is now, where it still holds it. What can't be read of it is all zero. */
+/* Who has begun it, as that one is now, where it still holds it. What can't be read of it is all zero. Who ends has no
+ * memory any more a moment before it has ended, unless a file that it closes has it wait. */
 static bool read_beginner(const struct session *session, struct admission_process *beginner) {
     const struct process *process = session->beginner;
     struct proc_status status;
     if (!process || process->first->session != session) return false;
     if (proc_read_status(process->id, &status)) admission_read(beginner, process->id, &status);
-    return !proc_has_ended(process->descriptor);
+    struct pollfd end = { process->descriptor, POLLIN, 0 };
+    bool may_end = !beginner->has_auxv && process->memory >= 0 && memory_is_gone(process->memory);
+    return poll(&end, 1, may_end ? ENDING_MILLISECONDS : 0) != 1;
 }
 
 /* Whether there is one, of which this is told then. */

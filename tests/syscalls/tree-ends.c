@@ -206,6 +206,28 @@ static int ask_in_vain(int count) {
     return puts(keyctl(KEYCTL_DESCRIBE, (unsigned long)kept, 0, 0, 0) > 0 ? "kept" : "gone") < 0;
 }
 
+/* So many that have begun sessions end, and nobody reaps them, while all that they leave ask for the first time. How
+ * many of these have the session. */
+static int end_together(int count) {
+    enum { CHILDREN = 8 };
+    int kept = 0;
+    begin();
+    for (int i = 0; i < count; i++)
+        if (fork() == 0) {
+            long joined = join(NULL);
+            bool is_left = false;
+            for (int child = 0; joined > 0 && !is_left && child < CHILDREN; child++) is_left = fork() == 0;
+            if (!is_left) give(joined);
+            wait_at_gate();
+            if (!is_left) _exit(0);
+            end_with(has_session(joined));
+        }
+    for (int i = 0; i < count; i++) take();
+    close(gates[1]);
+    for (int i = 0; i < CHILDREN * count; i++) kept += take().value == 1;
+    return printf("%d of %d\n", kept, CHILDREN * count) < 0;
+}
+
 /* Has its parent trace it, for which each signal stops it. */
 static int ask_for_tracing(void) { return ptrace(PTRACE_TRACEME, 0, 0, 0) == 0 && raise(SIGCONT) == 0 ? 7 : 2; }
 
@@ -220,6 +242,7 @@ int ends_modes(const char *mode, int many, int count, char **words) {
     if (strcmp(mode, "often") == 0) return ask_often(many);
     if (strcmp(mode, "long") == 0) return ask_at_length(many);
     if (strcmp(mode, "in-vain") == 0) return ask_in_vain(many);
+    if (strcmp(mode, "together") == 0) return end_together(many);
     if (strcmp(mode, "traced") == 0) return ask_for_tracing();
     return -1;
 }
