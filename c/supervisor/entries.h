@@ -50,8 +50,7 @@ struct standing {
     bool is_lost;                      /* the session */
     bool has_joined;                   /* it is the one in which the thread itself has joined that session */
     bool may_have_thread_keyring, may_have_process_keyring; /* by what the daemon has answered */
-    bool is_elsewhere;                 /* in another user namespace, when it was made */
-    struct admission_process made_for; /* what was judged then */
+    struct admission_process made_for; /* what was judged then; in another user namespace nobody has executed it */
 };
 
 enum kind { PROCESS, TASK };

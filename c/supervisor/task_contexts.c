@@ -31,9 +31,8 @@ struct standing *find_standing(struct task *task, const struct user *user, const
     const struct admission_process *now = &asker->process;
     bool stays = krs_admission_c_stays(now, user->identity.uid, asker->revokes);
     return FIND_STANDING(task, at,
-                         at->user == user && (at->has_joined ? stays
-                                                             : at->is_elsewhere == asker->is_elsewhere &&
-                                                                   memcmp(&at->made_for, now, sizeof *now) == 0));
+                         at->user == user &&
+                             (at->has_joined ? stays : memcmp(&at->made_for, now, sizeof *now) == 0));
 }
 
 /* A place for one more; the one that asked longest ago makes room, but for the first. */
@@ -78,7 +77,6 @@ struct standing *have_standing(struct task *task, struct user *user, struct admi
         standing = is_first ? make_first_standing(task, user, admitted) : make_task_standing(task, user, admitted);
     if (!standing) return NULL;
     memcpy(&standing->made_for, &asker->process, sizeof standing->made_for);
-    standing->is_elsewhere = asker->is_elsewhere;
     return standing;
 }
 
