@@ -6,6 +6,7 @@
 #include <sched.h>
 #include <sys/epoll.h>
 #include <sys/mman.h>
+#include <sys/prctl.h>
 #include <sys/resource.h>
 
 #include "check.h"
@@ -13,7 +14,7 @@
 #include "library/connection.h"
 #include "supervisor/serve.h"
 
-enum { NUMBER = 100, THREAD = 200, MOST_DESCRIPTORS = 256 };
+enum { NUMBER = 100, THREAD = 200, BESIDE = 300, MOST_DESCRIPTORS = 256, SOMEBODY = 4105, AWAY };
 
 static char *shared_byte; /* at one address in all processes, and each has its own */
 static pid_t successor;
@@ -201,6 +202,117 @@ static void try_thread_reuse(void) {
     end_child(child);
 }
 
+/* ---- Another user ---- */
+
+static void hide(int unused) {
+    (void)unused;
+    if (prctl(PR_SET_DUMPABLE, 0) < 0 || write(reports[1], "h", 1) != 1) _exit(2);
+}
+
+/* A child of another user's, with the tag, which that one may trace until SIGUSR1; or 0. */
+static pid_t begin_somebody(pid_t number) {
+    pid_t child = fork_as(number);
+    if (child > 0) return has_begun() ? child : 0;
+    bool is_it = signal(SIGUSR1, hide) != SIG_ERR && setrlimit(RLIMIT_LOCKS, &tag) == 0 &&
+                 setresuid(SOMEBODY, SOMEBODY, SOMEBODY) == 0 && prctl(PR_SET_DUMPABLE, 1) == 0 &&
+                 write(reports[1], "b", 1) == 1;
+    while (is_it) pause();
+    _exit(2);
+}
+
+static long joined_by(pid_t child) {
+    long joined = enter(child, always) ? ask(KEYCTL_JOIN_SESSION_KEYRING, 0, 0) : -1;
+    tracees_leave();
+    return joined;
+}
+
+/* The same: what is begun from now on has its tag. */
+static long tagged_by(pid_t child) {
+    long joined = joined_by(child);
+    const struct process *process = find_process(child);
+    if (joined > 0 && process) tag = (struct rlimit){ process->first->session->tag, RLIM_INFINITY };
+    return joined;
+}
+
+/* Whether another one that has the tag is in that session. */
+static bool is_let_in(long joined) {
+    pid_t beside = begin_somebody(BESIDE);
+    bool is_in = enter(beside, always) && ring(KEY_SPEC_SESSION_KEYRING, 0) == joined;
+    tracees_leave();
+    end_child(beside);
+    return is_in;
+}
+
+/* By who has begun a session it is judged whom its tag lets in: as that one is now, while it is in it. */
+static void try_beginner(void) {
+    pid_t child = begin_somebody(NUMBER);
+    long joined = tagged_by(child);
+    check("the tag of another user's session lets that one in", joined > 0 && is_let_in(joined));
+    check("who has begun it can't be traced any more", kill(child, SIGUSR1) == 0 && has_begun());
+    check("then its tag lets nobody in", !is_let_in(joined));
+    check("but where who has begun it has left it", joined_by(child) > 0 && is_let_in(joined));
+    end_child(child);
+    joined = tagged_by(child = begin_somebody(NUMBER));
+    end_child(child);
+    child = begin_somebody(NUMBER);
+    check("another has the number of who has begun one", kill(child, SIGUSR1) == 0 && has_begun());
+    check("that one isn't looked at for its tag", joined > 0 && is_let_in(joined));
+    end_child(child);
+}
+
+/* What a user has left that has no process any more is given up, and not while a process has any of its uids. */
+static void try_away(void) {
+    static const uid_t uids[][3] = { { AWAY, AWAY, AWAY }, { AWAY, 0, 0 }, { 0, AWAY, 0 }, { 0, 0, AWAY } };
+    static const char *const names[] = { "all uids", "the real uid", "the effective uid", "the saved uid" };
+    for (int i = 0; i < 4; i++) {
+        pid_t child = fork_as(BESIDE);
+        bool is_it = child == 0 && setresuid(uids[i][0], uids[i][1], uids[i][2]) == 0;
+        while (is_it && write(reports[1], "b", 1) == 1) pause();
+        if (child == 0) _exit(2);
+        bool is_there = has_begun() && (i > 0 || (enter(child, always) && ring(KEY_SPEC_USER_KEYRING, 0) > 0));
+        struct process *process = find_process(child);
+        tracees_leave();
+        check(names[i], is_there && !users_give_up_keys());
+        end_child(child);
+        if (process) entries_ended(process);
+        usleep(1100000); /* it is looked once a second */
+    }
+    check("no uid", users_give_up_keys());
+}
+
+/* Who knows its number may not end the session by which connections know their daemon, also when there was another. */
+static void try_mark(void) {
+    const struct session *first = sessions_first();
+    struct kr *connection = context_connection(&first->holder), *other = contexts_open_apart();
+    check("another connection is to that daemon", other != NULL);
+    check("nobody ends the mark",
+          refused(kr_invalidate(connection, first->holder.number, first->serial - 1), EACCES));
+    kr_close(other);
+}
+
+static bool put_map(pid_t process, const char *name) {
+    char path[64];
+    snprintf(path, sizeof path, "/proc/%d/%s", (int)process, name);
+    int file = open(path, O_WRONLY);
+    bool is_put = write(file, "0 0 1", 5) == 5;
+    return close(file) == 0 && is_put;
+}
+
+/* In a container whose user namespace has root alone. */
+static void try_unmapped(void) {
+    pid_t first = fork_as(BESIDE);
+    while (first == 0) unshare(CLONE_NEWUSER) == 0 && write(reports[1], "b", 1) == 1 ? pause() : _exit(2);
+    pid_t child = begin_somebody(NUMBER);
+    check("a container begins", has_begun() && put_map(first, "uid_map") && put_map(first, "gid_map"));
+    maps_begin(first);
+    check("who has no number there is not served", !enter(child, always));
+    maps_begin(0);
+    check("and is elsewhere", enter(child, always));
+    tracees_leave();
+    end_child(child);
+    end_child(first);
+}
+
 /* The answer to a call that was interrupted is that call's alone, and is given once. */
 static void try_replay(void) {
     struct replay replay = { 0 };
@@ -257,5 +369,7 @@ int main(void) {
     try_session_of_stranger();
     try_tag_of_stranger();
     try_thread_reuse();
+    try_mark();
+    if (setegid(SOMEBODY) == 0 && setegid(0) == 0) try_beginner(), try_unmapped(), try_away();
     return conclude("binding");
 }
