@@ -20,8 +20,12 @@ def try_found():
     with daemon():
         found = [one for one in backend.get_all_keyring() if type(one).__module__ == NAME]
         compare("it is found", 1, len(found))
-        compare("its priority", True, type(found[0]).priority < 5 and type(found[0]).viable)
-    kind = type(found[0])
+        kind = type(found[0])
+        for name in ("DBUS_SESSION_BUS_ADDRESS", "XDG_RUNTIME_DIR", "DISPLAY"):
+            os.environ.pop(name, None)
+        compare("its priority, without a session bus", (5.5, True), (kind.priority, kind.viable))
+        os.environ["DBUS_SESSION_BUS_ADDRESS"] = "unix:path=/nonexistent"
+        compare("its priority beside others", (4.5, True), (kind.priority, kind.viable))
     compare("no socket: it can't be used", False, kind.viable)
     compare("and isn't among those that can", [], [one for one in backend.KeyringBackend.get_viable_backends()
                                                    if one.__module__ == NAME])

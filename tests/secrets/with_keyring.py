@@ -1,5 +1,6 @@
 """with_keyring.py: Python's keyring. Its backend SecretService wants the collection default where it is told of no
 other: `preferred_collection` names one. Where keyretain-secrets has no default, the daemon's backend comes first."""
+import os
 import sys
 
 from stage import SESSION_COLLECTION, bus, compare, conclude, daemon, outcome, run, secrets
@@ -33,6 +34,9 @@ def chosen():
     return run([sys.executable, "-B", "-c", words])[1].decode().strip()
 
 
+del os.environ["DBUS_SESSION_BUS_ADDRESS"]
+with daemon():
+    compare("the backend without a session bus", "keyretain.credentials.backend", chosen())
 for options, backend in (((), "keyretain.credentials.backend"), (("--default",), "keyring.backends.SecretService")):
     with daemon(), bus(), secrets(*options):
         name = f"the command, {' '.join(options) or 'no default'}"

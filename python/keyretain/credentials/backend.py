@@ -17,14 +17,18 @@ from .helper import words_of
 from .locker import Entry, Locker
 
 KEYRING = "python-keyring"
-# Below backends that keep what they are given over a restart, which have 5. But above the one that would ask
-# keyretain-secrets(1), and not find the collection `default` there.
+# Below backends that keep what they are given over a restart, which have 4.8 or 5. But above these where they would
+# ask keyretain-secrets(1), and not find the collection `default` there, or no bus.
 PRIORITY, WITHOUT_DEFAULT = 4.5, 5.5
 SECONDS = 2  # that the session bus has to answer
 
 
 def _is_without_default() -> bool:
-    """Whether the session bus's secrets are keyretain-secrets', without `default`. What isn't running isn't started."""
+    """Whether there is no session bus, or its secrets are keyretain-secrets', without `default`. What isn't running
+    isn't started."""
+    places = os.environ.get("DBUS_SESSION_BUS_ADDRESS"), os.environ.get("DISPLAY")  # by the second one is started
+    if not any(places) and not os.path.exists(f"{os.environ.get('XDG_RUNTIME_DIR', '')}/bus"):
+        return True
     try:
         from jeepney import DBusAddress, MessageFlag, new_method_call  # pylint: disable=import-outside-toplevel
         from jeepney.io.blocking import open_dbus_connection  # pylint: disable=import-outside-toplevel
