@@ -149,7 +149,9 @@ static void read_options(int count, char **words) {
         if (option == 'c' || option == 's') is_csh = option == 'c';
         if (option == 'D' || option == 'd') stays = true;
         if (option == 'k') kills = true;
-        if (option == '?' || (option == 't' && !(lifetime = seconds_of(optarg)))) break;
+        if (option == 't' && !(lifetime = seconds_of(optarg)))
+            warnx("no lifetime: %s: seconds, or a number with s, m, h, d or w behind it", optarg), option = '?';
+        if (option == '?') break;
     }
     command = words[optind] ? words + optind : NULL;
     bool is_well = option == -1 && !(command && (stays || kills));
