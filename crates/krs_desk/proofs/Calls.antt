@@ -1,6 +1,6 @@
 -- A call that is posted, helped and collected, and what its caller is told.
-use Rattle.std.proofs.Common.{[], ⊎_elim, ◌++◌, ◌+◌, ◌<◌, ◌∙◌, ◌∷◌, ◌≡◌, ap, append_assoc, arith, Bool, false, inl, inr}
-use Rattle.std.proofs.Common.{List, refl, Result, Some, subst, sym, ℕ}
+use Rattle.std.proofs.Common.{[], ◌++◌, ◌+◌, ◌<◌, ◌∙◌, ◌∷◌, ◌≡◌, ap, append-nil, append_assoc, arith, Bool, false, List}
+use Rattle.std.proofs.Common.{refl, Result, Some, subst, sym, true, ℕ}
 use Rattle.atomic_table.specs.Seated.{TableId}
 use Rattle.krs_types.specs.declared.{ask.{Answer.Answer, Ask.Ask}, errno.Errno.Errno, event.Event.Event}
 use Rattle.krs_model.specs.{History.{event_of, IsLegal}, Lists.Begins, State.State}
@@ -26,7 +26,7 @@ waits_posted desk s t moment ask is = subst (Waits desk s moment ask) (sym is)
       mine = refl;
       seen = prefix_self s.part.seen;
       rises = λ lt. omega arith;
-      looked = (λ lt. absurd (omega arith), λ _. inl refl);
+      looked = (λ lt. absurd (omega arith), λ _. (false, sym (append-nil s.part.checked)));
     }
 
 found_waits : (desk : TableId) (s t : Sitting) (moment count : ℕ) (ask : Ask) → Waits desk s moment ask t
@@ -57,7 +57,7 @@ waits_helped desk s t u moment ask (Took count) w h =
       seen = prefix_trans s.part.seen t.part.seen u.part.seen w.seen
           (subst (Begins t.part.seen) (sym h.seen) (prefix_more t.part.seen u.part.base h.answered h.before));
       rises = λ lt. rises (omega arith);
-      looked = (λ lt. h.checked, λ same. absurd (rises (omega arith)));
+      looked = (λ lt. (true, h.checked), λ same. absurd (rises (omega arith)));
     }
 waits_helped desk s t u moment ask Busy w h =
     subst (Waits desk s moment ask) (sym h.1) (found_waits desk s t moment (t.part.found + 1) ask w)
@@ -105,12 +105,12 @@ adds_collected desk s t u moment ask reply w c =
       own = c.own;
     }
 
--- if the seat took the turn meanwhile, it looked at each lane's cell
+-- the cells were looked at as before the reply was collected
 looked_collected : (desk : TableId) (s t u : Sitting) (moment : ℕ) (ask : Ask) (reply : Result Answer Errno)
     → Waits desk s moment ask t → Collects t reply u → HasLooked desk s u
 looked_collected desk s t u moment ask reply w c = (
-  λ lt. c.checked ∙ w.looked.0 (subst (λ (n : ℕ). s.part.taken < n) c.taken lt),
-  λ same. ⊎_elim (λ none. inl (c.checked ∙ none)) (λ all. inr (c.checked ∙ all)) (w.looked.1 (sym c.taken ∙ same)),
+  λ lt. let round = w.looked.0 (subst (λ (n : ℕ). s.part.taken < n) c.taken lt) in (round.0, c.checked ∙ round.1),
+  λ same. let round = w.looked.1 (sym c.taken ∙ same) in (round.0, c.checked ∙ round.1),
 )
 
 -- the call was made, and no turn is kept, whether or not more calls follow

@@ -1,5 +1,5 @@
 -- A turn that a seat keeps: what its token and its seat are then, and what its caller is told.
-use Rattle.std.proofs.Common.{[], ⊎_elim, ◌++◌, ◌<◌, ◌∙◌, ◌∷◌, ◌≡◌, ◌≢◌, ap, append-nil, arith, Bool, inl, inr, List}
+use Rattle.std.proofs.Common.{[], ◌++◌, ◌<◌, ◌∙◌, ◌∷◌, ◌≡◌, ◌≢◌, ap, arith, Bool, List}
 use Rattle.std.proofs.Common.{None, Option, refl, Result, Some, subst, suc, sym, true, zero, ℕ}
 use Rattle.atomic_table.specs.{Seated.TableId, Table.rest}
 use Rattle.krs_types.specs.declared.{ask.{Answer.Answer, Ask.Ask}, errno.Errno.Errno, event.Event.Event}
@@ -7,7 +7,7 @@ use Rattle.krs_model.specs.{History.{event_of, IsLegal}, Lists.Begins, Sound.IsS
 use Rattle.krs_model.proofs.History.Legal.{legal_more}
 use Rattle.krs_world.specs.{Knowing.{events_of, kept, put_none}, declared.view.{Flight.Flight, Part.Part}}
 use Rattle.krs_world.proofs.Keeping.{prefix_self}
-use Rattle.krs_desk.specs.Helping.{below, Called, Finishes, HasLooked, held_of, HoldsAll, lanes_of, MayAsk}
+use Rattle.krs_desk.specs.Helping.{below, Called, Finishes, HasLooked, held_of, HoldsAll, round_of, MayAsk}
 use Rattle.krs_desk.specs.Keeping.{at_rest, given_back, GoesRound, HasKept, IsPlaced, ServesAndKeeps}
 use Rattle.krs_desk.specs.{Parts.{hand_of, sat}, Seated.{is_free, IsSeated, Me, opening, part, Serves, sitting_of}}
 use Rattle.krs_desk.specs.{Sitting.{KeepsTurn, rested, Sitting}, declared.slot.SlotValue.{SlotValue, TheVariants.Home}}
@@ -210,19 +210,21 @@ in_kept_turn {lane} {idle} {served} {m} not placed =
       seen = subst (λ h. Begins (part m).seen (held_of h)) (sym kept.whole) (prefix_self (part m).seen);
     }
 
--- the turn was taken before, and each lane's cell looked at once more, or none
-pub kept_looked : {desk t : TableId} {served : ℕ} {m n w : Me} {s : Sitting} {e : Event} → sitting_of t served m ≡ s
-    → GoesRound desk m n → Finishes n e w → HasLooked desk s (sitting_of desk 0 w)
-kept_looked {desk} {m = m} {w = w} {s = s} view g f =
+-- the turn was taken before, and the cells looked at once more
+pub kept_looked :
+    {desk t : TableId} {posted : Bool} {served : ℕ} {m n w : Me} {s : Sitting} {e : Event}
+    → sitting_of t served m ≡ s
+    → GoesRound desk posted m n → Finishes n e w → HasLooked desk s (sitting_of desk 0 w)
+kept_looked {desk} {posted = posted} {m = m} {w = w} {s = s} view g f =
     let was : (part m).taken ≡ s.part.taken = ap (λ (z : Sitting). z.part.taken) view in
     let same : (part w).taken ≡ (part m).taken = ap (λ (z : Me). (part z).taken) f.has ∙ g.goes.2.stays.taken in
-    let before : (part m).checked ≡ s.part.checked = ap (λ (z : Sitting). z.part.checked) view in
-    let looked : (part w).checked ≡ s.part.checked ++ below g.looked =
-    ap (λ (z : Me). (part z).checked) f.has ∙ (g.goes.2.checked ∙ ap (λ l. l ++ below g.looked) before) in (
+    let before : (part m).checked ≡ s.part.checked = ap (λ (z : Sitting). z.part.checked) view in (
       λ lt. let less : s.part.taken < (part w).taken = lt in absurd (omega arith),
-      λ _. ⊎_elim (λ (none : g.looked ≡ 0).
-          inl (looked ∙ (ap (λ l. s.part.checked ++ below l) none ∙ append-nil s.part.checked)))
-          (λ (all : g.looked ≡ lanes_of desk). inr (looked ∙ ap (λ l. s.part.checked ++ below l) all)) g.whole,
+      λ _. (
+        posted,
+        ap (λ (z : Me). (part z).checked) f.has
+            ∙ (g.goes.2.checked ∙ ap (λ l. l ++ below (round_of desk posted)) before),
+      ),
     )
 
 -- A call of the seat is served in a turn.

@@ -7,8 +7,8 @@ use Rattle.krs_model.specs.{History.{event_of, IsLegal}, Lists.Begins, Sound.IsS
 use Rattle.krs_model.proofs.History.Legal.{legal_more}
 use Rattle.krs_world.specs.{Knowing.{events_of, put_none, put_own, taken}, declared.view.Part.Part}
 use Rattle.krs_world.proofs.Keeping.{own_event, prefix_more}
-use Rattle.krs_desk.specs.Helping.{below, Finishes, Goes, HasLooked, held_of, HoldsAll, lanes_of}
-use Rattle.krs_desk.specs.Parts.{hand_of, sat}
+use Rattle.krs_desk.specs.Helping.{below, Finishes, Goes, HasLooked, held_of, HoldsAll, round_of}
+use Rattle.krs_desk.specs.{Keeping.GoesRound, Parts.{hand_of, sat}}
 use Rattle.krs_desk.specs.Seated.{Holds, HoldsBefore, is_free, IsSeated, Me, opening, part, Serves, sitting_of}
 use Rattle.krs_desk.specs.{Sitting.{Adds, Sitting}, declared.slot.SlotValue.{SlotValue, TheVariants.Home}}
 use Rattle.krs_desk.proofs.{Helps.held_at, Seats.same_store}
@@ -194,16 +194,20 @@ turn_adds {table} {same_table} {a} {b} {lane} {moment} {ask} {reply} {m = m} {w 
     (subst (λ (z : TableId). Adds (sitting_of table a m) (event_of lane moment ask reply) (sitting_of z b w)) (sym same)
     (adds t f table a b refl))
 
--- each lane's cell was looked at in it
+-- the cells were looked at in it
 pub turn_looked :
-    (desk : TableId) {was : TableId} {a : ℕ} {s : Sitting} {m n k w : Me} {count : ℕ} {e : Event}
+    {desk was : TableId} {posted : Bool} {a : ℕ} {s : Sitting} {m n k w : Me} {e : Event}
     → sitting_of was a m ≡ s
-    → Holds m n → Goes n count (lanes_of desk) k → Finishes k e w → HasLooked desk s (sitting_of desk 0 w)
-turn_looked desk {s = s} {m = m} {n = n} {k = k} {w = w} view h g f =
+    → Holds m n → GoesRound desk posted n k → Finishes k e w → HasLooked desk s (sitting_of desk 0 w)
+turn_looked {desk} {posted = posted} {s = s} {m = m} {n = n} {w = w} view h g f =
     let before : (part m).taken ≡ s.part.taken = ap (λ (z : Sitting). z.part.taken) view in
     let then : (part n).taken ≡ (part m).taken + 1 = ap (λ (z : Me). (part z).taken) h.has in
-    let same : (part w).taken ≡ (part n).taken = ap (λ (z : Me). (part z).taken) f.has ∙ g.2.stays.taken in
+    let same : (part w).taken ≡ (part n).taken = ap (λ (z : Me). (part z).taken) f.has ∙ g.goes.2.stays.taken in
     let none : (part n).checked ≡ [] = ap (λ (z : Me). (part z).checked) h.has in (
-      λ lt. ap (λ (z : Me). (part z).checked) f.has ∙ (g.2.checked ∙ ap (λ l. l ++ below (lanes_of desk)) none),
+      λ lt. (
+        posted,
+        ap (λ (z : Me). (part z).checked) f.has
+            ∙ (g.goes.2.checked ∙ ap (λ l. l ++ below (round_of desk posted)) none),
+      ),
       λ still. let is : (part w).taken ≡ s.part.taken = still in absurd (omega arith),
     )

@@ -1,5 +1,5 @@
 -- What a turn of help does, and what a call knows of its seat while it waits. The form is this project's own.
-use Rattle.std.specs.Prelude.{[], ◌++◌, ◌+◌, ◌-◌, ◌<◌, ◌∷◌, ◌≡◌, ◌≢◌, ◌⊎◌, Bool, false, length, List, None, Option}
+use Rattle.std.specs.Prelude.{[], ◌++◌, ◌+◌, ◌-◌, ◌<◌, ◌∷◌, ◌≡◌, ◌≢◌, Bool, false, length, List, None, Option}
 use Rattle.std.specs.Prelude.{Result, Some, suc, true, zero, ℕ}
 use Rattle.atomic_table.specs.{Seated.TableId, Table.{rest, turned}}
 use Rattle.krs_types.specs.declared.{ask.{Answer.Answer, Ask.Ask}, errno.Errno.Errno, event.Event.Event}
@@ -18,6 +18,12 @@ below (suc n) = below n ++ n ∷ []
 -- how many lanes a desk has
 abbrev pub lanes_of : TableId → ℕ
 lanes_of table = table.words - 1
+
+-- How many lanes' cells a round looks at: each, where calls are said to be posted, and else none. What says so is the
+-- count of `src/bells.rt`, of which no clause speaks.
+abbrev pub round_of : TableId → Bool → ℕ
+round_of desk true = lanes_of desk
+round_of desk false = zero
 
 -- The seat had the turn. It has now seen the list that it left, which is legal from the opening state: what it found,
 -- which begins with all that it had seen, and then the events of the calls that it answered. It looked at each lane's
@@ -46,13 +52,16 @@ abbrev pub HasHelped : TableId → Sitting → Helped → Sitting → Type 0
 HasHelped desk s (Took count) t = Helps desk s count t
 HasHelped desk s Busy t = (t.table ≡ s.table) × (t ≡ missed_by s)
 
--- If the seat took the turn in between, it looked at each lane's cell once, in order, as it last had it. Else it looked
--- at each once more, in order, in the turn that it had kept, or at none.
+-- each lane's cell was looked at once more, in order, where calls were said to be posted, and else none was
+abbrev pub LooksRound : TableId → List ℕ → List ℕ → Type 0
+LooksRound desk before after = (posted : Bool) × (after ≡ before ++ below (round_of desk posted))
+
+-- If the seat took the turn in between, it made one such round as it last had it. Else it made one in the turn that it
+-- had kept, or waited.
 abbrev pub HasLooked : TableId → Sitting → Sitting → Type 0
 HasLooked desk s t =
-    (s.part.taken < t.part.taken → t.part.checked ≡ below (lanes_of desk))
-    × (t.part.taken ≡ s.part.taken
-    → (t.part.checked ≡ s.part.checked) ⊎ (t.part.checked ≡ s.part.checked ++ below (lanes_of desk)))
+    (s.part.taken < t.part.taken → LooksRound desk [] t.part.checked)
+    × (t.part.taken ≡ s.part.taken → LooksRound desk s.part.checked t.part.checked)
 
 -- A call was made, and this is its reply: it stands in what the seat has now seen, behind all that it had seen, and
 -- none is in flight. Cells were looked at as `HasLooked` says, and a turn is kept only where more calls follow.

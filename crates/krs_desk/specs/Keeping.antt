@@ -1,10 +1,11 @@
 -- A turn that a seat keeps from one call to the next. The form is this project's own.
-use Rattle.std.specs.Prelude.{◌∷◌, ◌≡◌, ◌≢◌, ◌⊎◌, Bool, List, None, Some, suc, zero, ℕ}
+use Rattle.std.specs.Prelude.{◌∷◌, ◌≡◌, ◌≢◌, Bool, List, None, Some, suc, zero, ℕ}
 use Rattle.atomic_table.specs.{Seated.TableId, Table.rest}
 use Rattle.krs_types.specs.declared.event.Event.{Event}
 use Rattle.krs_model.specs.{History.IsLegal, State.State, Step.Step}
 use Rattle.krs_world.specs.Knowing.{events_of, kept}
-use Rattle.krs_desk.specs.{Helping.{Goes, HoldsAll, lanes_of}, Parts.sat, Seated.{IsSeated, Me, opening, part, untold}}
+use Rattle.krs_desk.specs.{Helping.{Goes, HoldsAll, round_of}, Parts.sat}
+use Rattle.krs_desk.specs.Seated.{IsSeated, Me, opening, part, untold}
 use Rattle.krs_desk.specs.declared.slot.SlotValue.TheVariants.{Home}
 
 -- The token has the turn, and has seen the list that it holds. No call of its own is in flight.
@@ -27,12 +28,11 @@ pub record IsPlaced (lane : ℕ) (idle : Bool) (served : ℕ) (m : Me) : Type 0 
   pub rests : IsSeated lane idle (at_rest served m)
   pub keeps : served ≢ 0 → HasKept m
 
--- each lane's cell was looked at once more, in order, and so many calls answered; or none was looked at
-pub record GoesRound (desk : TableId) (m n : Me) : Type 0 where
+-- where calls are said to be posted, each lane's cell was looked at once more, in order, and so many calls answered;
+-- else none was
+pub record GoesRound (desk : TableId) (posted : Bool) (m n : Me) : Type 0 where
   pub count : ℕ
-  pub looked : ℕ
-  pub whole : (looked ≡ 0) ⊎ (looked ≡ lanes_of desk)
-  pub goes : Goes m count looked n
+  pub goes : Goes m count (round_of desk posted) n
 
 -- a call of the token's own lane was served, and the turn is kept
 pub record ServesAndKeeps (m : Me) (event : Event) (n : Me) : Type 0 where

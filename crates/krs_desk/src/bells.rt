@@ -18,7 +18,7 @@ pub(crate) struct Bells {
     sleepers: AtomicU64,
 
     // How many calls are posted and not answered. It is raised before a call is posted and lowered after that is
-    // answered, so it is never too low.
+    // answered, so it is never too low: where a turn finds it 0, each call that was posted before has its answer.
     posted: AtomicU64,
 
     // How many threads have posted a call, and wait until it is answered, behind which they have more.

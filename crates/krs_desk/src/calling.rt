@@ -35,7 +35,7 @@ impl Desk {
         if self.take(&mut seat.token) != FREE {
             return Err(ask);
         }
-        let _answered = self.look_at_lanes(&mut seat.token, true);
+        self.answer_posted(&mut seat.token, self.bells.is_any_posted());
         if self.may_keep(more, 0) {
             self.bells.begin_to_keep();
             let told = self.go_on(&mut seat.token, seat.lane, moment, ask, taker);

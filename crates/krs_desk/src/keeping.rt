@@ -102,16 +102,16 @@ impl Desk {
         more && served < MOST_KEPT && !self.bells.is_any_waiting()
     }
 
-    // Answers the calls that are posted, in a turn that is kept, and wakes those whose call it was.
+    // Where calls are posted, answers them before a call of the token's own, and wakes those whose call it was.
     #[inline]
-    fn answer_posted(&self, token: &mut Token)
+    pub(crate) fn answer_posted(&self, token: &mut Token, posted: bool)
         requires table { token.old.table_id ≡ self.now }
         requires held { HoldsAll token.old.me }
         requires idle { (part token.old.me).flight ≡ None }
         ensures table { token.new.table_id ≡ token.old.table_id }
-        ensures gone { GoesRound self.now token.old.me token.new.me }
+        ensures gone { GoesRound self.now posted token.old.me token.new.me }
     {
-        if !self.bells.is_any_posted() {
+        if !posted {
             return;
         }
         let _answered = self.look_at_lanes(token, true);
@@ -138,7 +138,7 @@ impl Desk {
         if seat.served == 0 {
             return Err(ask);
         }
-        self.answer_posted(&mut seat.token);
+        self.answer_posted(&mut seat.token, self.bells.is_any_posted());
         if self.may_keep(more, seat.served) {
             let told = self.go_on(&mut seat.token, seat.lane, moment, ask, taker);
             seat.served += 1;
