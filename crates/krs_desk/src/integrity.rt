@@ -2,6 +2,7 @@
 ghost use Rattle.krs_laws.specs.Belonging.{ContextsAreTheirClients, LeavesNothing, QueuesAreTheirClients};
 ghost use Rattle.krs_laws.specs.Belonging.{ReadersHaveNamedThemselves};
 ghost use Rattle.krs_laws.specs.{Emptied.{AreEmptiedByLeaving, AreEmptiedInTheEnd}, Expired.ExpiredStaysUnread};
+ghost use Rattle.krs_laws.specs.Going.{AllAttachesByRight, AllQueuesAreByRight};
 ghost use Rattle.krs_laws.specs.{Integrity.AllChangesAreByRight, Limits.{IsWithinLimits, StaysWithinLimits}};
 ghost use Rattle.krs_laws.specs.Marks.{QuietAsksHaveNoNote, ShortAsksDropOneAtMost};
 ghost use Rattle.krs_laws.specs.Noting.{AllNotesAreByRight, AllNotesAreCalledFor, AllWatchesAreByRight};
@@ -18,6 +19,18 @@ impl Seat {
         ensures right { AllChangesAreByRight self.now.opening }
         ensures short { ShortAsksDropOneAtMost self.now.opening }
         ensures quiet { QuietAsksHaveNoNote }
+    {
+        let _token = &self.token;
+    }
+
+    /// In every history of the desk an attachment goes only by EXIT, EXEC, LEAVE or JOIN of a context of its client, or
+    /// as its key is invalidated, by SEARCH. It comes only by HELLO, THREAD or FORK; by JOIN of a keyring that may be
+    /// joined; or new, in the context that asks or in its process. A queue comes by OPEN_QUEUE, has its filter by
+    /// SET_FILTER, and ends by CLOSE_QUEUE or LEAVE, of its own client alone. A watch ends with its queue or key, or by
+    /// WATCH of its queue's client. keyrings(7), "Anchoring keys"; core-api/watch_queue.rst.
+    pub fn each_end_is_by_right(&self)
+        ensures attachments { AllAttachesByRight self.now.opening }
+        ensures queues { AllQueuesAreByRight self.now.opening }
     {
         let _token = &self.token;
     }
