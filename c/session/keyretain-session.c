@@ -23,7 +23,7 @@ static const char help[] =
     "  --env V=KEY  gives the command what a key holds, in the variable V; KEY is a\n"
     "               serial or %user:DESCRIPTION\n"
     "  --join       the session that KEYRETAIN_SESSION names, as a login has it\n"
-    "  --syscalls   answers the system calls themselves: static programs, Go, Rust\n"
+    "  --syscalls   serves the system calls themselves: static programs, Go, Rust\n"
     "  -- CMD ARG   what is run; without it the shell that SHELL names\n"
     "  -h, --help   prints this\n"
     "  --version    prints the version\n\n"

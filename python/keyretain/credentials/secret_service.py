@@ -390,8 +390,8 @@ def main(words: Optional[Sequence[str]] = None) -> int:
     """Answers the exit status."""
     parser = argparse.ArgumentParser(PROGRAM, description="Secrets of the session bus, kept by keyretaind(8).")
     parser.add_argument("--timeout", type=int, default=0, metavar="SECONDS", help="how long an item is kept; 0: no end")
-    parser.add_argument("--default", action="store_true", help="answer for the collection `default` too, which "
-                        "programs want that name none")
+    parser.add_argument("--default", action="store_true", help="serve the collection `default` too, which "
+                        "programs use that name none")
     parser.add_argument("--version", action="version", version=version_of(PROGRAM))
     given = parser.parse_args(words)
     seconds = given.timeout
