@@ -1,6 +1,6 @@
 -- What the contexts of a group come to, from what is listed.
 use Rattle.std.proofs.Common.{[], ◌&&◌, ◌+◌, ◌==◌, ◌||◌, ◌∙◌, ◌∷◌, ◌≡◌, ◌≢◌, ap, arith, Bool, cond, count_by, eqb-true}
-use Rattle.std.proofs.Common.{false, filter, IfNone, IfSome, is_some, length, List, map, nat_cmp, nat_eq, None, not}
+use Rattle.std.proofs.Common.{false, filter, IfNone, IfSome, is_some, length, List, nat_cmp, nat_eq, None, not}
 use Rattle.std.proofs.Common.{Option, option_map, refl, Some, subst, sym, true, true≢false, ℕ}
 use Rattle.std.specs.{BTreeMap.is_at, Cmp.{eq_by_cmp_equiv, IsTotalOrder, nat_cmp_is, nat_cmp_total}}
 use Rattle.std.specs.List.{AllByRecursion, list_any, Sorted.IsStrictlySortedBy}
@@ -8,12 +8,13 @@ use Rattle.std.specs.{Map.{keys_of, values_of}, Ordering.ordering_then, declared
 use Rattle.std.proofs.lemmas.{Cmp.{on_total, then_total}, List.{Kept.IsStrictlySortedBy-filter, Sums.sum_by-cons}}
 use Rattle.std.proofs.lemmas.Map.{lookup-none, Entries.{lookup-filter-values, none_past_head, option_filter}}
 use Rattle.std.proofs.lemmas.Map.Keys.{IsDistinct-from_sorted, sorted_tail}
-use Rattle.std.proofs.lemmas.{Map.Made.length-from_same_keys, Option.{none-some, same_Some}}
+use Rattle.std.proofs.lemmas.Map.Lookups.{btree_set_from_contains, exact_pairs, exact_unsigned}
+use Rattle.std.proofs.lemmas.Option.{none-some, same_Some}
 use Rattle.krs_types.specs.declared.context.Context.{Context}
 use Rattle.krs_model.specs.{Queues.place_cmp, Table.{at, Rises, Table, without}}
 use Rattle.krs_model.proofs.Reach.Levels.{or_true, same_is}
 use Rattle.krs_model.proofs.Tables.{Changes.{is_at_same, same_at}, Rising.filter_rises}
-use Rattle.krs_ctx.specs.{Anchors.Each, Members.{AreMembers, is_group, IsThereFailing, lists, pairs_of}}
+use Rattle.krs_ctx.specs.{Anchors.Each, Members.{AreMembers, is_group, IsThereFailing, lists, pairs_of, placed}}
 use Rattle.krs_ctx.specs.declared.members.Members.{Members}
 use Rattle.krs_ctx.proofs.{FirstLemmas.any_at, MembersLemmas.{any_pairs, tied}}
 use Rattle.std.proofs.lemmas.Grind.{common_steps}
@@ -145,11 +146,7 @@ first_tells group es m g None are rises h none =
     (each_from_at (λ (e : ℕ × Context). (group e.1 == g) ≡ false) es rises
     (λ n c there. other_group group es m g n c are (none n) there)))
 
--- ---- how many are of a group
--- the pairs that the contexts of a group are to have
-abbrev placed : ℕ → Table Context → List (ℕ × ℕ)
-placed g es = map (λ e. (g, e.0)) es
-
+-- ---- which are of a group, and how many
 place_total : IsTotalOrder place_cmp
 place_total = then_total (on_total (λ (e : ℕ × ℕ). e.0) nat_cmp_total) (on_total (λ (e : ℕ × ℕ). e.1) nat_cmp_total)
 
@@ -224,17 +221,22 @@ placed_count :
 placed_count group g [] = refl
 placed_count group g (e ∷ es) = grind (arith, common_steps, count_first, count_by, placed_count group g es)
 
+-- the pairs of a group are its contexts
+pub pairs_are :
+    (group : Context → ℕ) (es : Table Context) (m : Members) (g : ℕ) → AreMembers group es m → Rises es
+    → IsStrictlySortedBy place_cmp m.pairs.keys → pairs_of m g ≡ placed g (filter (λ e. group e.1 == g) es)
+pairs_are group es m g are rises sorted =
+    let mine = filter (λ e. group e.1 == g) es in
+    btree_set_from_contains place_total (record { keys = pairs_of m g }) (record { keys = placed g mine })
+    (IsStrictlySortedBy-filter place_cmp (λ e. e.0 == g) m.pairs.keys sorted)
+    (placed_rises g mine (filter_rises (λ e. group e.1 == g) es rises))
+    (λ q. same_pairs group es m g q are rises)
+    (exact_pairs nat_cmp nat_cmp exact_unsigned exact_unsigned)
+
 -- a group has as many pairs as contexts
 pub counted :
     (group : Context → ℕ) (es : Table Context) (m : Members) (g : ℕ) → AreMembers group es m → Rises es
     → IsStrictlySortedBy place_cmp m.pairs.keys
     → length (pairs_of m g) ≡ count_by (λ c. group c == g) (values_of es)
 counted group es m g are rises sorted =
-    let mine = filter (λ e. group e.1 == g) es in
-    length-from_same_keys (eq_by_cmp_equiv place_total) (pairs_of m g) (placed g mine)
-    (IsDistinct-from_sorted place_cmp (pairs_of m g)
-    (IsStrictlySortedBy-filter place_cmp (λ e. e.0 == g) m.pairs.keys sorted))
-    (IsDistinct-from_sorted place_cmp (placed g mine)
-    (placed_rises g mine (filter_rises (λ e. group e.1 == g) es rises)))
-    (λ q. same_pairs group es m g q are rises)
-    ∙ placed_count group g es
+    ap length (pairs_are group es m g are rises sorted) ∙ placed_count group g es

@@ -1,6 +1,6 @@
 -- Contexts by what they are of: a client, a process or a uid.
-use Rattle.std.specs.Prelude.{◌&&◌, ◌==◌, ◌≡◌, Bool, cond, false, filter, List, nat_eq, None, Option, option_map, Some}
-use Rattle.std.specs.{Prelude.{true, ℕ}, BTreeMap.is_at, List.list_any}
+use Rattle.std.specs.Prelude.{◌&&◌, ◌==◌, ◌≡◌, Bool, cond, false, filter, List, map, nat_eq, None, Option, option_map}
+use Rattle.std.specs.{Prelude.{Some, true, ℕ}, BTreeMap.is_at, List.list_any}
 use Rattle.krs_types.specs.declared.context.Context.{Context}
 use Rattle.krs_model.specs.{Queues.place_cmp, Table.{at, put, Table, without}}
 use Rattle.krs_ctx.specs.declared.{listed.{Groups.Groups, Listed.Listed}, members.Members.Members}
@@ -58,6 +58,14 @@ UnlistsContext number groups old new =
 abbrev pub KeepsListed : ℕ → Listed → Listed → Type 0
 KeepsListed number old new =
     (contexts : Table Context) → at contexts number ≡ None → AreListed contexts old → AreListed contexts new
+
+-- the contexts of a process: process-keyring(7)
+abbrev pub contexts_in : ℕ → Table Context → Table Context
+contexts_in process contexts = filter (λ e. e.1.process == process) contexts
+
+-- contexts as they stand under a group: it, and the number of each
+abbrev pub placed : ℕ → Table Context → List (ℕ × ℕ)
+placed g contexts = map (λ e. (g, e.0)) contexts
 
 -- a context of this number is there that does not pass
 abbrev pub IsThereFailing : (ℕ × Context → Bool) → Table Context → ℕ → Type 0

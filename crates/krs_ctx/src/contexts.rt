@@ -1,14 +1,17 @@
 //! Contexts with their processes and uids: what is asked of them, and what is attached to them.
 ghost use Rattle.std.specs.Prelude.{[], ◌≡◌};
 ghost use Rattle.krs_model.specs.{Asks.{Joining.session_to, Leaving.{has_process, has_uid}}, Lookup.context_of};
-ghost use Rattle.krs_model.specs.{Making.thread_to, Outcome.Is, Possession.process_ring, State.State, Table.at};
-ghost use Rattle.krs_ctx.specs.{Anchors.{anchored, IsFit}, Told.{anchors_without, changed, with_ring}};
+ghost use Rattle.krs_model.specs.{Making.thread_to, Outcome.Is, Possession.process_ring, State.State};
+ghost use Rattle.krs_model.specs.Table.{at, Rises};
+ghost use Rattle.krs_ctx.specs.{Anchors.{anchored, IsFit}, Members.{contexts_in, placed}};
+ghost use Rattle.krs_ctx.specs.Told.{anchors_without, changed, with_ring};
 
 use crate::maps::{detach_processes, detach_uids, set_ring};
 use crate::table::ContextTable;
 use krs_types::{Context, Errno, Serial, UidRings};
 use std::alloc::Global;
 use std::collections::BTreeMap;
+use std::collections::btree_set::Range;
 use std::marker::Model;
 
 /// Contexts by number, processes by number with their process keyrings, and uids with their two keyrings.
@@ -70,6 +73,14 @@ impl Contexts {
         ensures { result.now.entries ≡ self.now.uids }
     {
         &self.uids
+    }
+
+    /// The contexts of a process, numbers rising: its number, and theirs. It looks at no other context.
+    pub fn in_process(&self, process: u32) -> Range<'_, (u64, u32)>
+        ensures all { result ≡ placed process (contexts_in process self.now.contexts) }
+        ensures rises { Rises self.now.contexts }
+    {
+        self.contexts.in_process(process)
     }
 
     /// Whether a process has a context.

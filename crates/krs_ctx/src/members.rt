@@ -41,8 +41,8 @@ impl Members {
         self.pairs.remove(&(u64::from(group), number));
     }
 
-    /// Those of a group.
-    fn of(&self, group: u32) -> Range<'_, (u64, u32)>
+    /// Those of a group, numbers rising.
+    pub(crate) fn of(&self, group: u32) -> Range<'_, (u64, u32)>
         ensures pairs { result ≡ pairs_of self.now group }
         ensures fits { length result < 2 ^ 63 }
         ensures rising { IsStrictlySortedBy place_cmp self.now.pairs.keys }

@@ -2,14 +2,15 @@
 ghost use Rattle.std.specs.Prelude.{[], ◌<◌, ◌==◌, ◌||◌, ◌≡◌, count_by, filter, IfNone, IfSome, length, None, not};
 ghost use Rattle.std.specs.{Prelude.{OnErr, OnOk, option_copied, ℕ}, Map.values_of};
 ghost use Rattle.krs_model.specs.Asks.{Invalidating.context_without, Leaving.{contexts_without, has_process, has_uid}};
-ghost use Rattle.krs_model.specs.Table.{alter, at, map_values, put, without};
-ghost use Rattle.krs_ctx.specs.Members.{IsThereFailing};
+ghost use Rattle.krs_model.specs.Table.{alter, at, map_values, put, Rises, without};
+ghost use Rattle.krs_ctx.specs.Members.{contexts_in, IsThereFailing, placed};
 
 use crate::listed::{Groups, Listed};
 use crate::maps::{detach_contexts, put_new, set_session, set_thread, take_out};
 use krs_types::{Context, Serial};
 use std::alloc::{AllocError, Global};
 use std::collections::BTreeMap;
+use std::collections::btree_set::Range;
 use std::marker::Model;
 
 /// Contexts by number. What is asked of a client, a process or a uid looks at its own contexts alone.
@@ -84,6 +85,14 @@ impl ContextTable {
         ensures none { IfNone result (contexts_without client self.now ≡ self.now) }
     {
         self.listed.clients.first(client)
+    }
+
+    /// The contexts of a process, numbers rising: its number, and theirs.
+    pub(crate) fn in_process(&self, process: u32) -> Range<'_, (u64, u32)>
+        ensures all { result ≡ placed process (contexts_in process self.now) }
+        ensures rises { Rises self.now }
+    {
+        self.listed.processes.of(process)
     }
 
     /// The first other context of a process.
