@@ -1,7 +1,7 @@
 -- What further contexts, and EXEC, owe the numbers of holders.
 use Rattle.std.proofs.Common.{[], ◌&&◌, ◌++◌, ◌+◌, ◌==◌, ◌||◌, ◌∷◌, ◌≡◌, ap, arith, Bool, cond, Err, false, filter}
-use Rattle.std.proofs.Common.{IfSome, IsErrAnd, List, nat_cmp, None, not, Ok, Option, option_to_list, refl, Result}
-use Rattle.std.proofs.Common.{Some, subst, sym, true, unwrap_or, ℕ}
+use Rattle.std.proofs.Common.{flat_map, IfSome, IsErrAnd, List, nat_cmp, None, not, Ok, Option, option_to_list, refl}
+use Rattle.std.proofs.Common.{Result, Some, subst, sym, true, unwrap_or, ℕ}
 use Rattle.std.specs.BTreeMap.{is_at}
 use Rattle.krs_types.specs.{Refusing.◌>>=◌, declared.ask.Answer.{Answer, TheVariants.{Nothing, Number}}}
 use Rattle.krs_types.specs.declared.{caller.Caller.Caller, context.{Context.Context, UidRings.UidRings}}
@@ -10,13 +10,14 @@ use Rattle.krs_model.specs.Asks.Entering.{exec, execed, fork, thread, without_th
 use Rattle.krs_model.specs.Asks.Hello.{with_context}
 use Rattle.krs_model.specs.{Levels.is_in, Lookup.{context_of}, Outcome.{Leads, Outcome}}
 use Rattle.krs_model.specs.{Possession.process_ring, State.{Key, State}}
-use Rattle.krs_model.specs.{Sweep.{context_roots, process_roots, roots, uid_roots}, Table.{alter, at, put, Table}}
+use Rattle.krs_model.specs.Sweep.{context_roots, process_roots, roots, uid_roots}
+use Rattle.krs_model.specs.Table.{alter, at, put, Rises, Table}
 use Rattle.krs_model.proofs.{Reach.Levels.{in_right, same_is}, Sound.Attached.{attached_at, context_keys, in_context}}
 use Rattle.krs_model.proofs.Tables.Changes.{alter_none, same_at}
-use Rattle.krs_ctx.specs.{Anchors.Anchors, Told.{Enters, greeted}}
-use Rattle.krs_ctx.proofs.ToldLemmas.{forked, threaded}
+use Rattle.krs_ctx.specs.{Anchors.{Anchors, Each}, Members.{contexts_in, placed}, Told.{Enters, greeted}}
+use Rattle.krs_ctx.proofs.{GroupLemmas.each_from_at, ToldLemmas.{forked, threaded}}
 use Rattle.krs_hold.specs.Tally.{all_less, IsTallied, times}
-use Rattle.krs_hold.proofs.Gathered.{times-alter, times-filter, times-put}
+use Rattle.krs_hold.proofs.Gathered.{given_by, times-alter, times-filter, times-put}
 use Rattle.krs_hold.proofs.{Tallies.{tallied_attached, tallied_let_go_all}, Times.times-append}
 use Rattle.krs_tables.specs.Holding.{more_of}
 use Rattle.krs_tables.proofs.OwedHolders.{context_tallied, counted_of, less_then, more_tallied, session_attached}
@@ -183,6 +184,39 @@ ring_times es p q =
           let same = times-alter (λ (x : Option ℕ). option_to_list x) es p (λ ring. None) q v e in
           omega (arith, same)
     ] refl
+
+-- what the contexts of these numbers attach, but for one of them
+abbrev pub attached_of : Table Context → ℕ → List (ℕ × ℕ) → List ℕ
+attached_of es number placed = flat_map (λ p. cond (p.1 == number) [] (given_by context_keys (at es p.1))) placed
+
+-- what entries that are in the table attach, by the numbers of those in a process
+others_attach :
+    (es : Table Context) (process number : ℕ) (fs : Table Context) → Each (λ e. at es e.0 ≡ Some e.1) fs
+    → attached_of es number (placed process (contexts_in process fs))
+    ≡ context_roots (filter (ends process number) fs)
+others_attach es process number [] h = refl
+others_attach es process number (e ∷ fs) h =
+    let rest = others_attach es process number fs h.1 in
+    elim (e.1.process == process) as
+    (λ b. attached_of es number (placed process (cond b (e ∷ contexts_in process fs) (contexts_in process fs)))
+    ≡ context_roots (cond (b && not (e.0 == number)) (e ∷ filter (ends process number) fs)
+    (filter (ends process number) fs))) [
+      | true ↦ elim (e.0 == number) as
+          (λ b. (cond b [] (given_by context_keys (at es e.0))
+          ++ attached_of es number (placed process (contexts_in process fs)))
+          ≡ context_roots (cond (not b) (e ∷ filter (ends process number) fs) (filter (ends process number) fs))) [
+            | true ↦ rest
+            | false ↦ rw (h.0) (ap (λ zs. context_keys e.1 ++ zs) rest)
+          ]
+      | false ↦ rest
+    ]
+
+pub others_attached :
+    (es : Table Context) (process number : ℕ) → Rises es
+    → attached_of es number (placed process (contexts_in process es))
+    ≡ context_roots (filter (ends process number) es)
+others_attached es process number rises =
+    others_attach es process number es (each_from_at (λ e. at es e.0 ≡ Some e.1) es rises (λ n c there. there))
 
 -- what EXEC lets go of
 execed_times :

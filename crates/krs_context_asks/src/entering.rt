@@ -3,10 +3,10 @@ ghost use Rattle.krs_types.specs.declared.fault.Fault.TheVariants.{Memory};
 ghost use Rattle.krs_model.specs.{Asks.Entering.{exec, fork, thread}, Outcome.Leads, Sweep.context_roots};
 ghost use Rattle.krs_hold.specs.Tally.{all_less};
 
+use krs_ctx::Contexts;
 use krs_hold::Holders;
 use krs_tables::{Tables, check_room, hold_of};
-use krs_types::{Answer, Context, Fault};
-use std::collections::BTreeMap;
+use krs_types::{Answer, Fault};
 
 /// One more context of a process, with the session keyring of this one: thread-keyring(7).
 #[tactic(auto, unfolding(krs_model::specs::Asks::Entering::thread))]
@@ -45,12 +45,7 @@ pub fn exec(tables: &mut Tables, client: u32, context: u32) -> Result<Answer, Fa
     let own = tables.context_of(client, context)?;
     let (process, thread) = (own.process, own.thread);
     let ring = tables.process_ring(process);
-    let_go_others(
-        &mut tables.holders,
-        tables.contexts.contexts(),
-        process,
-        context,
-    );
+    let_go_others(&mut tables.holders, &tables.contexts, process, context);
     tables.holders.let_go_of(thread);
     tables.holders.let_go_of(ring);
     tables.contexts.exec(client, context)?;
@@ -58,17 +53,15 @@ pub fn exec(tables: &mut Tables, client: u32, context: u32) -> Result<Answer, Fa
 }
 
 /// Lets go of what the other contexts of a process attach.
-fn let_go_others(
-    holders: &mut Holders,
-    contexts: &BTreeMap<u32, Context>,
-    process: u32,
-    number: u32,
-)
+fn let_go_others(holders: &mut Holders, contexts: &Contexts, process: u32, number: u32)
     ensures { holders.new ≡ all_less (context_roots (filter
-        (λ e. (e.1.process == process) && not (e.0 == number)) contexts.now.entries)) holders.old }
+        (λ e. (e.1.process == process) && not (e.0 == number)) contexts.now.contexts)) holders.old }
 {
-    for (other, context) in contexts {
-        if context.process == process && *other != number {
+    for (_, other) in contexts.in_process(process) {
+        if *other == number {
+            continue;
+        }
+        if let Some(context) = contexts.contexts().get(other) {
             holders.let_go_of(context.thread);
             holders.let_go_of(context.session);
         }

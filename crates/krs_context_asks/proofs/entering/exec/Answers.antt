@@ -1,7 +1,6 @@
-use Rattle.std.proofs.Common.{◌&&◌, ◌==◌, ◌∙◌, ◌≡◌, ap, filter, not, Ok, option_to_list, subst, sym, ℕ}
-use Rattle.krs_types.specs.declared.context.Context.{Context}
+use Rattle.std.proofs.Common.{◌∙◌, ◌≡◌, ap, Ok, option_to_list, subst, sym, ℕ}
 use Rattle.krs_model.specs.Lookup.{context_of}
-use Rattle.krs_model.specs.{Possession.process_ring, State.State, Sweep.{context_roots, roots}, Table.Table}
+use Rattle.krs_model.specs.{Possession.process_ring, State.State, Sweep.roots, Table.Table}
 use Rattle.krs_ctx.specs.Anchors.{anchored}
 use Rattle.krs_keys.specs.Keys.{shown}
 use Rattle.krs_hold.specs.Tally.{all_less, AreExact}
@@ -38,8 +37,6 @@ invariant_of-tables-2 c =
     c.in_ok-own.ensures in
     let ring : c.process_ring-ring.result ≡ process_ring s own.process =
     c.process_ring-ring.ensures ∙ ap (λ (z : State). process_ring z own.process) (sym c.tables.view_is) in
-    let ended : Table Context → Table ℕ = λ es. all_less (context_roots (filter
-    (λ e. (e.1.process == own.process) && not (e.0 == c.args.context)) es)) c.tables.inside.holders in
     record {
       fit = c.tables.invariant.fit;
       kinds = c.tables.invariant.kinds;
@@ -48,8 +45,7 @@ invariant_of-tables-2 c =
           (sym (c.let_go_of-2.ensures
           ∙ (ap (λ o. all_less (option_to_list o) c.let_go_of.new.self) ring
           ∙ ap (all_less (option_to_list (process_ring s own.process))) (c.let_go_of.ensures
-          ∙ ap (all_less (option_to_list own.thread)) (c.let_go_others.ensures
-          ∙ ap ended c.contexts.ensures.value)))))
+          ∙ ap (all_less (option_to_list own.thread)) c.let_go_others.ensures))))
           (exec_tallied (shown keys) s t c.args.client c.args.context own c.tables.inside.holders found
           (c.in_ok-exec.ensures s) c.tables.invariant.tallied);
     }
