@@ -173,7 +173,7 @@ static long answer_tracee(struct copies *copies) {
     const unsigned long *given = copies->given;
     bool names_users = key_row_names(row, given, KEY_SPEC_USER_KEYRING) ||
                        key_row_names(row, given, KEY_SPEC_USER_SESSION_KEYRING);
-    bool is_elsewhere = tracees_entered()->asker.is_elsewhere;
+    bool is_elsewhere = tracees_entered()->sender->is_elsewhere;
     if (is_elsewhere && (names_users || row->call == KEYCTL_CHOWN)) return fail_as(EOPNOTSUPP);
     switch (row->call) {
     case KEYCTL_SET_REQKEY_KEYRING: return key_set_reqkey(&tracees_entered()->task->reqkey, (int)given[0]);

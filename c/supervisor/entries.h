@@ -149,11 +149,10 @@ struct admitted {
     bool is_lost, is_joined;
 };
 
-/* Who asks: what is judged of the process, whether it is in another user namespace than the one that is served, and
- * whether it revokes the session that it has joined itself. */
+/* Who asks: what is judged of the process, and whether it revokes the session that it has joined itself. */
 struct asker {
     struct admission_process process;
-    bool is_elsewhere, revokes;
+    bool revokes;
 };
 
 /* The one under this identity that was made for this process as it is now, or NULL. Its process is the last whose

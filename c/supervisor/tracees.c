@@ -39,7 +39,6 @@ static bool look_at(const struct sender *sender, struct arrival *arrival) {
     if (!maps_have_uid(status->uids.real) || !maps_have_uid(status->uids.files)) return false;
     if (!proc_read_vector(thread, &vector) || (arrival->image = proc_image(thread, &vector)) == 0) return false;
     admission_put(&all.asker.process, status, &vector, sender->is_elsewhere);
-    all.asker.is_elsewhere = sender->is_elsewhere;
     struct process *process = arrival->process = find_process(status->process);
     arrival->has_executed = process && has_executed(process, arrival->image);
     if ((!process || arrival->has_executed || process->memory < 0) && (arrival->memory = memory_watch(thread)) < 0)
@@ -129,7 +128,7 @@ static struct task *who_stands(struct task *task) { return task->process->has_th
 static struct standing *have_new_standing(struct task *task, struct user *user) {
     struct admitted admitted = admission_admit(task, &all.asker, user->identity.uid);
     if (!all.is_valid()) return fail_as(ENOSYS), NULL;
-    admitted.is_lost |= !admitted.session && all.asker.is_elsewhere; /* its user-session keyring is another */
+    admitted.is_lost |= !admitted.session && all.sender->is_elsewhere; /* its user-session keyring is another */
     session_use(admitted.session); /* what is given up to make room isn't this one */
     if (admitted.session && admitted.session != task->session && !task->has_joined)
         set_session(task, admitted.session);
