@@ -1,6 +1,6 @@
 """The ways to ask: each plays lines on a store that nobody has used, and answers what is printed for each.
 
-A daemon under test has a clock of its own (moment.c), so that `moment` sets the time on each way."""
+A daemon under test has a clock of its own (hooks.c), so that `moment` sets the time on each way."""
 import ctypes
 import errno
 import os
@@ -24,7 +24,7 @@ FIRST_MOMENT = 1_000_000_000
 class Programs:
     """What is under test: set once, by alike.py."""
 
-    keyretain = keyretaind = moment = library = keyutils = session = guard = folder = None
+    keyretain = keyretaind = hooks = library = keyutils = session = guard = folder = None
 
 
 def environment(**more):
@@ -44,7 +44,7 @@ class Daemon:
         self.moment = f"{self.folder}/moment"
         self.set_moment(self.first_moment)
         self.path = f"{self.folder}/sock"
-        with_clock = environment(KEYRETAIN_MOMENT=self.moment, LD_PRELOAD=Programs.moment)
+        with_clock = environment(KEYRETAIN_MOMENT=self.moment, LD_PRELOAD=Programs.hooks)
         self.programs = [daemons.Daemon(Programs.keyretaind, self.path, env=with_clock)]
         if guarded:
             trusts = "--trust", os.geteuid(), "--connections", 32

@@ -3,13 +3,12 @@
 #define _GNU_SOURCE
 #include <spawn.h>
 #include <stdatomic.h>
-#include <sys/syscall.h>
 
 #include "check.h"
 #include "library/keyretain.h"
 #include "keyutils/keyutils.h"
 
-enum { THREADS = 32, LOOKS = 100, STALLED = 200, AGAIN = 9, OFTEN = 20, OTHER = 65533 };
+enum { THREADS = 32, LOOKS = 100, STALLED = 200, AGAIN = 9, OFTEN = 20 };
 
 static char **words; /* behind the mode */
 
@@ -260,50 +259,6 @@ static void hold_for_thread(void) {
     printf(" %d %s\n", count_sockets(), is_same ? "the same" : "another");
 }
 
-/* ---- Threads that ask for the first time ---- */
-
-/* Root is other users, one after the other: none of them has asked for long. */
-static bool be_other(int i) {
-    return getuid() != 0 || (syscall(SYS_setresuid, -1, 0, -1) == 0 && syscall(SYS_setresuid, -1, OTHER - i, -1) == 0);
-}
-
-static void *ask_as_others(void *begin) {
-    long fine = 1;
-    pthread_barrier_wait(begin);
-    for (int i = 0; fine && !atomic_load(&is_over); i++) fine = be_other(i % 20) && ask() > 0;
-    return (void *)fine;
-}
-
-static void *have_ring(void *unused) {
-    (void)unused;
-    return (void *)(long)(keyctl_get_keyring_ID(KEY_SPEC_THREAD_KEYRING, 1) > 0);
-}
-
-static void *begin_threads(void *begin) {
-    bool fine = true;
-    pthread_barrier_wait(begin);
-    while (fine && !atomic_load(&is_over)) fine = in_thread(have_ring, NULL) != NULL;
-    return (void *)(long)fine;
-}
-
-/* together: whether all are answered where the first thread joins sessions, one thread is other users, and others end
- * that have keyrings. */
-static void ask_together(void) {
-    void *(*const runs[])(void *) = { ask_as_others, ask_as_others, begin_threads };
-    pthread_barrier_t begin;
-    pthread_t threads[3];
-    void *is_fine;
-    bool fine = true;
-    atomic_store(&connections, 1); /* none is slow */
-    pthread_barrier_init(&begin, NULL, 4);
-    for (int i = 0; i < 3; i++) pthread_create(&threads[i], NULL, runs[i], &begin);
-    pthread_barrier_wait(&begin);
-    for (int i = 0; fine && i < 400; i++) fine = i % 20 == 0 ? keyctl_join_session_keyring(NULL) > 0 : ask() > 0;
-    atomic_store(&is_over, true);
-    for (int i = 0; i < 3; i++) fine = pthread_join(threads[i], &is_fine) == 0 && is_fine && fine;
-    puts(word_of(fine));
-}
-
 /* ---- No process can be made ---- */
 
 static bool is_full;
@@ -337,8 +292,7 @@ int main(int count, char **given) {
     } modes[] = { { "fair", wait_beside_others }, { "crowd", ask_as_crowd }, { "stalled", ask_stopped },
                   { "threads", want_own_stopped }, { "late", want_contexts_stopped }, { "many", ask_as_many },
                   { "silent", ask_beside_silent }, { "held", hold }, { "thread", hold_for_thread },
-                  { "no-process", join_when_full }, { "read", read_often },
-                  { "together", ask_together } };
+                  { "no-process", join_when_full }, { "read", read_often } };
     if (count < 2) return 2;
     words = given + 2;
     for (size_t i = 0; i < sizeof modes / sizeof *modes; i++)

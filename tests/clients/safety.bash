@@ -118,16 +118,6 @@ END
   kill_daemon TERM
 }
 
-# Where each lock of the library is wanted: what five runs say, and what the sanitizer does.
-try_together() {
-  local name
-  chmod 711 "$dir" && chmod 666 "$path" # each identity connects by itself
-  for name in busy busy-address,undefined busy-thread; do
-    [ ! -x "$dir/$name" ] || is "$name: threads that ask for the first time, and end, beside one that joins" answered \
-      "$(for _ in 1 2 3 4 5; do timeout 120 "$dir/$name" together 2>&1; done | grep -e '^[A-Za-z]' | sort -u)"
-  done
-}
-
 # calls_of RING COUNT [WORD ..]: how many system calls a program makes in all that reads a key of this ring so often, as
 # one that has no rights, run by these words: the least of three runs, as on a busy machine a connection may seem to be
 # no longer used, and is made once more
@@ -296,7 +286,7 @@ try_inherited() {
   printf '#!/bin/sh\necho $$ >"%s"\nkill -STOP $$\n' "$dir/stopped" >"$dir/none/keyretain/keyretain-keeper"
   chmod 755 "$dir/none/keyretain/keyretain-keeper"
   is 'a keeper that is stopped before it is in the background' 3 \
-    "$(timeout 60 "$dir/no-keeper/keyretain-session" -- true 2>/dev/null; echo $?)"
+    "$(jumping timeout 60 "$dir/no-keeper/keyretain-session" -- true 2>/dev/null; echo $?)"
   kill -KILL "$(<"$dir/stopped")"
   rm -r "$dir/none"
   kill_daemon TERM

@@ -6,7 +6,7 @@
   traces COUNT                short scripts in which both answer the same, with all answers
 
 --root: among all users of the machine; --calls FOLDER: on the same calls under keyretain-session, where FOLDER has it
-and moment.so, and KEYRETAIN is keyretaind; --jobs N: so many at once; --coverage: what was answered to which ask."""
+and hooks.so, and KEYRETAIN is keyretaind; --jobs N: so many at once; --coverage: what was answered to which ask."""
 import argparse
 import collections
 import concurrent.futures

@@ -331,7 +331,7 @@ class Session(Calls):
         os.chmod(self.room, 0o711)
         self.moment, path = f"{self.room}/moment", f"{self.room}/sock"
         self.set_moment(0)
-        with_clock = {**os.environ, "KEYRETAIN_MOMENT": self.moment, "LD_PRELOAD": f"{folder}/moment.so"}
+        with_clock = {**os.environ, "KEYRETAIN_MOMENT": self.moment, "LD_PRELOAD": f"{folder}/hooks.so"}
         self.daemon = daemons.Daemon(keyretaind, path, env=with_clock)
         os.chmod(path, 0o666)
         super().__init__(["setpriv", "--reuid", OF_SESSION, "--regid", OF_SESSION, "--clear-groups",

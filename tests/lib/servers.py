@@ -15,7 +15,7 @@ class End:
     """The server's end of a connection, which takes whole asks of version 2."""
 
     def __init__(self, end):
-        self.socket, self.context, self.frame = end, 0, b""
+        self.socket, self.context = end, 0
 
     def __enter__(self):
         return self
@@ -24,10 +24,9 @@ class End:
         self.socket.close()
 
     def asks(self):
-        """Yields the tag, the name and the values of each ask; `context` and `frame` are those of the last."""
+        """Yields the tag, the name and the values of each ask; `context` is that of the last."""
         while head := self.socket.recv(4, socket.MSG_WAITALL):
             rest = self.socket.recv(struct.unpack("<I", head)[0], socket.MSG_WAITALL)
-            self.frame = head + rest
             version, operation, self.context, tag = struct.unpack_from("<HHIQ", rest)
             if version != 2:
                 return
