@@ -1,4 +1,5 @@
-/* agent.h: the parts of keyretain-ssh-agent(1). A process serves one client, by one connection to keyretaind(8). */
+/* agent.h: the parts of keyretain-ssh-agent(1). A process serves one client, by one connection at a time
+ * to keyretaind(8). */
 #ifndef KEYRETAIN_SSH_AGENT_H
 #define KEYRETAIN_SSH_AGENT_H
 
