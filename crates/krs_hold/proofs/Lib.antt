@@ -11,3 +11,4 @@ pub mod Tallies
 pub mod KeyTallies
 pub mod Detached
 pub mod WatchedKeys
+pub mod ToldKeys

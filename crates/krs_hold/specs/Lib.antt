@@ -1,3 +1,4 @@
 pub mod Tally
 pub mod Chain
 pub mod Taken
+pub mod Told

@@ -1,19 +1,19 @@
-ghost use Rattle.std.specs.Prelude.{[], ◌+◌, ◌-◌, ◌<◌, ◌^◌, ◌≡◌, false, IfErr, IsOk, IsSome, List, nat_le, OnErr, OnOk};
-ghost use Rattle.std.specs.Prelude.{option_to_list, replicate, ℕ};
+ghost use Rattle.std.specs.Prelude.{[], ◌&&◌, ◌+◌, ◌-◌, ◌<◌, ◌^◌, ◌≡◌, IfErr, IsOk, IsSome, List, nat_le, not, OnErr};
+ghost use Rattle.std.specs.Prelude.{OnOk, option_to_list, replicate, ℕ};
 ghost use Rattle.krs_types.specs.declared.errno.Errno.TheVariants.{ENOMEM};
 ghost use Rattle.krs_model.specs.{Reach.{IsAcyclic, links_of_key_at}, Table.at};
 ghost use Rattle.krs_links.specs.Links.{serials};
 ghost use Rattle.krs_keys.specs.Hashed.{by_serial};
 ghost use Rattle.krs_keys.specs.{Kept.{KeepsAll, KeepsAnchored, Sweeps}, Keys.{named_links_of_content, shown}};
-ghost use Rattle.krs_hold.specs.Taken.{taken_at};
 ghost use Rattle.krs_hold.specs.Tally.{all_less, AreExact, number_at, one_less, one_more, with_number};
+ghost use Rattle.krs_hold.specs.{Taken.taken_at, Told.tells};
 
 use crate::cascade::sweep;
 use crate::counts::{Count, holders, let_go, let_go_links, let_go_whole, raise};
 use krs_keys::{Change, Content, KeySet, KeyTable};
 use krs_types::{Errno, Serial};
 use std::alloc::Global;
-use std::collections::HashMap;
+use std::collections::{BTreeSet, HashMap};
 use std::marker::Model;
 
 /// A table with room for so many counts is never too large.
@@ -181,9 +181,14 @@ impl Holders {
     }
 
     /// Drops each key that nothing holds any more, and then those that only dropped keys held:
-    /// keyrings(7), "Anchoring keys"; profile, dropped at once. Answers whether a watched one is among
-    /// them: where none is, no watch has to be looked at.
-    pub fn sweep<W: KeySet>(&mut self, keys: &mut KeyTable, watched: &W) -> bool
+    /// keyrings(7), "Anchoring keys"; profile, dropped at once. Answers which watched ones are among
+    /// them: no watch of another has to be looked at. Without memory for their list it answers none, and any may be.
+    pub fn sweep<W: KeySet>(
+        &mut self,
+        alloc: Global,
+        keys: &mut KeyTable,
+        watched: &W,
+    ) -> Option<BTreeSet<u32>>
         ensures exact { (attached : List ℕ) → AreExact keys.old.keys self.old attached
             → AreExact keys.new.keys self.new attached }
         ensures anchored { (attached : List ℕ) → AreExact keys.old.keys self.old attached
@@ -191,10 +196,10 @@ impl Holders {
         ensures swept { (attached : List ℕ) → AreExact keys.old.keys self.old attached
             → IsAcyclic (links_of_key_at (shown keys.old.keys))
             → Sweeps attached keys.old.keys keys.new.keys }
-        ensures watched { result ≡ false → KeepsAll (W.has watched.now) keys.old.keys keys.new.keys }
+        ensures watched { KeepsAll (λ k. W.has watched.now k && not (tells result k)) keys.old.keys keys.new.keys }
         ensures next { keys.new.next ≡ keys.old.next }
     {
-        let told = sweep(keys, &mut self.counts, self.first, watched);
+        let told = sweep(alloc, keys, &mut self.counts, self.first, watched);
         if self.first.is_some() {
             give_back(&mut self.counts);
         }

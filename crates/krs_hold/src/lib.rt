@@ -9,5 +9,7 @@
 mod cascade;
 mod counts;
 mod holders;
+mod told;
 
 pub use holders::Holders;
+pub use told::first_told;

@@ -1,15 +1,13 @@
--- The removal records of a sweep: where no watched key is dropped there are none.
-use Rattle.std.proofs.Common.{[], ◌==◌, ◌||◌, ◌∙◌, ◌∷◌, ◌≡◌, ap, Bool, cond, eq-eqb, false, filter, is_some, List, map}
-use Rattle.std.proofs.Common.{option_map, refl, sym, true, ℕ}
+-- The removal records of a sweep: a watched key that is dropped is told.
+use Rattle.std.proofs.Common.{[], ◌&&◌, ◌==◌, ◌||◌, ◌∙◌, ◌∷◌, ◌≡◌, ◌≤◌, ap, arith, Bool, eq-eqb, false, is_some, IsSome}
+use Rattle.std.proofs.Common.{List, not, option_map, refl, sym, true, true≢false, ℕ}
 use Rattle.std.specs.List.{AllByRecursion, list_any}
-use Rattle.krs_model.specs.Notes.Posting.{dropped_watches, removal_for}
-use Rattle.krs_model.specs.{Queues.{Queues, Watch}, Sweep.live_watches, Table.{at, Table}}
-use Rattle.krs_model.proofs.Tables.Changes.{at_map}
+use Rattle.krs_model.specs.{Orderly.Each, Queues.{Queues, Watch}, Sweep.live_watches, Table.{at, Table}}
+use Rattle.krs_model.proofs.{Sweep.QueueAsks.{IsLive, live_each}, Tables.Changes.at_map}
 use Rattle.krs_keys.specs.{Kept.KeepsAll, Keys.{seen, shown}, declared.key.Key.Key}
-use Rattle.krs_watch.specs.Changes.{swept}
+use Rattle.krs_watch.specs.{Changes.swept, Watched.AreDue}
 use Rattle.krs_tables.specs.{Serving.SweepsOut, View.state_of, declared.tables.Tables.TheInside.Inside}
 use Rattle.krs_tables.proofs.Definitions.{IsSweptTable, swept_state}
-use Rattle.krs_tables.proofs.{PostsAndSweep.posted_nothing, WatchedKeys.none_dropped}
 use Rattle.krs_model.specs.State as model
 
 -- with these keys and queues
@@ -22,14 +20,6 @@ pub sweeps_dropped :
     (s : Inside) (new : Table Key) (q : Queues) → IsSweptTable s new
     → q ≡ swept (λ k. is_some (at (shown new) k)) s.queues → SweepsOut (state_of s) (with_both s new q)
 sweeps_dropped s new q told is = rw is (record { swept = swept_state s new; sweep = told.sweep; posted = refl })
-
--- the same of each watch: the same are left
-left_alike :
-    (has : ℕ → Bool) (P Q : ℕ → Bool) (ws : List Watch) → ((k : ℕ) → has k ≡ true → P k ≡ Q k)
-    → AllByRecursion (λ w. has w.0.0 ≡ true) ws → filter (λ w. P w.0.0) ws ≡ filter (λ w. Q w.0.0) ws
-left_alike has P Q [] alike all = refl
-left_alike has P Q (w ∷ ws) alike all =
-    rw (alike w.0.0 all.0) (ap (λ zs. cond (Q w.0.0) (w ∷ zs) zs) (left_alike has P Q ws alike all.1))
 
 or_after : (a b : Bool) → b ≡ true → (a || b) ≡ true
 or_after true b h = refl
@@ -53,27 +43,36 @@ all_watched (w ∷ ws) = (
   still w ws ws (all_watched ws),
 )
 
--- no watched key was dropped
-pub sweeps_unwatched :
-    (s : Inside) (new : Table Key) → IsSweptTable s new
-    → KeepsAll (λ k. list_any (λ w. w.0.0 == k) s.queues.watches) s.keys.keys new
-    → live_watches (shown s.keys.keys) s.queues.watches ≡ s.queues.watches
-    → SweepsOut (state_of s) (record (state_of s) { keys = shown new })
-sweeps_unwatched s new told kept live =
-    let old = s.keys.keys in
-    let ws = s.queues.watches in
-    let there : Table Key → ℕ → Bool = λ keys k. is_some (at (shown keys) k) in
-    let alike : (k : ℕ) → list_any (λ (w : Watch). w.0.0 == k) ws ≡ true → there new k ≡ there old k = λ k h.
-    ap is_some (at_map seen new k ∙ (ap (option_map seen) (kept k h) ∙ sym (at_map seen old k))) in
-    let stays : live_watches (shown new) ws ≡ ws =
-    left_alike (λ k. list_any (λ w. w.0.0 == k) ws) (there new) (there old) ws alike (all_watched ws) ∙ live in
-    let none : dropped_watches (shown new) ws ≡ [] = none_dropped (shown new) ws stays in
-    let after : model.State = swept_state s new in
-    let is : after ≡ record (state_of s) { keys = shown new } =
-    ap (λ zs. record (state_of s) { keys = shown new; watches = zs }) stays in
-    record {
-      swept = after;
-      sweep = told.sweep;
-      posted = sym is
-          ∙ sym (posted_nothing (map removal_for (dropped_watches (shown new) ws)) after (ap (map removal_for) none));
-    }
+-- a watched key that isn't told stayed
+is_told :
+    (has told : ℕ → Bool) (old new : Table Key) (k : ℕ) → KeepsAll (λ q. has q && not (told q)) old new
+    → IsSome (at (shown old) k) → has k ≡ true → is_some (at (shown new) k) ≡ false → told k ≡ true
+is_told has told old new k kept there watched gone =
+    elim (told k) as (λ b. told k ≡ b → b ≡ true) [
+      | true ↦ λ t. refl
+      | false ↦ λ t.
+          let same : at new k ≡ at old k = kept k (ap (λ b. b && not (told k)) watched ∙ ap not t) in
+          let still : is_some (at (shown new) k) ≡ true =
+          ap is_some (at_map seen new k ∙ (ap (option_map seen) same ∙ sym (at_map seen old k))) ∙ there in
+          absurd (true≢false (sym still ∙ gone))
+    ] refl
+
+each_told :
+    (has told : ℕ → Bool) (old new : Table Key) (ws : List Watch) → KeepsAll (λ k. has k && not (told k)) old new
+    → Each (IsLive (shown old)) ws → AllByRecursion (λ (w : Watch). has w.0.0 ≡ true) ws
+    → AreDue (λ k. is_some (at (shown new) k)) told 0 ws
+each_told has told old new [] kept live watched = tt
+each_told has told old new (w ∷ ws) kept live watched = (
+  λ gone. let least : 0 ≤ w.0.0 = omega arith in
+      (least, is_told has told old new w.0.0 kept live.0 watched.0 gone),
+  each_told has told old new ws kept live.1 watched.1,
+)
+
+-- each watch of a key that was dropped is of one that is told
+pub dropped_told :
+    (told : ℕ → Bool) (old new : Table Key) (ws : List Watch)
+    → KeepsAll (λ k. list_any (λ w. w.0.0 == k) ws && not (told k)) old new → live_watches (shown old) ws ≡ ws
+    → AreDue (λ k. is_some (at (shown new) k)) told 0 ws
+dropped_told told old new ws kept live =
+    each_told (λ k. list_any (λ w. w.0.0 == k) ws) told old new ws kept (live_each (shown old) ws live)
+    (all_watched ws)

@@ -1,20 +1,12 @@
 -- Between an ask and its sweep each watch is at a key that is there: an ask takes no key away.
-use Rattle.std.proofs.Common.{[], ◌∷◌, ◌≡◌, ap, List, refl, subst, sym, ℕ}
+use Rattle.std.proofs.Common.{◌≡◌, ap, subst, sym, ℕ}
 use Rattle.krs_types.specs.declared.ask.{Answer.Answer, Op.Op}
-use Rattle.krs_model.specs.{Asks.Leaving.left, Notes.Posting.dropped_watches, Orderly.Each, Queues.{Queues, Watch}}
-use Rattle.krs_model.specs.{Sound.IsSound, State.{Key, raised, State}, Sweep.live_watches, Table.Table}
+use Rattle.krs_model.specs.{Asks.Leaving.left, Orderly.Each, Queues.Queues, Sound.IsSound, State.{raised, State}}
+use Rattle.krs_model.specs.Sweep.{live_watches}
 use Rattle.krs_model.proofs.Asks.Effects.{Closes, Effect, effect_of, Filters, Leaves, OfKeys, Opens, Reads, Unwatches}
 use Rattle.krs_model.proofs.{Asks.Effects.Watches, Notes.Fitting.{each_filter, each_on}, Sound.Steps.raised_sound}
 use Rattle.krs_model.proofs.{Sound.Watches.{each_with, each_without}, Sweep.QueueAsks.{each_live, IsLive, live_each}}
 use Rattle.krs_tables.specs.Serving.{Tells}
-
-no_dead : (keys : Table Key) (ws : List Watch) → Each (IsLive keys) ws → dropped_watches keys ws ≡ []
-no_dead keys [] h = refl
-no_dead keys (w ∷ ws) h = rw h.0 (no_dead keys ws h.1)
-
--- where each watch is at a key that is there, none is dropped
-pub none_dropped : (keys : Table Key) (ws : List Watch) → live_watches keys ws ≡ ws → dropped_watches keys ws ≡ []
-none_dropped keys ws h = no_dead keys ws (live_each keys ws h)
 
 -- what an accepted ask does leaves each watch at a key that is there
 effect_live :

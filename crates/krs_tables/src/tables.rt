@@ -233,14 +233,13 @@ impl Tables {
     }
 
     /// Just the keys stay that are attached, or linked by what stays. The watches of the others end with removal
-    /// records. Where no watched key goes, no watch is looked at.
+    /// records.
     pub fn sweep(&mut self)
         requires acyclic { IsAcyclic (links_of_key_at self.old.keys) }
         requires live { live_watches self.old.keys self.old.watches ≡ self.old.watches }
         ensures { SweepsOut self.old self.new }
     {
-        if self.holders.sweep(&mut self.keys, &self.queues) {
-            self.queues.sweep(&self.keys);
-        }
+        let told = self.holders.sweep(self.alloc, &mut self.keys, &self.queues);
+        self.queues.sweep(&self.keys, &told);
     }
 }

@@ -1,7 +1,6 @@
 -- Watches, and what is kept of them beside.
-use Rattle.std.specs.Prelude.{◌&&◌, ◌==◌, ◌≡◌, Bool, filter, is_some, IsSome, List, not, ℕ}
-use Rattle.std.specs.BTreeMap.{is_at, Range.range_contains}
-use Rattle.std.specs.{List.list_any, declared.ops.Bound.TheVariants.{Included, Unbounded}}
+use Rattle.std.specs.Prelude.{◌&&◌, ◌==◌, ◌≡◌, ◌≤◌, Bool, false, filter, is_some, IsSome, List, not, true, ℕ}
+use Rattle.std.specs.{BTreeMap.is_at, List.list_any}
 use Rattle.krs_model.specs.{Orderly.Each, Queues.{place_cmp, Watch, watch_at}, State.Queue, Table.{at, Table}}
 use Rattle.krs_watch.specs.declared.watches.Watches.TheInside.{Inside}
 
@@ -32,8 +31,6 @@ owns client number queues = list_any (λ e. (e.0 == number) && (e.1.client == cl
 abbrev pub gone_watches : (ℕ → Bool) → List Watch → List Watch
 gone_watches has watches = filter (λ w. not (has w.0.0)) watches
 
--- none of them is before a place
-abbrev pub NoneGoneBefore : (ℕ → Bool) → ℕ × ℕ → List Watch → Type 0
-NoneGoneBefore has from watches =
-    gone_watches has (filter (λ w. range_contains place_cmp (Included from) Unbounded w.0) watches)
-    ≡ gone_watches has watches
+-- each of them is of this key or a later one, and of one that is told
+abbrev pub AreDue : (ℕ → Bool) → (ℕ → Bool) → ℕ → List Watch → Type 0
+AreDue has told from watches = Each (λ w. has w.0.0 ≡ false → (from ≤ w.0.0) × (told w.0.0 ≡ true)) watches

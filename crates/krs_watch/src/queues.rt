@@ -3,8 +3,9 @@ ghost use Rattle.krs_model.specs.Asks.Watching.{closed, filtered, opened, read_o
 ghost use Rattle.krs_model.specs.Asks.Watching.{without_client};
 ghost use Rattle.krs_model.specs.Notes.Posting.{post_all, posted, posts_of, removal_for};
 ghost use Rattle.krs_model.specs.{Queues.{no_queues, queues_without}, Table.{alter, Rises}};
+ghost use Rattle.krs_hold.specs.Told.{tells};
 ghost use Rattle.krs_watch.specs.Changes.{LeadsAlways, LeadsQueues, OwnsQueue, swept, watch_ended};
-ghost use Rattle.krs_watch.specs.{Reads.ReadsAt, Watched.{gone_watches, owns}};
+ghost use Rattle.krs_watch.specs.{Reads.ReadsAt, Watched.{AreDue, gone_watches, owns}};
 
 use crate::memory::Memory;
 use crate::posting::{Place, around, post, post_note};
@@ -15,7 +16,7 @@ use krs_notes::Filter;
 use krs_ring::NoteRing;
 use krs_types::{Body, Errno, Fault, FilterEntry, KeyEvent, Record, Serial};
 use std::alloc::Global;
-use std::collections::BTreeMap;
+use std::collections::{BTreeMap, BTreeSet};
 use std::marker::Model;
 
 /// How many queues are open at most: profile, queue numbers.
@@ -181,11 +182,13 @@ impl WatchQueues {
         );
     }
 
-    /// The end of the watches of all keys that are gone, of which records go to their queues.
-    pub fn sweep<K: KeySet>(&mut self, keys: &K)
+    /// The end of the watches of all keys that are gone, of which records go to their queues. Only keys that are told
+    /// are looked for.
+    pub fn sweep<K: KeySet>(&mut self, keys: &K, told: &Option<BTreeSet<u32>>)
+        requires { AreDue (K.has keys.now) (tells told.now) 0 self.old.watches }
         ensures { self.new ≡ swept (K.has keys.now) self.old }
     {
-        end_dropped(&mut self.queues, &mut self.watches, keys);
+        end_dropped(&mut self.queues, &mut self.watches, keys, told);
     }
 }
 
@@ -211,17 +214,23 @@ fn is_watched(watches: &BTreeMap<Place, u8>, key: u32) -> bool
 }
 
 /// The end of the watches of all keys that are not there. A removal record comes to the queue of each.
-fn end_dropped<K: KeySet>(queues: &mut BTreeMap<u32, NoteQueue>, watches: &mut Watches, keys: &K)
+fn end_dropped<K: KeySet>(
+    queues: &mut BTreeMap<u32, NoteQueue>,
+    watches: &mut Watches,
+    keys: &K,
+    told: &Option<BTreeSet<u32>>,
+)
+    requires { AreDue (K.has keys.now) (tells told.now) 0 watches.old }
     ensures queues { queues.new.entries
         ≡ post_all (map removal_for (gone_watches (K.has keys.now) watches.old)) queues.old.entries }
     ensures watches { watches.new ≡ filter (λ w. K.has keys.now w.0.0) watches.old }
 {
-    let mut from = (0, 0);
-    'ending: while let Some((place, watch)) = first_gone(watches.all(), from, keys) {
+    let mut from = 0;
+    'ending: while let Some((place, watch)) = first_gone(watches.all(), told, from, keys) {
         let _ = watches.remove(place.0, place.1);
         let id = u64::from(place.0);
         post(queues, place.1, Record::Removal { watch, id });
-        from = place;
+        from = place.0;
     }
 }
 

@@ -2,10 +2,12 @@
 ghost use Rattle.std.specs.Prelude.{[], ◌<◌, ◌==◌, ◌≡◌, filter, IfNone, IfSome, IsSome, length, None, not, OnErr, OnOk};
 ghost use Rattle.std.specs.{Prelude.{slice_get, Some, ℕ}, List.Sorted.IsStrictlySortedBy, Map.keys_of};
 ghost use Rattle.krs_model.specs.Queues.{place_cmp, watch_at, with_watch, without_watch};
-ghost use Rattle.krs_watch.specs.Watched.{gone_watches, NoneGoneBefore};
+ghost use Rattle.krs_hold.specs.Told.{tells};
+ghost use Rattle.krs_watch.specs.Watched.{AreDue, gone_watches};
 
 use crate::memory::Minded;
 use crate::posting::Place;
+use krs_hold::first_told;
 use krs_keys::KeySet;
 use krs_types::Serial;
 use std::alloc::{AllocError, Global};
@@ -106,22 +108,32 @@ impl Watches {
     }
 }
 
-/// The first watch of a key that is not there, with its id. Those before a place are known to be of others.
+/// The first watch of a key that is not there, with its id. Keys before one, and those that are not told, are known to
+/// be there.
 pub(crate) fn first_gone<K: KeySet>(
     watches: &BTreeMap<Place, u8>,
-    from: Place,
+    told: &Option<BTreeSet<u32>>,
+    mut from: u32,
     keys: &K,
 ) -> Option<(Place, u8)>
-    requires { NoneGoneBefore (K.has keys.now) from watches.now.entries }
+    requires { AreDue (K.has keys.now) (tells told.now) from watches.now.entries }
     ensures first { IfSome result
         (λ w. slice_get (gone_watches (K.has keys.now) watches.now.entries) 0 ≡ Some w) }
     ensures none { IfNone result (gone_watches (K.has keys.now) watches.now.entries ≡ []) }
     ensures rises { IsStrictlySortedBy place_cmp (keys_of watches.now.entries) }
 {
-    for (place, id) in watches.range(from..) {
+    'looking: while let Some(key) = first_told(told, from) {
+        let Some((place, id)) = watches.range((key, 0)..).next() else {
+            return None;
+        };
         if !keys.has(Serial::new(place.0)) {
             return Some((*place, *id));
         }
+        let Some(next) = place.0.checked_add(1) else {
+            return None;
+        };
+        from = next;
     }
+    let _ = watches.len();
     None
 }

@@ -1,9 +1,9 @@
-use Rattle.std.proofs.Common.{◌∙◌, ◌≡◌, ◌≤◌, ap, arith, sym, true≢false, ℕ}
+use Rattle.std.proofs.Common.{◌&&◌, ◌∙◌, ◌≡◌, ◌≤◌, ap, arith, false, not, sym, ℕ}
 use Rattle.krs_keys.specs.Hashed.{by_serial}
-use Rattle.krs_hold.specs.Chain.{Chained}
+use Rattle.krs_hold.specs.{Chain.Chained, Told.{lists, tells}}
 use Rattle.krs_hold.proofs.{Anchoring.spares_all, Steps.{dropped_chain, dropped_exact, dropped_spares, dropped_weighs}}
 use Rattle.krs_hold.proofs.Steps.{kept_chain, kept_exact, rest_weighs}
-use Rattle.krs_hold.proofs.WatchedKeys.{unwatched_goes}
+use Rattle.krs_hold.proofs.{ToldKeys.tells_listed, WatchedKeys.{untold, unwatched_goes}}
 use Rattle.krs_hold.proofs.cascade.look.Goals.{else-has, then-has}
 use Rattle.krs_hold.proofs.cascade.look.Goals as goal
 use Rattle.std.proofs.lemmas.Grind.{common_steps}
@@ -62,14 +62,15 @@ returns-clause-spared g c = λ a h.
     (record { chained = c.requires; counts = c.rest-next.ensures.counts; after = c.rest-next.ensures.next }) h)
 
 pub returns-clause-watched : goal.returns-clause-watched
-returns-clause-watched g c = λ none.
+returns-clause-watched g c =
     let has = g.W.KeySet.has c.args.watched.now in
-    elim c.if-has.branch [
-      | then-has w ↦ absurd (true≢false (sym w.told-is ∙ none))
-      | else-has w ↦ (
-        sym w.told-is ∙ none,
-        unwatched_goes has c.args.keys.now.keys c.drop_key.new.keys.keys c.args.serial
-            (ap has (sym c.new.ensures) ∙ (sym c.has.ensures ∙ w.if-has.false))
-            (ap (λ t. t.keys) c.drop_key.ensures.keys),
-      )
-    ]
+    let k = c.args.serial in
+    let keys = c.args.keys.now.keys in
+    let is : has k ≡ c.has.result = ap has (sym c.new.ensures) ∙ sym c.has.ensures in
+    let told : has k && not (tells c.if-has.told k) ≡ false = elim c.if-has.branch [
+      | then-has w ↦ untold (has k) _ (tells_listed c.if-has.told k c.ranges.serial.fits
+          (ap (λ t. lists t k) w.told-is ∙ w.tell.ensures.itself))
+      | else-has w ↦ ap (λ b. b && not (tells c.if-has.told k)) (is ∙ w.if-has.false)
+    ] in
+    unwatched_goes (λ q. has q && not (tells c.if-has.told q)) keys c.drop_key.new.keys.keys k told
+    (ap (λ t. t.keys) c.drop_key.ensures.keys)

@@ -1,7 +1,8 @@
-use Rattle.std.proofs.Common.{[], arith, Option, subst, ℕ}
+use Rattle.std.proofs.Common.{[], ◌∙◌, arith, Option, subst, ℕ}
 use Rattle.krs_keys.specs.{Hashed.by_serial, Keys.shown}
-use Rattle.krs_hold.specs.Chain.{IsChained}
-use Rattle.krs_hold.proofs.{Anchoring.{keeps_anchored, spares_all, spares_on}, Exact.counted_from, WatchedKeys.goes_on}
+use Rattle.krs_hold.specs.{Chain.IsChained, Told.tells}
+use Rattle.krs_hold.proofs.{Anchoring.{keeps_anchored, spares_all, spares_on}, Exact.counted_from, ToldKeys.tells_more}
+use Rattle.krs_hold.proofs.WatchedKeys.{goes_on}
 use Rattle.krs_hold.proofs.cascade.sweep.Goals as goal
 use Rattle.std.proofs.lemmas.Grind.{common_steps}
 
@@ -9,7 +10,17 @@ pub dropping-init : goal.dropping-init
 dropping-init g c = grind (arith, common_steps, spares_all)
 
 pub dropping-preserved : goal.dropping-preserved
-dropping-preserved g c = grind (arith, common_steps, spares_on, goes_on)
+dropping-preserved g c =
+    let before = c.dropping.invariant in
+    let says = c.look-first.ensures in
+    record {
+      chained = says.chained;
+      exact = λ a h. says.exact a (before.exact a h);
+      spared = λ a h. spares_on a _ _ _ (before.spared a h) (says.spared a (before.exact a h));
+      watched = goes_on _ (tells c.dropping.told) _ _ _ _ (λ k. tells_more c.dropping.told _ k (says.more k))
+          before.watched says.watched;
+      next = says.next ∙ before.next;
+    }
 
 pub returns-clause-anchored : goal.returns-clause-anchored
 returns-clause-anchored g c = λ a h.

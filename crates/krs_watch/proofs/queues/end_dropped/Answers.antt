@@ -3,15 +3,16 @@ use Rattle.std.proofs.Common.{subst, sym, ℕ}
 use Rattle.std.specs.{List.Sorted.IsStrictlySortedBy, Map.keys_of}
 use Rattle.krs_types.specs.declared.note.Record.TheVariants.{Removal}
 use Rattle.krs_model.specs.{Notes.Posting.{after_note, post_all, removal_for}, Queues.{place_cmp, Watch}, Table.alter}
-use Rattle.krs_watch.specs.Watched.{gone_watches, NoneGoneBefore}
-use Rattle.krs_watch.proofs.GoneLemmas.{first_stays, from_least, none_before, none_gone, taken}
+use Rattle.krs_hold.specs.Told.{tells}
+use Rattle.krs_watch.specs.Watched.{AreDue, gone_watches}
+use Rattle.krs_watch.proofs.GoneLemmas.{due_after, first_stays, none_gone, taken}
 use Rattle.krs_watch.proofs.queues.end_dropped.Goals as goal
 
 pub ending-init : goal.ending-init
 ending-init g c = record {
   posts = refl;
   stay = refl;
-  before = from_least (g.K.KeySet.has c.args.keys.now) c.args.watches.now;
+  due = c.requires;
 }
 
 pub ending-smaller : goal.ending-smaller
@@ -33,6 +34,7 @@ ending-preserved g c =
     let ws = c.ending.watches in
     let queues = c.ending.queues.entries in
     let number = c.in-Some.place.1 in
+    let told = tells c.args.told.now in
     let w : Watch = (c.in-Some.place, c.in-Some.watch) in
     let first : slice_get (gone_watches has ws) 0 ≡ Some w =
     ap (λ (vs : List Watch). slice_get (gone_watches has vs) 0) (sym c.all.ensures) ∙ c.in-Some.ensures.first in
@@ -44,9 +46,9 @@ ending-preserved g c =
           ∙ (ap (λ (vs : List Watch). post_all (map removal_for vs) queues) (sym more) ∙ c.ending.invariant.posts);
       stay = ap (filter (λ v. has v.0.0)) c.remove.ensures.watches
           ∙ (first_stays has ws w first ∙ c.ending.invariant.stay);
-      before = subst (λ (vs : List Watch). NoneGoneBefore has c.in-Some.place vs) (sym c.remove.ensures.watches)
-          (none_before has ws w (subst (λ (vs : List Watch). IsStrictlySortedBy place_cmp (keys_of vs)) c.all.ensures
-          c.in-Some.ensures.rises) first);
+      due = subst (λ (vs : List Watch). AreDue has told c.in-Some.place.0 vs) (sym c.remove.ensures.watches)
+          (due_after has told c.ending.from ws w (subst (λ (vs : List Watch). IsStrictlySortedBy place_cmp (keys_of vs))
+          c.all.ensures c.in-Some.ensures.rises) c.ending.invariant.due first);
     }
 
 pub returns-clause-watches : goal.returns-clause-watches
