@@ -9,10 +9,12 @@ import struct
 import subprocess
 import time
 
+from compare import outcome
 from daemons import PATIENCE, listening, until
 from stage import (
     EPERM, GID, GUARD, IS_SANITIZED, NO_FILTER, ROOT, TMP, UID, WHO, Running, add, check, connect_as, hello, kill,
     read_key, skipped, wait_for_replies)
+from streams import refuses_descriptors
 
 
 def try_confined():
@@ -117,6 +119,9 @@ def try_passed_socket():
     path = f'{TMP}/passed'
     child = passed_to_guard(listening(path), '--daemon', run.private)
     check('a passed socket', connect_as(path, *WHO)[0].status(hello(UID, GID)), 0)
+    if refuses_descriptors():
+        client = connect_as(path, *WHO)[0]
+        check('a passed socket: descriptors', outcome(socket.send_fds, client.sock, [b'x'], [0]), 'PermissionError')
     check('a passed socket: another uid', connect_as(path, *WHO)[0].status(hello(UID + 1, GID)), EPERM)
     os.kill(child, signal.SIGTERM)
     check('ends', os.waitpid(child, 0)[1], 0)

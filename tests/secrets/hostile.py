@@ -1,12 +1,15 @@
 """hostile.py: clients that send what is wrong, too long, or too much, that don't read, or are another user's; and an
 environment that is another user's."""
+import itertools
 import os
+import socket
 import subprocess
 import tempfile
 
 from stage import (COLLECTION, FOLDER, ITEM, PATIENCE, ROOT, SESSION, SESSION_COLLECTION, Caller, attempt, bus, compare,
                    conclude, daemon, secrets, write)
-from jeepney import DBusAddress, HeaderFields, new_signal
+from jeepney import DBusAddress, Endianness, Header, HeaderFields, Message, MessageType, message_bus, new_signal
+from keyretain.credentials import secret_bus
 
 SECRET = "s3cret-that-nobody-tells"
 NOBODY = 65534
@@ -122,6 +125,18 @@ def try_other_user():
                 (ended.returncode, ended.stderr))
 
 
+def try_forged_reply():
+    """Who calls is said by the bus alone, and not by another's reply of the same number, if a bus let that through."""
+    wire = secret_bus.Wire.__new__(secret_bus.Wire)
+    wire._socket, peer = socket.socketpair()
+    wire._serials, wire._early = itertools.count(), []
+    for sender, uid in (":1.7", 0), (secret_bus.BUS, NOBODY):
+        fields = {HeaderFields.reply_serial: 1, HeaderFields.sender: sender, HeaderFields.signature: "u"}
+        head = Header(Endianness.little, MessageType.method_return, 0, 1, 0, 1, fields)
+        peer.sendall(Message(head, (uid,)).serialise(1))
+    compare("a reply that another client forges", NOBODY, wire.ask(message_bus.GetConnectionUnixUser(":1.9")))
+
+
 def try_closed():
     """What may be looked into is its user's, which root's can't be told by: so another user runs it here."""
     ids = {"user": NOBODY, "group": NOBODY, "extra_groups": []} if os.geteuid() == 0 else {}
@@ -166,4 +181,5 @@ with daemon(), bus() as broker:
         compare("it has told nothing", b"", process.stderr.read())
     attempt(try_other_user)
     attempt(try_closed)
+attempt(try_forged_reply)
 conclude()
