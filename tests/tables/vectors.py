@@ -22,7 +22,7 @@ def words_in(text):
 
 def vectors():
     """The frames of asks that are spelled: what, bytes."""
-    spelled = re.findall(r"^\| ([A-Z_]{3,}\b.*?) \| `(.*?)` \|$", section("### Frame vectors"), re.M)
+    spelled = re.findall(r"^\| ([A-Z_]{3,}\b.*?) \| `([0-9a-f ]+)` \|", section("### Frame vectors"), re.M)
     spelled += [(ask, frame) for ask, _, frame in bodies.program("tools/frames").rows()]
     return [(what, bytes.fromhex(frame)) for what, frame in spelled]
 
@@ -75,8 +75,7 @@ def try_vectors(codec):
     read = [(what, whole, read_ask(whole)) for what, whole in vectors()]
     compare("vectors of all asks but two", sorted({*keyretain.ASKS} - {"DESCRIBE", "LEAVE"}),
             sorted({what.split()[0] for what, *_ in read}))
-    rows = re.findall(r"^\| .*? \| (`.*`) \|$", section("### Frame vectors"), re.M)
-    spelled = {re.sub(r"[^0-9a-f]", "", row) for row in rows}
+    spelled = {it.replace(" ", "") for it in re.findall(r"`([0-9a-f ]+)`", section("### Frame vectors"))}
     for frame in protocol_frames():
         compare(f"keyretain-protocol(7), the frame {frame}", True, frame in spelled)
     for what, whole, (version, tag, name, context, values) in read:
