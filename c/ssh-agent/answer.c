@@ -61,8 +61,8 @@ static bool open_context(void) {
     return made >= 0;
 }
 
-/* The same by few asks: the keyring that an earlier message's process has found. As long as that daemon runs no other
- * key has its serial, and no other session's keyring that of the session. */
+/* As open_ring(), by few asks: the keyring that an earlier message's process has found. As long as that daemon runs no
+ * other key has its serial, and no other session's keyring that of the session. */
 static bool open_known_ring(void) {
     struct kr_session session;
     const char *text = getenv(KR_SESSION_VARIABLE);
