@@ -63,9 +63,9 @@ static void *answer_half(void *unused) {
     return unused;
 }
 
-/* Answers so many asks with the number or serial 1; the last one instead as READ, with the secret. Then it ends the
- * connection where `then_closes` says so. */
-static int answers, wiped;
+/* Answers so many asks with the number or serial 1; the last one instead as READ, with the secret, or as if it was the
+ * next but so many. Then it ends the connection where `then_closes` says so. */
+static int answers, wiped, skipped;
 static bool reads_last;
 
 static void *answer_some(void *unused) {
@@ -76,6 +76,7 @@ static void *answer_some(void *unused) {
         uint8_t frame[16 + SECRET] = { is_secret ? 12 + SECRET : 16 };
         memcpy(frame + 8, ask + 12, 8); /* the tag */
         frame[16] = 1;
+        if (i == answers) frame[8] += (uint8_t)skipped;
         if (is_secret) make_secret(frame + 16);
         (void)!write(end, frame, is_secret ? sizeof frame : 20);
         explicit_bzero(frame, sizeof frame);
@@ -175,6 +176,43 @@ static const char *try_lost(void) {
     return errno == ECONNRESET ? look_for_secret() : strerrorname_np(errno);
 }
 
+static const struct kr_field of_read[] = { { .number = 5 } };
+
+/* The same of a READ that was sent ahead. */
+static const char *try_ahead(void) {
+    char buffer[SECRET];
+    then_closes = true;
+    mallopt(M_MMAP_THRESHOLD, 1 << 30);
+    struct kr *connection = connect_to(answer_half, 2000);
+    int64_t context = kr_hello(connection, 0, 0, 0, NULL);
+    bool is_sent = context >= 0 && kr_send(connection, KR_READ, (uint32_t)context, of_read, NULL) == 0;
+    if (!is_sent || kr_receive(connection, NULL, buffer, sizeof buffer) >= 0) return "answered";
+    return errno == ECONNRESET ? look_for_secret() : strerrorname_np(errno);
+}
+
+/* Asks are sent ahead to a server that takes nothing: that waits for nothing, whatever the calls before may take. */
+static const char *try_flood(void) {
+    static uint8_t payload[32000];
+    const struct kr_field fields[] = { { .number = 5 }, { .items = payload, .count = sizeof payload } };
+    answers = 1;
+    struct kr *connection = connect_to(answer_some, 30000);
+    if (kr_hello(connection, 0, 0, 0, NULL) != 1) return "refused";
+    for (int i = 0; i < KR_AHEAD_MAX; i++)
+        if (kr_send(connection, KR_UPDATE, 1, fields, NULL) < 0) return strerrorname_np(errno);
+    return "taken";
+}
+
+/* The second of two asks is answered, and the first isn't. */
+static const char *try_gap(void) {
+    char buffer[SECRET];
+    answers = 2;
+    skipped = 1;
+    struct kr *connection = connect_to(answer_some, 2000);
+    if (kr_hello(connection, 0, 0, 0, NULL) != 1) return "refused";
+    for (int i = 0; i < 2; i++) kr_send(connection, KR_READ, 1, of_read, NULL);
+    return kr_receive(connection, NULL, buffer, sizeof buffer) < 0 ? strerrorname_np(errno) : "answered";
+}
+
 /* An ask that fits no frame, whose payload had been put there. */
 static const char *try_no_frame(void) {
     static uint8_t payload[65503]; /* all but the last field has room */
@@ -257,7 +295,8 @@ static const char *try_closed(void) {
     struct kr *connection = connect_to(answer_some, 2000);
     if (kr_hello(connection, 0, 0, 0, NULL) != 1) return "refused";
     while (__atomic_load_n(&answers, __ATOMIC_SEQ_CST) != 0) usleep(1000);
-    return kr_get_id(connection, 1, -4, 0) < 0 ? strerrorname_np(errno) : "answered";
+    if (kr_get_id(connection, 1, -4, 0) >= 0) return "answered";
+    return kr_is_broken(connection) ? strerrorname_np(errno) : "goes on";
 }
 
 /* Whether a core file would have what is sent and received, or a child of fork(2): VmFlags of proc(5) say `dd`,
@@ -301,7 +340,8 @@ int main(int count, char **words) {
     } modes[] = { { "zero", try_zero }, { "signals", try_signals }, { "drip", try_drip }, { "half", try_half },
                   { "dump", try_dump }, { "no frame", try_no_frame }, { "empty", try_empty }, { "sent", try_sent },
                   { "read", try_read }, { "full", try_full }, { "closed", try_closed }, { "long", try_long },
-                  { "longest", try_longest }, { "note", try_note }, { "lost", try_lost } };
+                  { "longest", try_longest }, { "note", try_note }, { "lost", try_lost },
+                  { "ahead", try_ahead }, { "flood", try_flood }, { "gap", try_gap } };
     if (count != 3) return 2;
     path = words[1];
     signal(SIGALRM, on_alarm);

@@ -33,7 +33,7 @@ try_hostile() {
     while IFS=: read -r mode wanted; do
       # a sanitizer has memory of its own, which its allocator doesn't give back
       case $name:$mode in
-        hostile-*:half | hostile-*:lost | hostile-*:no\ frame | hostile-*:dump) continue ;;
+        hostile-*:half | hostile-*:lost | hostile-*:ahead | hostile-*:no\ frame | hostile-*:dump) continue ;;
         hostile-*:sent | hostile-*:read | hostile-*:full) continue ;;
       esac
       is "$name: $mode" "$wanted" "$("$dir/$name" "$dir/hostile.sock" "$mode")"
@@ -43,11 +43,14 @@ signals:ETIMEDOUT
 drip:ETIMEDOUT
 half:gone
 lost:gone
+ahead:gone
 no frame:gone
 sent:gone
 read:gone
 full:gone
 closed:ECONNRESET
+flood:EAGAIN
+gap:EPROTO
 longest:262140
 note:EPROTO
 dump:left out
