@@ -179,12 +179,13 @@ class Play:
             raise Difference(line, [self.linux.get(it, it) for it in there], [self.here.get(it, it) for it in mine])
 
     def notes(self, data, order, keys):
-        """Notes with keys for serials, but for those of keys that Linux keeps and that are gone here."""
+        """Notes with keys for serials, without removal records of keys that Linux keeps, or whose serial no line has
+        answered, so that nobody can tell."""
         if isinstance(data, str):
             return [] if data == "EAGAIN" else data
         found = [(kind, info, *[keys.get(it, "?" if it else 0) for it in those])
                  for kind, info, *those in records(data, order)]
-        return [it for it in found if not (it[0] == REMOVAL and it[2] in self.kept)]
+        return [it for it in found if it[0] != REMOVAL or it[2] not in self.kept | {"?"}]
 
     def control(self, word, words):
         """Contexts that come and go."""
@@ -214,10 +215,11 @@ class Play:
 
     def await_notes(self):
         """Waits for the removal records of watched keys, which come a little after these have gone."""
-        gone = {key for key in self.world.keys if key.gone and key.watched and key.number}
-        if self.has_notes and gone - self.buried - self.kept:
-            self.await_gone(gone)
+        gone = {key for key in self.world.keys if key.gone and key.watched} - self.buried - self.kept
+        if self.has_notes and gone:
+            self.await_gone({key for key in gone if key.number})
             self.kernel.collect()
+            self.buried |= gone - self.kept
 
     def await_gone(self, gone):
         """Waits until the kernel has let go these keys, or has kept them so long that something must hold them."""
