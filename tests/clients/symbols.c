@@ -1,5 +1,7 @@
 /* symbols: each symbol of libkeyutils.so.1 is there under its version, and each function is called once. */
 #define _GNU_SOURCE
+#include <malloc.h>
+
 #include "check.h"
 #include "keyutils/keyutils.h"
 
@@ -82,12 +84,21 @@ static void call_finders(void) {
           keyctl_unlink(other, KEY_SPEC_USER_SESSION_KEYRING) == 0);
 }
 
+/* As long as what the GNU C library has room for exactly, where it is asked for that. */
+static const char none_to_spare[2056];
+
 static void call_readers(void) {
     char buffer[64] = "untouched", *text = NULL;
     void *payload = NULL;
     check("keyctl_read", keyctl_read(key, buffer, sizeof buffer) == 2 && memcmp(buffer, "s3", 2) == 0);
     check("keyctl_read, an id of none", refused(keyctl_read(-99, buffer, sizeof buffer), ENOKEY));
     check("keyctl_read_alloc", keyctl_read_alloc(key, &payload) == 2 && strcmp(payload, "s3") == 0);
+    free(payload);
+    payload = NULL;
+    key_serial_t tight = add_key("user", "tight", none_to_spare, sizeof none_to_spare, KEY_SPEC_PROCESS_KEYRING);
+    check("keyctl_read_alloc, and a null byte behind it",
+          keyctl_read_alloc(tight, &payload) == sizeof none_to_spare &&
+              malloc_usable_size(payload) > sizeof none_to_spare);
     free(payload);
     strcpy(buffer, "untouched");
     long length = keyctl_describe(key, NULL, 0);
