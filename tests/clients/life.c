@@ -185,7 +185,8 @@ static bool closes_from(int first, key_serial_t key) {
     char buffer[8];
     for (int i = first; i <= STDERR_FILENO; i++) close(i);
     int before = inherited_sockets();
-    bool asks = keyctl_read(key, buffer, sizeof buffer) == 3;
+    bool asks = keyctl_read(key, buffer, sizeof buffer) == 3 &&
+                add_key("user", "kept", "x", 1, KEY_SPEC_PROCESS_KEYRING) > 0; /* with it the connection */
     for (int i = first; i <= STDERR_FILENO; i++) asks = asks && fcntl(i, F_GETFD) < 0;
     return asks && inherited_sockets() == before;
 }
