@@ -41,12 +41,20 @@ void sweep_from_now_on(struct process *process) {
     process->may_have_keyrings = true;
 }
 
+/* A worker that begins has it for a moment longer: until then epoll(7) wouldn't forget it by itself, and would tell of
+ * an entry that is freed. */
+static void close_told(int *descriptor) {
+    ERRNO_STAYS;
+    epoll_ctl(all.epoll, EPOLL_CTL_DEL, *descriptor, NULL);
+    close_one(descriptor);
+}
+
 void end_task(struct task *task) {
     TAKE_OUT(task->process->tasks, task);
     end_standings(task);
     session_let_go(task->session);
     if (task->descriptor >= 0) all.descriptors--;
-    close_one(&task->descriptor); /* epoll(7) forgets it */
+    close_told(&task->descriptor);
     explicit_bzero(task, sizeof *task);
     free(task);
 }
@@ -60,7 +68,7 @@ void end_process(struct process *process) {
     sessions_forget(process);
     sweep_no_more(process);
     close_one(&process->memory);
-    close_one(&process->descriptor);
+    close_told(&process->descriptor);
     all.descriptors -= OF_PROCESS;
     free(process);
 }

@@ -144,11 +144,17 @@ static void refuse_call(struct turn *turn, struct copies *copies, int error) {
     end_call(turn, copies, false);
 }
 
+/* Another one that begins has its socket for a moment longer, as in entries.c. */
+static void end_worker(struct turn *turn) {
+    epoll_ctl(all.epoll, EPOLL_CTL_DEL, turn->worker.socket, NULL);
+    worker_end(&turn->worker);
+}
+
 /* Where it doesn't end in time, what it waits for is the caller's alone: it is left, and none is there for this user as
  * long as it hasn't ended. */
 static void give_up_worker(struct turn *turn) {
     turn->given_up = turn->worker.process;
-    worker_end(&turn->worker);
+    end_worker(turn);
     if (turn->stage != WAITS) refuse_call(turn, NULL, EFAULT);
 }
 
@@ -205,11 +211,11 @@ static bool start_worker(struct turn *turn) {
     unsigned count = 0;
     for (const struct turn *at = all.turns; at; at = at->next) count += at->worker.process > 0 || at->given_up > 0;
     struct turn *other = count < WORKERS ? NULL : FIND(all.turns, at, is_idle(at));
-    if (other) worker_end(&other->worker);
+    if (other) end_worker(other);
     if ((count >= WORKERS && !other) || !worker_start(&turn->worker)) return false;
     struct epoll_event event = { .events = EPOLLIN, .data.ptr = turn };
     if (epoll_ctl(all.epoll, EPOLL_CTL_ADD, turn->worker.socket, &event) == 0) return true;
-    worker_end(&turn->worker);
+    end_worker(turn);
     return false;
 }
 
@@ -255,7 +261,7 @@ static bool is_due(const struct call *call) { return call->after <= tracees_swee
 
 static void serve_turn(struct turn *turn) {
     if (turn->stage != WAITS && kr_now() >= turn->deadline) give_up_worker(turn);
-    if (is_idle(turn) && kr_now() >= turn->deadline + IDLE_MILLISECONDS) worker_end(&turn->worker);
+    if (is_idle(turn) && kr_now() >= turn->deadline + IDLE_MILLISECONDS) end_worker(turn);
     const struct call *call = STAILQ_FIRST(&turn->calls);
     if (turn->stage == WAITS && call && is_due(call)) begin_call(turn, call);
 }

@@ -324,6 +324,7 @@ try_turns() {
   prints "200 that join a session each time" few "$dir/tree" beside 200 join
   try_asks
   try_calls_of_reads
+  try_slow_workers
   try_page
 }
 
@@ -353,6 +354,16 @@ try_asks() {
   asks=$(grep -c 'sendto(.*, MSG_NOSIGNAL' "$dir/asks")
   is 'asks for 160 calls, some of which find no room' 'five for each at most' \
     "$([ "$asks" -gt 100 ] && [ "$asks" -le 800 ] && echo 'five for each at most' || echo "$asks")"
+}
+
+# A worker has the supervisor's descriptors until it has closed them: by strace(1) that takes longer. What ends then is
+# told of no more.
+try_slow_workers() {
+  { [ "$(id -u)" = 0 ] && command -v strace >/dev/null; } ||
+    { skipped 'workers that begin slowly: not root, or no strace(1)'; return; }
+  is "a user's key beside 20 identities that end, while workers begin slowly" kept "$(timeout "$limit" strace -f -qq \
+    -o /dev/null -e trace=close_range -e inject=close_range:delay_enter=300000 "$dir/now/keyretain-session" --syscalls \
+    -- "$dir/tree" flood 20 2>&1)"
 }
 
 # A page of a file whose server doesn't answer: its user's call fails a second later, and others are answered meanwhile.
