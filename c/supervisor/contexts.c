@@ -15,7 +15,7 @@ enum { CALL_MILLISECONDS = KEYRETAIN_CALL_MILLISECONDS, OPENING_MILLISECONDS = 1
 
 /* So many contexts of identities, and with sessions so many that last, may be on one connection: the rest is for
  * processes that ask. All wait while a further connection is opened, so one that fails isn't tried again at once. */
-enum { IDENTITIES = 24, LASTING = 60, FURTHER_MILLISECONDS = 1000, PAUSE_MILLISECONDS = 10000 };
+enum { IDENTITIES = 24, LASTING = 60, FURTHER_MILLISECONDS = 500, PAUSE_MILLISECONDS = 10000 };
 
 /* Nobody else reads its name, and revokes or invalidates it, but for the time of one ask. */
 enum { MASK_OF_MARK = 0x3f000000 };
@@ -91,6 +91,14 @@ static struct line *open_line(int milliseconds) {
     return all.lines = line;
 }
 
+/* A further one. Where none was had, and the daemon has answered on another one since, it is tried once more: it may
+ * have been slow, and have a lane. */
+static struct line *open_further(void) {
+    struct line *line = open_line(FURTHER_MILLISECONDS);
+    const struct line *before = line ? NULL : FIND(all.lines, at, !kr_is_broken(at->connection));
+    return before && set_mark(before, MASK_OF_MARK) ? open_line(FURTHER_MILLISECONDS) : line;
+}
+
 int contexts_begin(const char *path, const struct kr_identity *identity, bool (*make_room)(unsigned age),
                    bool (*give_up_keys)(void)) {
     all.identity = *identity;
@@ -164,7 +172,7 @@ bool contexts_renew(void) {
 /* One that fails isn't tried again at once, as all wait meanwhile. */
 struct kr *contexts_open_apart(void) {
     bool may_try = contexts_have_daemon() && kr_now() >= all.next_apart;
-    struct line *line = may_try ? open_line(FURTHER_MILLISECONDS) : NULL;
+    struct line *line = may_try ? open_further() : NULL;
     if (may_try && !line) all.next_apart = kr_now() + PAUSE_MILLISECONDS;
     if (!line) return NULL;
     struct kr *connection = line->connection;
@@ -212,7 +220,7 @@ static int take(struct context *made, struct line *line, int64_t number, bool la
 }
 
 static int hello_on_further(struct context *made, const struct kr_identity *identity) {
-    struct line *line = kr_now() < all.next_further ? NULL : open_line(FURTHER_MILLISECONDS);
+    struct line *line = kr_now() < all.next_further ? NULL : open_further();
     int64_t number = line ? kr_hello_as(line->connection, identity) : -1;
     if (number < 0) {
         if (line) close_line(line);
