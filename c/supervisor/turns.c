@@ -13,6 +13,7 @@ struct call {
     struct seccomp_notif notification;
     int listener; /* -1 where it has gone */
     struct sender sender;
+    unsigned step;  /* at which it was received */
     unsigned after; /* not before so many sweeps have ended */
     STAILQ_ENTRY(call) entry;
 };
@@ -38,6 +39,7 @@ static struct {
     uid_t own;
     struct copies *copies;   /* of calls of the supervisor's own uid */
     const struct call *call; /* that is served */
+    unsigned steps;          /* calls that were received, and turns of them */
     union {
         struct seccomp_notif notification;
         char notification_room[ROOM];
@@ -104,6 +106,7 @@ bool turns_take(int listener) {
     memset(all.notification_room, 0, ROOM);
     if (ioctl(listener, SECCOMP_IOCTL_NOTIF_RECV, &all.notification) < 0) return false;
     call.notification = all.notification;
+    call.step = ++all.steps;
     bool is_seen = call.notification.pid != 0 && sender_read(&call.sender, (pid_t)call.notification.pid);
     if (!is_seen || !add_call(&call)) reply(&call, -1, is_seen ? ENOMEM : ENOSYS);
     return true;
@@ -181,11 +184,15 @@ static bool is_put_off(struct call *call, long result, int error) {
     return is_first;
 }
 
+/* Whose call has waited may have gone, as where another of its threads executes something. What then has its number
+ * isn't looked at: by a file that execve(2) closes it may hold up whoever does. */
 static void carry_out(struct turn *turn, struct copies *copies) {
     struct call *call = STAILQ_FIRST(&turn->calls);
     const struct seccomp_data *data = &call->notification.data;
     uint64_t sum;
+    bool has_waited = call->step != all.steps++ || turn->stage != WAITS;
     all.call = call;
+    if (has_waited && !is_valid()) return end_call(turn, copies, false);
     if (!tracees_enter(&call->sender, copies->row, copies->given, is_valid)) return refuse_call(turn, copies, ENOSYS);
     long result = call_carry_out(copies, data, &sum);
     int error = errno;
