@@ -66,7 +66,8 @@ def try_too_many():
     check_soon('descriptors', lambda: descriptors(run) <= descriptors_at_rest(run) + 2, True)
     run.end()
     told = [re.sub(r'pid \d+', 'pid N', line) for line in open(run.errors.name)]
-    check('what is told of them', set(told), {f'refused: uid {UID} (pid N) has 1 of 64 places\n'})
+    check('what is told of them', set(told), {f'refused: uid {UID} (pid N) has 1 of 64 places\n',
+                                              'ends, and the sessions of 1 connections with it\n'})
 
 
 def try_untaken():
